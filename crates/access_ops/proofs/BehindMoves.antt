@@ -5,7 +5,7 @@ use Rattle.access_ops.specs.declared.OpList.{OpList}
 use Rattle.access_ops.specs.declared.op_next.OpNext.{OpNext}
 use Rattle.access_ops.specs.declared.op_next.OpNext.TheVariants.{Send, Result, End}
 use Rattle.access_ops.specs.declared.op_next.OpResult.TheVariants as results
-use Rattle.access_ops.specs.Operations.{Dialogue, sends, tells, done, denials, operations_from_rn16, is_for, dialogue_of, first_of, Move, answered, told, reception_in, dialogue_behind, dialogue_after, next_operation, Follows, AreMoves}
+use Rattle.access_ops.specs.Operations.{Dialogue, sends, tells, done, denials, operations_from_rn16, is_for, dialogue_of, first_of, Move, answered, told, reception_in, dialogue_behind, dialogue_after, next_operation, IsMoveFor, AreMoves}
 use Rattle.access_ops.specs.laws.OperationLaws.{commands_in, results_in, commands_sent, results_told}
 use Rattle.access_ops.specs.laws.Running.{Runs, commands_of, operations_from_rn16-runs}
 
@@ -47,7 +47,7 @@ split-within list epc rn moves rest s = omega (arith, ap (λ (os : List Op). len
 -- one move
 module _ (list : OpList) (epc : List ℕ) (rn : ℕ) (moves : List Move) where
   running-more : (move : Move) (left : ℕ) (rest : List Op) (dialogue : Dialogue) → dialogue_after list epc rn moves ≡ dialogue
-      → Runs left rest dialogue → Follows (first_of dialogue) move → IsSplit list epc rn moves rest → left + commands_sent list epc rn moves ≡ suc (commands_of list.ops)
+      → Runs left rest dialogue → IsMoveFor (first_of dialogue) move → IsSplit list epc rn moves rest → left + commands_sent list epc rn moves ≡ suc (commands_of list.ops)
       → IsRunning list epc rn (move ∷ moves) ⊎ IsOver list epc rn (move ∷ moves)
   running-more move zero rest (sends command expect extended go_on) is runs follows split few = absurd runs
   running-more (answered answer) (suc left) rest (sends command expect extended go_on) is runs follows split few =
@@ -134,7 +134,7 @@ pub record IsDenying (list : OpList) (epc : List ℕ) (rn : ℕ) (moves : List M
 
 module _ (list : OpList) (epc : List ℕ) (rn : ℕ) (moves : List Move) where
   denying-more : (move : Move) (rest : List Op) → dialogue_after list epc rn moves ≡ denials rest
-      → Follows (first_of (denials rest)) move → IsSplit list epc rn moves rest → commands_sent list epc rn moves ≡ 0 → IsDenying list epc rn (move ∷ moves)
+      → IsMoveFor (first_of (denials rest)) move → IsSplit list epc rn moves rest → commands_sent list epc rn moves ≡ 0 → IsDenying list epc rn (move ∷ moves)
   denying-more (answered answer) [] is follows split none = absurd follows
   denying-more told [] is follows split none =
       let next : next_operation list epc rn moves ≡ End = ap first_of is in
@@ -163,4 +163,4 @@ denying list epc rn [] other are = record {
 }
 denying list epc rn (move ∷ moves) other are =
     let d = denying list epc rn moves other are.1 in
-    denying-more list epc rn moves move d.rest d.denies (subst (λ (n : OpNext). Follows n move) (ap first_of d.denies) are.0) d.split d.none
+    denying-more list epc rn moves move d.rest d.denies (subst (λ (n : OpNext). IsMoveFor n move) (ap first_of d.denies) are.0) d.split d.none

@@ -18,7 +18,7 @@ use Rattle.access_ops.specs.declared.OpList.{OpList}
 use Rattle.access_ops.specs.declared.op_next.Answer.{Answer}
 use Rattle.access_ops.specs.declared.op_next.Answer.TheVariants.{Silence, Got}
 use Rattle.access_ops.specs.declared.op_next.OpNext.TheVariants.{Send}
-use Rattle.access_ops.specs.Operations.{reception_in, Dialogue, sends, tells, done, behind_reception, behind_last, last_command, behind_number, with_number, words_expected, upper_half, lower_half, send_halves, operation, operations, denials, operations_from_rn16, is_for, dialogue_of, first_of, Move, answered, told, dialogue_behind, dialogue_after, next_operation, IsAnswerFor, Follows, AreMoves}
+use Rattle.access_ops.specs.Operations.{reception_in, Dialogue, sends, tells, done, behind_reception, behind_last, last_command, behind_number, with_number, words_expected, upper_half, lower_half, send_halves, operation, operations, denials, operations_from_rn16, is_for, dialogue_of, first_of, Move, answered, told, dialogue_behind, dialogue_after, next_operation, IsAnswerFor, IsMoveFor, AreMoves}
 use Rattle.access_ops.specs.laws.OperationLaws.{IsLegalOp}
 use Rattle.access_ops.proofs.BehindMoves.{operations_from_rn16-is, denials-are}
 
@@ -96,7 +96,7 @@ legal-dialogue : (list : OpList) (epc : List ℕ) (rn : ℕ) (for : Bool) → is
 legal-dialogue list epc rn true for legal word = subst IsLegalDialogue (sym (operations_from_rn16-is list epc rn for)) (legal-operations_from_rn16 list.ops rn legal word)
 legal-dialogue list epc rn false other legal word = subst IsLegalDialogue (sym (denials-are list epc rn other)) (legal-denials list.ops)
 
-legal-behind : (dialogue : Dialogue) (move : Move) → IsLegalDialogue dialogue → Follows (first_of dialogue) move → IsLegalDialogue (dialogue_behind move dialogue)
+legal-behind : (dialogue : Dialogue) (move : Move) → IsLegalDialogue dialogue → IsMoveFor (first_of dialogue) move → IsLegalDialogue (dialogue_behind move dialogue)
 legal-behind (sends command expect extended go_on) (answered answer) legal follows = legal.1 answer follows
 legal-behind (sends command expect extended go_on) told legal follows = absurd follows
 legal-behind (tells result later) (answered answer) legal follows = absurd follows

@@ -19,12 +19,12 @@ use Rattle.access_ops.specs.declared.stage.Purpose.TheVariants.{Handle, Cover}
 use Rattle.access_ops.specs.declared.stage.Password.TheVariants.{Access, Kill}
 use Rattle.access_ops.specs.declared.stage.Stage.{Stage}
 use Rattle.access_ops.specs.declared.stage.Stage.TheVariants.{Deny, Number}
-use Rattle.access_ops.specs.Operations.{Dialogue, sends, tells, behind_reception, behind_number, operation, operations, denials, operations_from_rn16, first_of, Move, answered, told, reception_in, dialogue_behind, dialogue_after, next_operation, Follows}
+use Rattle.access_ops.specs.Operations.{Dialogue, sends, tells, behind_reception, behind_number, operation, operations, denials, operations_from_rn16, first_of, Move, answered, told, reception_in, dialogue_behind, dialogue_after, next_operation, IsMoveFor}
 use Rattle.access_ops.specs.OpRunValue.{OpRunValue, later_of, dialogue_at, dialogue_with, answer_in, last_answer, Does, OpRunStandsFor, IsNextOperation}
 
 -- a command: the run goes on by the answer
 sent-rest : (command : Command) (expect : Expect) (extended : Bool) (go_on : Reception → Dialogue) (list : OpList) (run : OpRunValue)
-    → ((answer : Answer) → go_on (reception_in answer) ≡ dialogue_with list run (Some answer)) → (move : Move) → Follows (Send command expect extended) move
+    → ((answer : Answer) → go_on (reception_in answer) ≡ dialogue_with list run (Some answer)) → (move : Move) → IsMoveFor (Send command expect extended) move
     → dialogue_behind move (sends command expect extended go_on) ≡ dialogue_with list run (answer_in move)
 sent-rest command expect extended go_on list run same (answered answer) follows = same answer
 sent-rest command expect extended go_on list run same told follows = absurd follows
@@ -34,7 +34,7 @@ pub does-send : (command : Command) (expect : Expect) (extended : Bool) (go_on :
 does-send command expect extended go_on list run same = record { first = refl; rest = sent-rest command expect extended go_on list run same }
 
 -- a result: the run goes on without one
-told-rest : (result : OpResult) (later : Dialogue) (list : OpList) (run : OpRunValue) → later ≡ dialogue_with list run None → (move : Move) → Follows (Result result) move
+told-rest : (result : OpResult) (later : Dialogue) (list : OpList) (run : OpRunValue) → later ≡ dialogue_with list run None → (move : Move) → IsMoveFor (Result result) move
     → dialogue_behind move (tells result later) ≡ dialogue_with list run (answer_in move)
 told-rest result later list run same (answered answer) follows = absurd follows
 told-rest result later list run same told follows = same
@@ -87,7 +87,7 @@ module _ (said : OpNext) (run : OpRunValue) (new : OpRunValue) where
       record {
         next = next;
         stands = λ move follows. record {
-          moves_are = (subst (λ (n : OpNext). Follows n move) next follows, s.moves_are);
+          moves_are = (subst (λ (n : OpNext). IsMoveFor n move) next follows, s.moves_are);
           dialogue = ap (λ (d : Dialogue). dialogue_behind move d) is ∙ does.rest move follows;
         };
       }

@@ -20,7 +20,7 @@ use Rattle.access_ops.specs.declared.stage.Password.{Password}
 use Rattle.access_ops.specs.declared.stage.Password.TheVariants.{Access, Kill}
 use Rattle.access_ops.specs.declared.stage.Stage.{Stage}
 use Rattle.access_ops.specs.declared.stage.Stage.TheVariants.{Open, Deny, Begin, Number, Last, Done}
-use Rattle.access_ops.specs.Operations.{Dialogue, sends, tells, done, behind_reception, behind_last, last_command, behind_number, upper_half, lower_half, send_lower, operations, denials, operations_from_rn16, first_of, Move, answered, told, reception_in, dialogue_behind, dialogue_after, next_operation, Follows, AreMoves}
+use Rattle.access_ops.specs.Operations.{Dialogue, sends, tells, done, behind_reception, behind_last, last_command, behind_number, upper_half, lower_half, send_lower, operations, denials, operations_from_rn16, first_of, Move, answered, told, reception_in, dialogue_behind, dialogue_after, next_operation, IsMoveFor, AreMoves}
 
 -- what a contract sees of a run of operations
 pub record OpRunValue : Type 0 where
@@ -105,7 +105,7 @@ last_answer (move ∷ moves) = answer_in move
 -- This is what is done first, and the run does what is left.
 pub record Does (said : OpNext) (run : OpRunValue) (list : OpList) (dialogue : Dialogue) : Type 0 where
   pub first : said ≡ first_of dialogue
-  pub rest : (move : Move) → Follows said move → dialogue_behind move dialogue ≡ dialogue_with list run (answer_in move)
+  pub rest : (move : Move) → IsMoveFor said move → dialogue_behind move dialogue ≡ dialogue_with list run (answer_in move)
 
 -- the run does these operations with the tag of this EPC and RN16, and has come behind these moves
 pub record OpRunStandsFor (run : OpRunValue) (list : OpList) (epc : List ℕ) (rn : ℕ) (moves : List Move) : Type 0 where
@@ -115,7 +115,7 @@ pub record OpRunStandsFor (run : OpRunValue) (list : OpList) (epc : List ℕ) (r
 -- this comes next, and behind each move that may follow it the run has come one move further
 pub record IsNextOperation (said : OpNext) (run : OpRunValue) (list : OpList) (epc : List ℕ) (rn : ℕ) (moves : List Move) : Type 0 where
   pub next : said ≡ next_operation list epc rn moves
-  pub stands : (move : Move) → Follows said move → OpRunStandsFor run list epc rn (move ∷ moves)
+  pub stands : (move : Move) → IsMoveFor said move → OpRunStandsFor run list epc rn (move ∷ moves)
 
 -- how many commands and results are left at most of an operation
 abbrev pub turns_at : Stage → ℕ

@@ -149,15 +149,15 @@ IsAnswerFor expect (Got (Refused place)) = Unit {0}
 IsAnswerFor expect (Got (Whole reply)) = Suits reply expect × IsReply reply
 
 -- what may come behind a thing that was done: an answer exactly behind a command
-abbrev pub Follows : OpNext → Move → Type 0
-Follows (Send command expect extended) (answered answer) = IsAnswerFor expect answer
-Follows (Send command expect extended) told = ⊥
-Follows (Result result) (answered answer) = ⊥
-Follows (Result result) told = Unit {0}
-Follows End (answered answer) = ⊥
-Follows End told = Unit {0}
+abbrev pub IsMoveFor : OpNext → Move → Type 0
+IsMoveFor (Send command expect extended) (answered answer) = IsAnswerFor expect answer
+IsMoveFor (Send command expect extended) told = ⊥
+IsMoveFor (Result result) (answered answer) = ⊥
+IsMoveFor (Result result) told = Unit {0}
+IsMoveFor End (answered answer) = ⊥
+IsMoveFor End told = Unit {0}
 
 -- each of the moves, the latest first, may come where it came
 abbrev pub AreMoves : OpList → List ℕ → ℕ → List Move → Type 0
 AreMoves list epc rn [] = Unit {0}
-AreMoves list epc rn (move ∷ moves) = Follows (next_operation list epc rn moves) move × AreMoves list epc rn moves
+AreMoves list epc rn (move ∷ moves) = IsMoveFor (next_operation list epc rn moves) move × AreMoves list epc rn moves

@@ -4,15 +4,14 @@ ghost use Rattle.std.specs.Prelude.{◌≡◌};
 use command_grammar::BlockWords;
 use reply_grammar::ReadWords;
 
-/// A copy of the words of a Read.
-pub(crate) fn copy_of_words(words: &ReadWords) -> ReadWords
-    ensures { result ≡ words.now }
+/// Puts the words of a Read in place of others.
+pub(crate) fn copy_words(words: &ReadWords, copy: &mut ReadWords)
+    ensures { copy.new ≡ words.now }
 {
-    let mut copy = ReadWords::new();
+    copy.clear();
     for word in words.as_slice() {
         copy.push_reserved(*word);
     }
-    copy
 }
 
 /// A copy of the words of a BlockWrite.

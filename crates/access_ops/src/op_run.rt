@@ -4,7 +4,7 @@ ghost use Rattle.access_ops.specs.Operations.{Move, behind_last, behind_number, 
 ghost use Rattle.access_ops.specs.OpRunValue.{Does, IsNextOperation, OpRunStandsFor, behind_cover, behind_heard, behind_purpose, last_answer, later_of, result_in_reply, turns_at, turns_in, turns_left};
 ghost use Rattle.access_ops.specs.declared.OpList.{OpList};
 
-use crate::answers::result_in_reply;
+use crate::answers::tell_reply;
 use crate::copies::copy_of_block;
 use crate::op_next::{Answer, OpNext, OpResult};
 use crate::stage::{Covered, Password, Purpose, Stage};
@@ -48,64 +48,65 @@ impl OpRun {
         }
     }
 
-    /// What comes next. The list is the same each time. An answer is given exactly behind a command; a
-    /// whole reply in it is one that the command expects.
-    pub fn next(&mut self, list: &OpList, answer: Option<&Answer>) -> OpNext
+    /// Puts what comes next in place of what came before. The list is the same each time. An answer is given
+    /// exactly behind a command; a whole reply in it is one that the command expects. What comes next has room for
+    /// the longest list of words, and is never copied.
+    pub fn next_to(&mut self, list: &OpList, answer: Option<&Answer>, next: &mut OpNext)
         ensures next { (epc : List ℕ) (rn : ℕ) (moves : List Move) → OpRunStandsFor self.old list.now epc rn moves → option_copied answer.entry ≡ last_answer moves
-            → IsNextOperation result self.new list.now epc rn moves }
-        ensures turns { turns_left list.now self.new + turns_in result ≤ turns_left list.now self.old }
+            → IsNextOperation next.new self.new list.now epc rn moves }
+        ensures turns { turns_left list.now self.new + turns_in next.new ≤ turns_left list.now self.old }
     {
         match self.stage {
-            Stage::Open => self.open(list),
-            Stage::Deny => self.deny(list),
-            Stage::Begin => self.begin(list),
-            Stage::Number(purpose) => self.take_number(list, purpose, answer),
-            Stage::Last => self.end_operation(answer),
-            Stage::Done => OpNext::End,
+            Stage::Open => self.open(list, next),
+            Stage::Deny => self.deny(list, next),
+            Stage::Begin => self.begin(list, next),
+            Stage::Number(purpose) => self.take_number(list, purpose, answer, next),
+            Stage::Last => self.end_operation(answer, next),
+            Stage::Done => *next = OpNext::End,
         }
     }
 
     /// Asks the tag for its handle, where there is an operation.
-    fn open(&mut self, list: &OpList) -> OpNext
-        ensures does { Does result self.new list.now (operations_from_rn16 (drop self.old.begun list.now.ops) self.old.rn) }
-        ensures turns { turns_left list.now self.new + turns_in result ≤ 2 + 5 * (length list.now.ops - self.old.begun) }
+    fn open(&mut self, list: &OpList, next: &mut OpNext)
+        ensures does { Does next.new self.new list.now (operations_from_rn16 (drop self.old.begun list.now.ops) self.old.rn) }
+        ensures turns { turns_left list.now self.new + turns_in next.new ≤ 2 + 5 * (length list.now.ops - self.old.begun) }
     {
         if self.begun >= list.ops.len() {
-            return self.end();
+            return self.end(next);
         }
-        self.ask_for_number(Purpose::Handle)
+        self.ask_for_number(Purpose::Handle, next)
     }
 
     /// Denies the next operation, where there is one.
-    fn deny(&mut self, list: &OpList) -> OpNext
+    fn deny(&mut self, list: &OpList, next: &mut OpNext)
         requires { self.old.stage ≡ Stage.Deny }
-        ensures does { Does result self.new list.now (denials (drop self.old.begun list.now.ops)) }
-        ensures turns { turns_left list.now self.new + turns_in result ≤ 5 * (length list.now.ops - self.old.begun) }
+        ensures does { Does next.new self.new list.now (denials (drop self.old.begun list.now.ops)) }
+        ensures turns { turns_left list.now self.new + turns_in next.new ≤ 5 * (length list.now.ops - self.old.begun) }
     {
         if self.begun >= list.ops.len() {
-            return self.end();
+            return self.end(next);
         }
         self.begun += 1;
-        OpNext::Result(OpResult::Denied)
+        *next = OpNext::Result(OpResult::Denied);
     }
 
     /// Begins the next operation, where there is one.
-    fn begin(&mut self, list: &OpList) -> OpNext
-        ensures does { Does result self.new list.now (later_of list.now self.old) }
-        ensures turns { turns_left list.now self.new + turns_in result ≤ 5 * (length list.now.ops - self.old.begun) }
+    fn begin(&mut self, list: &OpList, next: &mut OpNext)
+        ensures does { Does next.new self.new list.now (later_of list.now self.old) }
+        ensures turns { turns_left list.now self.new + turns_in next.new ≤ 5 * (length list.now.ops - self.old.begun) }
     {
         let Some(op) = list.ops.as_slice().get(self.begun as usize) else {
-            return self.end();
+            return self.end(next);
         };
         self.begun += 1;
-        self.begin_operation(op)
+        self.begin_operation(op, next)
     }
 
     /// Sends the first command of an operation.
-    fn begin_operation(&mut self, op: &Op) -> OpNext
-        ensures does { (list : OpList) → Does result self.new list (operation op.now self.old.rn (later_of list self.old)) }
+    fn begin_operation(&mut self, op: &Op, next: &mut OpNext)
+        ensures does { (list : OpList) → Does next.new self.new list (operation op.now self.old.rn (later_of list self.old)) }
         ensures begun { self.new.begun ≡ self.old.begun }
-        ensures turns { turns_at self.new.stage + turns_in result ≤ 5 }
+        ensures turns { turns_at self.new.stage + turns_in next.new ≤ 5 }
     {
         let handle = self.rn;
         match op {
@@ -120,7 +121,7 @@ impl OpRun {
                     count: *count,
                     rn: handle,
                 };
-                self.send_last(command, expected_words(*count, handle), false)
+                self.send_last(command, expected_words(*count, handle), false, next)
             }
             Op::Write {
                 bank,
@@ -132,7 +133,7 @@ impl OpRun {
                     pointer: *pointer,
                     word: *word,
                 };
-                self.ask_for_number(Purpose::Cover(covered))
+                self.ask_for_number(Purpose::Cover(covered), next)
             }
             Op::BlockWrite {
                 bank,
@@ -145,7 +146,7 @@ impl OpRun {
                     words: copy_of_block(words),
                     rn: handle,
                 };
-                self.send_last(command, Expect::Header(handle), true)
+                self.send_last(command, Expect::Header(handle), true, next)
             }
             Op::BlockErase {
                 bank,
@@ -158,62 +159,68 @@ impl OpRun {
                     count: *count,
                     rn: handle,
                 };
-                self.send_last(command, Expect::Header(handle), true)
+                self.send_last(command, Expect::Header(handle), true, next)
             }
             Op::Lock { payload } => {
                 let command = Command::Lock {
                     payload: *payload,
                     rn: handle,
                 };
-                self.send_last(command, Expect::Header(handle), true)
+                self.send_last(command, Expect::Header(handle), true, next)
             }
             Op::Access { password } => {
                 let covered = Covered::Upper(Password::Access(*password));
-                self.ask_for_number(Purpose::Cover(covered))
+                self.ask_for_number(Purpose::Cover(covered), next)
             }
             Op::Kill { password } => {
                 let covered = Covered::Upper(Password::Kill(*password));
-                self.ask_for_number(Purpose::Cover(covered))
+                self.ask_for_number(Purpose::Cover(covered), next)
             }
         }
     }
 
     /// Goes on with the answer to a Req_RN or to the upper half of a password.
-    fn take_number(&mut self, list: &OpList, purpose: Purpose, answer: Option<&Answer>) -> OpNext
-        ensures does { Does result self.new list.now (behind_heard (behind_number (behind_purpose purpose list.now self.old)) (option_copied answer.entry)) }
-        ensures turns { turns_left list.now self.new + turns_in result ≤ turns_at (Stage.Number purpose) + 5 * (length list.now.ops - self.old.begun) }
+    fn take_number(
+        &mut self,
+        list: &OpList,
+        purpose: Purpose,
+        answer: Option<&Answer>,
+        next: &mut OpNext,
+    )
+        ensures does { Does next.new self.new list.now (behind_heard (behind_number (behind_purpose purpose list.now self.old)) (option_copied answer.entry)) }
+        ensures turns { turns_left list.now self.new + turns_in next.new ≤ turns_at (Stage.Number purpose) + 5 * (length list.now.ops - self.old.begun) }
     {
         match answer {
             Some(Answer::Got(Received::Whole(Reply::Handle(number)))) => {
-                self.go_on(list, purpose, *number)
+                self.go_on(list, purpose, *number, next)
             }
-            Some(Answer::Got(_)) => self.end_broken(),
-            Some(Answer::Silence) | None => self.end_silent(),
+            Some(Answer::Got(_)) => self.end_broken(next),
+            Some(Answer::Silence) | None => self.end_silent(next),
         }
     }
 
     /// Goes on with a number that the tag was asked for.
-    fn go_on(&mut self, list: &OpList, purpose: Purpose, number: u16) -> OpNext
-        ensures does { Does result self.new list.now (behind_purpose purpose list.now self.old number) }
-        ensures turns { turns_left list.now self.new + turns_in result ≤ turns_at (Stage.Number purpose) + 5 * (length list.now.ops - self.old.begun) }
+    fn go_on(&mut self, list: &OpList, purpose: Purpose, number: u16, next: &mut OpNext)
+        ensures does { Does next.new self.new list.now (behind_purpose purpose list.now self.old number) }
+        ensures turns { turns_left list.now self.new + turns_in next.new ≤ turns_at (Stage.Number purpose) + 5 * (length list.now.ops - self.old.begun) }
     {
         match purpose {
             Purpose::Handle => {
                 self.rn = number;
-                self.begin(list)
+                self.begin(list, next)
             }
-            Purpose::Cover(covered) => self.send_covered(covered, number),
+            Purpose::Cover(covered) => self.send_covered(covered, number, next),
             Purpose::Same(password) => {
-                self.ask_for_number(Purpose::Cover(Covered::Lower(password)))
+                self.ask_for_number(Purpose::Cover(Covered::Lower(password)), next)
             }
         }
     }
 
     /// Sends what goes under this cover.
-    fn send_covered(&mut self, covered: Covered, cover: u16) -> OpNext
-        ensures does { (list : OpList) → Does result self.new list (behind_cover covered self.old.rn (later_of list self.old) cover) }
+    fn send_covered(&mut self, covered: Covered, cover: u16, next: &mut OpNext)
+        ensures does { (list : OpList) → Does next.new self.new list (behind_cover covered self.old.rn (later_of list self.old) cover) }
         ensures begun { self.new.begun ≡ self.old.begun }
-        ensures turns { turns_at self.new.stage + turns_in result ≤ turns_at (Stage.Number (Purpose.Cover covered)) }
+        ensures turns { turns_at self.new.stage + turns_in next.new ≤ turns_at (Stage.Number (Purpose.Cover covered)) }
     {
         let handle = self.rn;
         match covered {
@@ -228,16 +235,16 @@ impl OpRun {
                     covered: xor16(word, cover),
                     rn: handle,
                 };
-                self.send_last(command, Expect::Header(handle), true)
+                self.send_last(command, Expect::Header(handle), true, next)
             }
             Covered::Upper(password) => {
                 let command = password.command(xor16(password.upper(), cover), handle);
                 self.stage = Stage::Number(Purpose::Same(password));
-                OpNext::Send {
+                *next = OpNext::Send {
                     command,
                     expect: Expect::Same(handle),
                     extended: false,
-                }
+                };
             }
             Covered::Lower(password) => {
                 let command = password.command(xor16(password.lower(), cover), handle);
@@ -245,84 +252,86 @@ impl OpRun {
                     command,
                     password.lower_expected(handle),
                     password.lower_extended(),
+                    next,
                 )
             }
         }
     }
 
     /// Asks the tag for a number (6.3.2.11.3.1 Req_RN).
-    fn ask_for_number(&mut self, purpose: Purpose) -> OpNext
+    fn ask_for_number(&mut self, purpose: Purpose, next: &mut OpNext)
         ensures run { self.new ≡ record self.old { stage = Stage.Number purpose } }
-        ensures send { result ≡ OpNext.Send (Command.ReqRn self.old.rn) Expect.Handle false }
+        ensures send { next.new ≡ OpNext.Send (Command.ReqRn self.old.rn) Expect.Handle false }
     {
         self.stage = Stage::Number(purpose);
-        OpNext::Send {
+        *next = OpNext::Send {
             command: Command::ReqRn { rn: self.rn },
             expect: Expect::Handle,
             extended: false,
-        }
+        };
     }
 
     /// Sends the command that ends an operation.
-    fn send_last(&mut self, command: Command, expect: Expect, extended: bool) -> OpNext
+    #[inline(always)]
+    fn send_last(&mut self, command: Command, expect: Expect, extended: bool, next: &mut OpNext)
         ensures run { self.new ≡ record self.old { stage = Stage.Last } }
-        ensures send { result ≡ OpNext.Send command expect extended }
+        ensures send { next.new ≡ OpNext.Send command expect extended }
     {
         self.stage = Stage::Last;
-        OpNext::Send {
+        *next = OpNext::Send {
             command,
             expect,
             extended,
-        }
+        };
     }
 
     /// Ends an operation with what was heard of its last command.
-    fn end_operation(&mut self, answer: Option<&Answer>) -> OpNext
-        ensures does { (list : OpList) → Does result self.new list (behind_heard (behind_last (later_of list self.old)) (option_copied answer.entry)) }
+    fn end_operation(&mut self, answer: Option<&Answer>, next: &mut OpNext)
+        ensures does { (list : OpList) → Does next.new self.new list (behind_heard (behind_last (later_of list self.old)) (option_copied answer.entry)) }
         ensures begun { self.new.begun ≡ self.old.begun }
-        ensures turns { turns_at self.new.stage + turns_in result ≤ 1 }
+        ensures turns { turns_at self.new.stage + turns_in next.new ≤ 1 }
     {
         match answer {
-            None | Some(Answer::Silence) => self.end_silent(),
-            Some(Answer::Got(Received::Refused(_))) => self.end_broken(),
-            Some(Answer::Got(Received::Whole(reply))) => self.end_with(reply),
+            None | Some(Answer::Silence) => self.end_silent(next),
+            Some(Answer::Got(Received::Refused(_))) => self.end_broken(next),
+            Some(Answer::Got(Received::Whole(reply))) => self.end_with(reply, next),
         }
     }
 
     /// Ends an operation with the reply to its last command.
-    fn end_with(&mut self, reply: &Reply) -> OpNext
+    fn end_with(&mut self, reply: &Reply, next: &mut OpNext)
         ensures run { self.new ≡ record self.old { stage = Stage.Begin } }
-        ensures next { result ≡ OpNext.Result (result_in_reply reply.now) }
+        ensures next { next.new ≡ OpNext.Result (result_in_reply reply.now) }
     {
         self.stage = Stage::Begin;
-        OpNext::Result(result_in_reply(reply))
+        tell_reply(reply, next)
     }
 
     /// Ends the run where no reply came.
-    fn end_silent(&mut self) -> OpNext
+    fn end_silent(&mut self, next: &mut OpNext)
         ensures run { self.new ≡ record self.old { stage = Stage.Done } }
-        ensures next { result ≡ OpNext.Result OpResult.Silent }
+        ensures next { next.new ≡ OpNext.Result OpResult.Silent }
     {
         self.stage = Stage::Done;
-        OpNext::Result(OpResult::Silent)
+        *next = OpNext::Result(OpResult::Silent);
     }
 
     /// Ends the run where another reply came than one that is expected.
-    fn end_broken(&mut self) -> OpNext
+    fn end_broken(&mut self, next: &mut OpNext)
         ensures run { self.new ≡ record self.old { stage = Stage.Done } }
-        ensures next { result ≡ OpNext.Result OpResult.Broken }
+        ensures next { next.new ≡ OpNext.Result OpResult.Broken }
     {
         self.stage = Stage::Done;
-        OpNext::Result(OpResult::Broken)
+        *next = OpNext::Result(OpResult::Broken);
     }
 
     /// Ends the run.
-    fn end(&mut self) -> OpNext
+    fn end(&mut self, next: &mut OpNext)
         ensures run { self.new ≡ record self.old { stage = Stage.Done } }
-        ensures next { result ≡ OpNext.End }
+        ensures next { next.new ≡ OpNext.End }
     {
         self.stage = Stage::Done;
-        OpNext::End
+        *next = OpNext::End;
     }
 }
 

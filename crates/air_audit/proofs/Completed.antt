@@ -13,7 +13,7 @@ use Rattle.tag_machine.specs.TagValue.{TagValue}
 use Rattle.air_audit.specs.declared.verdict.AuditReason.{AuditReason}
 use Rattle.air_audit.specs.FirstRefusal.{IsFirstRefusal, FirstLinesBegin, IsFirstThatBeginsNone}
 use Rattle.air_audit.specs.Standing.{Standing, begun, between, sending, listing, telling, ended, behind_exchange, rx_line, told_line, behind_told, next_tag, TellsNext, GoesOn, Leads}
-use Rattle.air_audit.specs.TraceLines.{text_of}
+use Rattle.report_lines.specs.ReadLines.{text_of}
 use Rattle.air_audit.proofs.Leading.{leads-on, leads-off}
 use Rattle.air_audit.proofs.OneReason.{more-unrefused}
 use Rattle.air_audit.proofs.OneStanding.{Laws}

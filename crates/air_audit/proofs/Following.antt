@@ -12,10 +12,11 @@ use Rattle.air_model.specs.Reception.{IsGiven}
 use Rattle.air_model.specs.laws.ReceptionLaws.{heard_most}
 use Rattle.report_lines.specs.ReportLine.{ReportLine, BlfLine, RxLine, report_line_text}
 use Rattle.runs.proofs.Answering.{TagLaws, given-of-answers}
-use Rattle.air_audit.specs.Auditing.{AuditorValue, Follows, GoesOnWith, IsAt, IsHearing, KeepsUp, SendsTo, StandsAt, StopsAt, Tells, TellsOther, position_behind}
+use Rattle.air_audit.specs.Auditing.{AuditorValue, GoesOnOrStops, GoesOnWith, IsAt, IsHearing, KeepsUp, SendsTo, StandsAt, StopsAt, Tells, TellsOther, position_behind}
 use Rattle.air_audit.specs.LineRefusals.{DiffersFirst, IsNoTxLine, IsRefusedHere}
 use Rattle.air_audit.specs.Standing.{begun, between, sending, telling, TellsNext, behind_told, next_tag, record_of, rx_line, told_line}
-use Rattle.air_audit.specs.TraceLines.{IsOfTags, IsUnjudged, first_field, most_levels, text_of}
+use Rattle.report_lines.specs.ReadLines.{first_field, most_levels, text_of}
+use Rattle.air_audit.specs.TraceLines.{IsOfTags, IsUnjudged}
 use Rattle.air_audit.specs.declared.auditor.Position.{Position}
 use Rattle.air_audit.specs.declared.auditor.Position.TheVariants as positions
 use Rattle.air_audit.specs.declared.stop.Stop.{Stop}
@@ -182,6 +183,6 @@ pub record TellsFirst (line : List ℕ) (before after : AuditorValue) (result : 
 
 -- the answer to a line that begins as the line of a tag, or as the last one
 pub tells-first : (start : Start) (past : List Item) (line : List ℕ) (before after : AuditorValue) (result : Result (Unit {0}) Stop) → KeepsUp start past before → IsOfTags (first_field line)
-    → TellsFirst line before after result → Follows result start (between past) line after
+    → TellsFirst line before after result → GoesOnOrStops result start (between past) line after
 tells-first start past line before after (Ok done) keeps word tells = told-first start past line after (told-on start past 0 line before after keeps (tells.told refl))
 tells-first start past line before after (Err stop) keeps word tells = first-not start past line before stop keeps word tells.other

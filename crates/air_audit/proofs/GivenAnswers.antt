@@ -1,5 +1,5 @@
 -- What is given of answers that come one by one is what the channel gives of them all.
-use Rattle.std.proofs.Common.{◌≡◌, ◌≢◌, ℕ, zero, suc, ◌+◌, ◌==◌, ◌≤◌, Bool, true, false, List, [], ◌∷◌, ◌++◌, length, Option, Some, if◌then◌else◌, refl, sym, ap, ◌∙◌, subst, arith, length-append}
+use Rattle.std.proofs.Common.{◌≡◌, ◌≢◌, ℕ, ◌+◌, ◌==◌, ◌≤◌, Bool, true, false, List, [], ◌∷◌, ◌++◌, length, Option, Some, if◌then◌else◌, refl, sym, ap, ◌∙◌, subst, arith, length-append}
 use Rattle.std.specs.Prelude.{slice_get}
 use Rattle.std.proofs.lemmas.Bool.{eqb-true, eqb-false}
 use Rattle.air_events.specs.declared.Several.TheVariants as severals
@@ -11,22 +11,11 @@ use Rattle.reply_grammar.specs.laws.Suiting.{spelling-within}
 use Rattle.tag_machine.specs.Answers.{HasFewWords}
 use Rattle.tag_machine.specs.Exchange.{Replied}
 use Rattle.tag_population.specs.AnswersTaken.{IsAnswer}
+use Rattle.air_model.specs.laws.LastItem.{slice_get-last, slice_get-other}
 use Rattle.air_model.specs.Channel.{whole_or_silence, first_broken, default_given, heard_levels, levels_of}
 use Rattle.air_audit.specs.Giving.{AnswersValue, HasHeard, levels_by, levels_of_bits, levels_then, with_one_inverted}
 use Rattle.air_audit.specs.declared.chosen.Chosen.{Chosen}
 use Rattle.air_audit.specs.declared.chosen.Chosen.TheVariants as chosen
-
--- the last item of a list
-slice_get-last : {A : Type 0} (xs : List A) (y : A) → slice_get (xs ++ y ∷ []) (length xs) ≡ Some y
-slice_get-last [] y = refl
-slice_get-last (x ∷ xs) y = slice_get-last xs y
-
--- ... and any other place
-slice_get-other : {A : Type 0} (xs : List A) (y : A) (at : ℕ) → at ≢ length xs → slice_get (xs ++ y ∷ []) at ≡ slice_get xs at
-slice_get-other [] y zero other = absurd (other refl)
-slice_get-other [] y (suc at) other = refl
-slice_get-other (x ∷ xs) y zero other = refl
-slice_get-other (x ∷ xs) y (suc at) other = slice_get-other xs y at (λ same. other (ap (λ n. suc n) same))
 
 -- one answer more, behind so many that have given levels
 record Another (link : LinkValue) (replies : List Replied) (reply : Replied) : Type 0 where

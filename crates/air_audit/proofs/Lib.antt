@@ -15,8 +15,7 @@ pub mod Exchanges
 pub mod Following
 pub mod GivenAnswers
 pub mod Positions
-pub mod ReadRx
+pub mod ReadLines
 pub mod Received
 pub mod SentFrames
-pub mod TxLines
 pub mod Walks

@@ -9,9 +9,11 @@ use Rattle.air_model.specs.Past.{Start, Record, Item, exchanges_in}
 use Rattle.air_audit.specs.declared.verdict.AuditReason.{AuditReason}
 use Rattle.air_audit.specs.declared.verdict.AuditReason.TheVariants as reasons
 use Rattle.air_audit.specs.FirstRefusal.{IsRefusedBefore}
-use Rattle.air_audit.specs.LineRefusals.{HasTxShape, HasRxShape, IsNoTxLine, DiffersFirst, IsNoRxLine, IsNoNextTag, IsBetweenWord, IsRefusedHere}
+use Rattle.report_lines.specs.ReadLines.{HasTxShape, HasRxShape}
+use Rattle.air_audit.specs.LineRefusals.{IsNoTxLine, DiffersFirst, IsNoRxLine, IsNoNextTag, IsBetweenWord, IsRefusedHere}
 use Rattle.air_audit.specs.Standing.{Standing, begun, between, sending, listing, telling, ended, rx_line, SendsNext, TellsNext, GoesOn}
-use Rattle.air_audit.specs.TraceLines.{text_of, first_field, IsOfTags, IsUnjudged, TxFields, RxFields, AreFrameOf, Sends}
+use Rattle.report_lines.specs.ReadLines.{text_of, first_field, TxFields, RxFields}
+use Rattle.air_audit.specs.TraceLines.{IsOfTags, IsUnjudged, AreFrameOf, Sends}
 use Rattle.air_audit.proofs.FirstPart.{FailsAt, Narrows, one-first}
 use Rattle.air_audit.proofs.OneStanding.{tx-same, rx-same, tx-word, tells-word}
 use Rattle.air_audit.proofs.Words.{line-word, word-text, list-tx, list-rx, list-unjudged, list-tags, tx-unjudged, tx-tags, unjudged-tags}

@@ -11,7 +11,8 @@ use Rattle.pie_line.specs.Pie.{IsFrame, longest_interval}
 use Rattle.pie_line.specs.declared.frame.FrameKind.{FrameKind}
 use Rattle.air_model.specs.Past.{Start, Item, exchanges_in}
 use Rattle.air_audit.specs.Standing.{Standing, begun, between, sending, listing, telling, ended, TellsNext, GoesOn, record_of, next_tag}
-use Rattle.air_audit.specs.TraceLines.{first_field, IsOfTags, TxFields, RxFields, AreFrameOf, Sends}
+use Rattle.report_lines.specs.ReadLines.{first_field, TxFields, RxFields}
+use Rattle.air_audit.specs.TraceLines.{IsOfTags, AreFrameOf, Sends}
 use Rattle.air_audit.proofs.Words.{told-word, tx-unjudged, tx-tags, unjudged-tags}
 
 -- the laws of frames and of commands that this goes by

@@ -33,7 +33,8 @@ use Rattle.tag_machine.specs.TagValue.{TagValue}
 use Rattle.air_audit.specs.AuditedTrace.{IsAudited}
 use Rattle.air_audit.specs.OwnTraces.{HasNoEventStep}
 use Rattle.air_audit.specs.Standing.{Place, Standing, begun, between, sending, ended, behind_exchange, place_in, place_of_command, record_of, rx_line, Leads}
-use Rattle.air_audit.specs.TraceLines.{text_of, first_field, IsUnjudged, Sends}
+use Rattle.report_lines.specs.ReadLines.{text_of, first_field}
+use Rattle.air_audit.specs.TraceLines.{IsUnjudged, Sends}
 use Rattle.air_audit.proofs.Completed.{rest_lines, rest-leads}
 use Rattle.air_audit.proofs.Leading.{leads-on}
 use Rattle.air_audit.proofs.Places.{IsAck, IsInPlace, stands-in-place}

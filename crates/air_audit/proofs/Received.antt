@@ -8,11 +8,11 @@ use Rattle.command_grammar.specs.declared.commands.Command.{Command}
 use Rattle.command_grammar.specs.declared.commands.Command.TheVariants as commands
 use Rattle.line_codes.specs.Codes.{table_of}
 use Rattle.pie_line.specs.Link.{LinkValue}
-use Rattle.reply_grammar.specs.Reception.{Reception, reception_from}
+use Rattle.reply_grammar.specs.Reception.{Reception, no_stream, whole_reply, no_such_reply, reception_from}
 use Rattle.reply_grammar.specs.declared.expected.Expect.TheVariants as expects
 use Rattle.reply_grammar.specs.declared.expected.Received.{Received}
-use Rattle.reply_grammar.specs.declared.expected.Received.TheVariants as receiveds
 use Rattle.reply_grammar.specs.declared.expected.Reply.TheVariants as replies
+use Rattle.reply_wire.specs.Heard.{pair_received}
 use Rattle.reply_wire.specs.Received.{IsReceived}
 use Rattle.tag_machine.specs.Exchange.{Replied}
 use Rattle.air_model.specs.Channel.{Given, IsOfStreamLength, whole_or_silence, first_broken, default_given, given_of, got_of, heard_levels, silence, whole, broken, raw}
@@ -24,7 +24,7 @@ use Rattle.runs.proofs.Answering.{TagLaws, given-in-expected}
 use Rattle.runs.proofs.MadeRecords.{made-read}
 use Rattle.runs.specs.Listing.{listed_by, listed_from, reception_of_ack}
 use Rattle.runs.specs.NextItem.{expectation_of}
-use Rattle.air_audit.specs.Auditing.{AuditorValue, Brings, GivesStream, IsHearing, Lists}
+use Rattle.air_audit.specs.Auditing.{AuditorValue, GivesStream, IsHearing, Lists}
 use Rattle.air_audit.specs.Standing.{place_in, place_of_command, record_of}
 
 -- a raw stream that is given has a length of streams
@@ -61,11 +61,11 @@ some-stream link (broken replied place) some = refl
 some-stream link (raw code trext levels) some = refl
 
 -- what a reception lists
-lists-reception : (sent : Record) (received : Received) (pair : Option (ℕ × List ℕ)) → Brings pair received → listed_by sent ≡ listed_from sent (reception_from received) → Lists pair sent
-lists-reception sent received (Some pair) brings same = same ∙ ap (λ (r : Received). listed_from sent (reception_from r)) brings
-lists-reception sent (receiveds.Whole (replies.Epc pc epc)) None brings same = absurd (brings pc epc refl)
-lists-reception sent (receiveds.Whole reply) None brings same = same
-lists-reception sent (receiveds.Refused place) None brings same = same
+lists-from : (sent : Record) (reception : Reception) → listed_by sent ≡ listed_from sent reception → Lists (pair_received reception) sent
+lists-from sent no_stream same = same
+lists-from sent (whole_reply (replies.Epc pc epc)) same = same
+lists-from sent (whole_reply reply) same = same
+lists-from sent no_such_reply same = same
 
 made-again : (start : Start) (past : List Item) (sent : Record) → sent ≡ record_of start past sent.command → sent ≡ next_record start sent.round sent.slot sent.command past
 made-again start past sent made =
@@ -84,7 +84,7 @@ pub record HearsEpc (start : Start) (past : List Item) (sent : Record) (auditor 
 
 -- ... is what the record makes of them
 pub lists-received : TagLaws → (start : Start) (past : List Item) (sent : Record) (auditor : AuditorValue) (received : Received) (pair : Option (ℕ × List ℕ))
-    → HearsEpc start past sent auditor received → Brings pair received → Lists pair sent
+    → HearsEpc start past sent auditor received → pair ≡ pair_received (reception_from received) → Lists pair sent
 lists-received laws start past sent auditor received pair hears brings =
     let is = hears.is in
     let command : sent.command ≡ commands.Ack hears.rn = let same = is.command in let ack = hears.ack in cc in
@@ -97,5 +97,5 @@ lists-received laws start past sent auditor received pair hears brings =
     (given-in-expected laws start sent.command expects.Epc (next_entry start past) (tags_behind start past) (ap (λ (c : Command). expectation_of c) command) is.legal) in
     let reception : reception_of expects.Epc sent.given ≡ reception_from received =
     stream_reception start.link expects.Epc sent.given received expected (made-read start sent past (made-again start past sent is.made)) (some-stream start.link sent.given (λ none. hears.some (is.levels ∙ none))) by_record in
-    lists-reception sent received pair brings
-    (ap (λ (c : Command). listed_from sent (reception_of_ack sent c)) command ∙ ap (λ (r : Reception). listed_from sent r) reception)
+    subst (λ (p : Option (ℕ × List ℕ)). Lists p sent) (sym brings)
+    (lists-from sent (reception_from received) (ap (λ (c : Command). listed_from sent (reception_of_ack sent c)) command ∙ ap (λ (r : Reception). listed_from sent r) reception))

@@ -7,7 +7,7 @@ use Rattle.text_fields.specs.Lines.{Lacks, fields_of, space}
 use Rattle.text_fields.specs.laws.FieldTextLaws.{IsFieldText-binary}
 use Rattle.text_fields.specs.laws.LineLaws.{fields_come_back}
 use Rattle.air_audit.specs.LineRefusals.{DiffersFirst}
-use Rattle.air_audit.specs.TraceLines.{text_of, most_levels, RxFields}
+use Rattle.report_lines.specs.ReadLines.{text_of, most_levels, RxFields}
 use Rattle.air_audit.specs.declared.verdict.AuditReason.{AuditReason}
 use Rattle.air_audit.proofs.OneReason.{rx_part, rx-refusal}
 use Rattle.air_audit.proofs.SentLines.{number-is}

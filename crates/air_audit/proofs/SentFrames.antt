@@ -10,7 +10,8 @@ use Rattle.pie_line.specs.declared.frame.PieRefusal.{PieRefusal}
 use Rattle.air_model.specs.Channel.{lead_of}
 use Rattle.air_audit.specs.LineRefusals.{IsNoTxLine}
 use Rattle.air_audit.specs.Sent.{IsNoFrame, ReadsCommand, ReadsFrame}
-use Rattle.air_audit.specs.TraceLines.{AreFrameOf, BeginsWith, TxFields}
+use Rattle.report_lines.specs.ReadLines.{TxFields}
+use Rattle.air_audit.specs.TraceLines.{AreFrameOf, BeginsWith}
 use Rattle.air_audit.specs.declared.verdict.AuditReason.{AuditReason}
 use Rattle.air_audit.specs.declared.verdict.AuditReason.TheVariants as reasons
 

@@ -2,7 +2,6 @@
 use Rattle.std.proofs.Common.{◌≡◌, ◌≢◌, ◌^◌, ◌<◌, ◌≤◌, ◌⊎◌, ℕ, Bool, zero, suc, List, [], ◌∷◌, inl, inr, length, map, get_or, codes, arith, ap, refl}
 use Rattle.std.specs.Prelude.{All}
 use Rattle.std.specs.Fmt.{decimal}
-use Rattle.std.specs.List.{AllByRecursion}
 use Rattle.std.proofs.lemmas.Fmt.{decimal_digit, decimal_nonempty, first_decimal}
 use Rattle.std.proofs.lemmas.List.Elements.{All-from_recursion}
 use Rattle.text_fields.specs.Lines.{Lacks, fields_of, space}
@@ -16,8 +15,9 @@ use Rattle.pie_line.specs.declared.frame.Lead.{Lead}
 use Rattle.pie_line.specs.declared.frame.Lead.TheVariants.{Preamble, FrameSync}
 use Rattle.pie_text.specs.laws.WaveLength.{length-wave}
 use Rattle.report_lines.specs.ReportLine.{TxLine, report_fields}
-use Rattle.air_audit.specs.TraceLines.{text_of, BeginsWith, IsNumber, Sends}
-use Rattle.air_audit.proofs.Spelled.{decimal-digits, decimal-lacks}
+use Rattle.report_lines.specs.ReadLines.{text_of, IsNumber}
+use Rattle.air_audit.specs.TraceLines.{BeginsWith, Sends}
+use Rattle.air_audit.proofs.Spelled.{decimal-digits, decimal-lacks, numbers-lack}
 use Rattle.air_audit.proofs.Words.{word-text}
 
 -- what laws of lower crates say of the frames that are written, and of the spellings of commands
@@ -44,10 +44,6 @@ number-is n small =
     let filled : decimal n ≢ [] = λ none. let length_is = ap length none in omega (arith, decimal_nonempty n small) in
     record { some = filled; digits = decimal-digits n; no_zeros = no-leading-zero n small filled }
 
-numbers-lack : (numbers : List ℕ) → AllByRecursion (Lacks space) (map decimal numbers)
-numbers-lack [] = tt
-numbers-lack (n ∷ numbers) = (decimal-lacks space n (omega arith), numbers-lack numbers)
-
 pub frame-sends : WrittenLaws → (link : LinkValue) (command : Command) (exchange : ℕ) → IsLegalLink link → IsLegalCommand command → exchange < 2 ^ 64
     → Sends exchange (text_of (TxLine exchange (wave_for link command))) command
 frame-sends laws link command exchange lawful legal small =
@@ -58,7 +54,7 @@ frame-sends laws link command exchange lawful legal small =
     let fields : fields_of (text_of (TxLine exchange wave)) ≡ codes "tx" ∷ decimal exchange ∷ map decimal wave =
     fields_come_back (report_fields (TxLine exchange wave)) (λ none. cc)
     (All-from_recursion (Lacks space) (report_fields (TxLine exchange wave))
-    ((word-text 116 (codes "x") refl).no_space, (decimal-lacks space exchange (omega arith), numbers-lack wave))) in
+    ((word-text 116 (codes "x") refl).no_space, (decimal-lacks space exchange (omega arith), numbers-lack space wave (omega arith)))) in
     record {
       tx = record {
         exchange = decimal exchange;

@@ -28,7 +28,7 @@ use Rattle.text_fields.specs.Lines.{Lacks, line_feed, lines_of, text_with}
 use Rattle.text_fields.specs.laws.FieldTextLaws.{IsFieldText-binary, IsFieldText-hex_byte, IsFieldText-hex_word, IsFieldText-hex_words}
 use Rattle.text_fields.specs.laws.LineLaws.{line_lacks, lines_come_back}
 use Rattle.value_text.specs.ValueText.{locks_text, pair_text}
-use Rattle.air_audit.specs.TraceLines.{text_of}
+use Rattle.report_lines.specs.ReadLines.{text_of}
 use Rattle.air_audit.proofs.Words.{all_visible, word-text}
 
 -- a decimal digit
@@ -68,9 +68,9 @@ word-line byte bytes visible = (word-text byte bytes visible).no_line_feed
 joined : (one other : List ℕ) → Lacks line_feed one → Lacks line_feed other → Lacks line_feed (one ++ other)
 joined one other here there = All-append (λ each. each ≢ line_feed) one other here there
 
-numbers-lack : (numbers : List ℕ) → AllByRecursion (Lacks line_feed) (map decimal numbers)
-numbers-lack [] = tt
-numbers-lack (n ∷ numbers) = (number-line n, numbers-lack numbers)
+pub numbers-lack : (byte : ℕ) (numbers : List ℕ) → byte < 48 → AllByRecursion (Lacks byte) (map decimal numbers)
+numbers-lack byte [] below = tt
+numbers-lack byte (n ∷ numbers) below = (decimal-lacks byte n below, numbers-lack byte numbers below)
 
 side-line : (side : Side) → Lacks line_feed (side_letter side)
 side-line A = word-line 65 [] refl
@@ -130,7 +130,7 @@ IsOfTrace line = keeps Trace line ≡ true
 fields-lack : (line : ReportLine) → IsOfTrace line → AllByRecursion (Lacks line_feed) (report_fields line)
 fields-lack (BlfLine numerator denominator) is =
     (word-line 98 (codes "lf") refl, (joined _ _ (joined _ _ (number-line numerator) (word-line 47 [] refl)) (number-line denominator), tt))
-fields-lack (TxLine exchange intervals) is = (word-line 116 (codes "x") refl, (number-line exchange, numbers-lack intervals))
+fields-lack (TxLine exchange intervals) is = (word-line 116 (codes "x") refl, (number-line exchange, numbers-lack line_feed intervals (omega arith)))
 fields-lack (RxLine exchange count levels) is =
     (word-line 114 (codes "x") refl, (number-line exchange, (number-line count, ((IsFieldText-binary levels).no_line_feed, tt))))
 fields-lack (ListLine round slot pc epc) is =

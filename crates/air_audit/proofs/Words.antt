@@ -6,7 +6,8 @@ use Rattle.text_fields.specs.laws.LineLaws.{pieces_between-cut, whole_piece}
 use Rattle.report_lines.specs.ReportLine.{ReportLine, TagLine, DoneLine, report_fields}
 use Rattle.tag_machine.specs.TagValue.{TagValue}
 use Rattle.air_audit.specs.Standing.{told_line}
-use Rattle.air_audit.specs.TraceLines.{text_of, first_field, IsUnjudged, IsOfTags}
+use Rattle.report_lines.specs.ReadLines.{text_of, first_field}
+use Rattle.air_audit.specs.TraceLines.{IsUnjudged, IsOfTags}
 
 -- all of the bytes stand above the space
 abbrev pub all_visible : List ℕ → Bool

@@ -11,9 +11,6 @@ use Rattle.air_events.specs.declared.Several.{Several}
 use Rattle.command_grammar.specs.declared.commands.Command.{Command}
 use Rattle.command_grammar.specs.declared.refusal.CommandRefusal.{CommandRefusal}
 use Rattle.pie_line.specs.Link.{LinkValue}
-use Rattle.reply_grammar.specs.declared.expected.Received.{Received}
-use Rattle.reply_grammar.specs.declared.expected.Received.TheVariants as receiveds
-use Rattle.reply_grammar.specs.declared.expected.Reply.TheVariants as replies
 use Rattle.tag_machine.specs.Exchange.{AreLegalTags}
 use Rattle.tag_machine.specs.TagValue.{TagValue}
 use Rattle.air_model.specs.Channel.{heard_levels}
@@ -24,7 +21,8 @@ use Rattle.runs.specs.Report.{list_line}
 use Rattle.air_audit.specs.Giving.{AnswersValue}
 use Rattle.air_audit.specs.LineRefusals.{IsRefusedHere}
 use Rattle.air_audit.specs.Standing.{Standing, begun, between, sending, listing, telling, ended, GoesOn, place_in, record_of, told_line}
-use Rattle.air_audit.specs.TraceLines.{text_of, Sends}
+use Rattle.report_lines.specs.ReadLines.{text_of}
+use Rattle.air_audit.specs.TraceLines.{Sends}
 use Rattle.air_audit.specs.declared.auditor.Position.{Position}
 use Rattle.air_audit.specs.declared.auditor.Position.TheVariants as positions
 use Rattle.air_audit.specs.declared.stop.Stop.{Stop}
@@ -136,20 +134,15 @@ StopsAt (stops.Refused reason) start standing line = IsRefusedHere start standin
 StopsAt (stops.OutOfMemory error) start standing line = Unit {0}
 
 -- the answer to a line
-abbrev pub Follows : Result (Unit {0}) Stop → Start → Standing → List ℕ → AuditorValue → Type 0
-Follows (Ok done) start standing line auditor = GoesOnWith start standing line auditor
-Follows (Err stop) start standing line auditor = StopsAt stop start standing line
+abbrev pub GoesOnOrStops : Result (Unit {0}) Stop → Start → Standing → List ℕ → AuditorValue → Type 0
+GoesOnOrStops (Ok done) start standing line auditor = GoesOnWith start standing line auditor
+GoesOnOrStops (Err stop) start standing line auditor = StopsAt stop start standing line
 
 -- the line sends a command, which the tags have heard
 pub record SendsTo (start : Start) (past : List Item) (line : List ℕ) (auditor : AuditorValue) : Type 0 where
   pub command : Command
   pub sends : Sends (exchanges_in past + 1) line command
   pub hearing : IsHearing start past (record_of start past command) auditor
-
--- the PC and the EPC are those of a reply that is received whole
-abbrev pub Brings : Option (ℕ × List ℕ) → Received → Type 0
-Brings (Some pair) received = received ≡ receiveds.Whole (replies.Epc pair.0 pair.1)
-Brings None received = (pc : ℕ) (epc : List ℕ) → received ≢ receiveds.Whole (replies.Epc pc epc)
 
 -- the PC and the EPC are those that a record lists
 abbrev pub Lists : Option (ℕ × List ℕ) → Record → Type 0

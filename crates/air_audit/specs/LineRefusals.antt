@@ -1,26 +1,26 @@
 -- Profile: the first reason for which a line doesn't follow, in the order of the table of reasons: end, extra, blf, list, word,
 -- shape, number, exchange, frame, count, levels, tag.
 use Rattle.std.specs.Fmt.{decimal}
-use Rattle.std.specs.Prelude.{◌≡◌, ◌≢◌, ◌⊎◌, ℕ, ◌+◌, ◌≤◌, Bool, List, codes, length}
-use Rattle.text_fields.specs.Lines.{fields_of}
+use Rattle.std.specs.Prelude.{◌≡◌, ◌≢◌, ◌⊎◌, ℕ, ◌+◌, Bool, List, codes, length}
+use Rattle.text_fields.specs.declared.fields_fault.FieldsFault.{FieldsFault}
+use Rattle.text_fields.specs.declared.fields_fault.FieldsFault.TheVariants as faults
 use Rattle.command_grammar.specs.declared.commands.Command.{Command}
 use Rattle.pie_line.specs.Link.{blf_of}
 use Rattle.air_model.specs.Channel.{heard_levels}
 use Rattle.air_model.specs.Past.{Start, Record, Item, exchanges_in}
+use Rattle.report_lines.specs.ReadLines.{text_of, first_field, HasTxShape, HasRxShape, TxFields, RxFields}
 use Rattle.report_lines.specs.ReportLine.{BlfLine}
 use Rattle.runs.specs.Report.{list_line}
 use Rattle.air_audit.specs.declared.verdict.AuditReason.{AuditReason}
 use Rattle.air_audit.specs.declared.verdict.AuditReason.TheVariants as reasons
 use Rattle.air_audit.specs.Standing.{Standing, begun, between, sending, listing, telling, ended, rx_line, told_line, next_tag}
-use Rattle.air_audit.specs.TraceLines.{text_of, first_field, most_intervals, IsUnjudged, IsOfTags, TxFields, AreFrameOf, RxFields}
+use Rattle.air_audit.specs.TraceLines.{IsUnjudged, IsOfTags, AreFrameOf}
 
--- a tx line has its word, the number of the exchange and the intervals
-abbrev pub HasTxShape : List ℕ → Type 0
-HasTxShape line = (3 ≤ length (fields_of line)) × (length (fields_of line) ≤ most_intervals + 2)
-
--- an rx line has its word, the number of the exchange, the count and the levels
-abbrev pub HasRxShape : List ℕ → Type 0
-HasRxShape line = length (fields_of line) ≡ 4
+-- a line whose fields are not of their forms is refused for this reason
+abbrev pub reason_of : FieldsFault → AuditReason
+reason_of faults.Word = reasons.Word
+reason_of faults.Shape = reasons.Shape
+reason_of faults.Number = reasons.Number
 
 -- the first reason for which a line that begins with tx sends no command in the exchange
 abbrev pub IsNoTxLine : ℕ → List ℕ → AuditReason → Type 0

@@ -10,7 +10,8 @@ use Rattle.air_model.specs.Past.{Start, Record, Item, befell, exchanged, operate
 use Rattle.report_lines.specs.ReportLine.{ReportLine, BlfLine, RxLine, TagLine, DoneLine}
 use Rattle.runs.specs.Listing.{Listed, listed_by}
 use Rattle.runs.specs.Report.{list_line}
-use Rattle.air_audit.specs.TraceLines.{text_of, first_field, IsUnjudged, Sends}
+use Rattle.report_lines.specs.ReadLines.{text_of, first_field}
+use Rattle.air_audit.specs.TraceLines.{IsUnjudged, Sends}
 
 -- The round and the slot of a record, which no line of its exchange says: the round is the number of the Query commands so far,
 -- and the slot that of the slot commands from the last Query on. Both are 0 before any Query.

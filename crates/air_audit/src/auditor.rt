@@ -6,17 +6,19 @@ ghost use Rattle.report_lines.specs.ReportLine.{report_line_text, TagLine};
 ghost use Rattle.tag_machine.specs.TagValue.{TagValue};
 ghost use Rattle.runs.specs.Listing.{Listed};
 ghost use Rattle.line_codes.specs.Codes.{table_of};
+ghost use Rattle.reply_grammar.specs.Reception.{reception_from};
+ghost use Rattle.reply_wire.specs.Heard.{pair_received};
 ghost use Rattle.reply_wire.specs.Received.{IsReceived};
-ghost use Rattle.air_audit.specs.Auditing.{Brings, ExpectsList, Follows, IsAt, IsBegun, IsEarly, IsHearing, IsUnderway, KeepsUp, Lists, SendsTo, StandsAt, Tells, TellsOther, WritesTold};
+ghost use Rattle.air_audit.specs.Auditing.{ExpectsList, GoesOnOrStops, IsAt, IsBegun, IsEarly, IsHearing, IsUnderway, KeepsUp, Lists, SendsTo, StandsAt, Tells, TellsOther, WritesTold};
 ghost use Rattle.air_audit.specs.LineRefusals.{IsNoTxLine};
 ghost use Rattle.air_audit.specs.Standing.{Standing, begun, between, listing, sending, telling, told_line};
-ghost use Rattle.air_audit.specs.TraceLines.{first_field};
+ghost use Rattle.report_lines.specs.ReadLines.{first_field};
 
 use crate::AuditReason;
 use crate::answers::{Answers, STREAM_ROOM};
 use crate::first_words::{Word, word_of_line};
 use crate::rounds::place_of_command;
-use crate::rx_line::read_rx_line;
+use crate::rx_line::compare_rx_line;
 use crate::sent_frame::SentFrame;
 use crate::stop::Stop;
 use crate::texts::is_text;
@@ -24,8 +26,8 @@ use air_events::EntryCursor;
 use bit_strings::{Bits, OutOfMemory};
 use command_grammar::Command;
 use pie_line::Link;
-use reply_grammar::{EpcWords, Expect, Received, Reply};
-use reply_wire::receive;
+use reply_grammar::{EpcWords, Expect, Received};
+use reply_wire::receive_epc;
 use report_lines::{push_blf_line, push_done_line, push_list_line, push_tag_line};
 use std::alloc::Global;
 use std::marker::Model;
@@ -130,7 +132,7 @@ impl<'a, L: Ledger> Auditor<'a, L> {
     pub(crate) fn follow(&mut self, line: &[u8]) -> Result<(), Stop>
         requires underway { IsUnderway self.old }
         requires early { IsEarly (2 ^ 31) self.old }
-        ensures follows { (start : Start) (standing : Standing) → StandsAt start standing self.old → Follows result start standing line.now self.new }
+        ensures follows { (start : Start) (standing : Standing) → StandsAt start standing self.old → GoesOnOrStops result start standing line.now self.new }
         ensures early { (most : ℕ) → IsEarly most self.old → IsEarly (most + 1) self.new }
     {
         match self.position {
@@ -145,7 +147,7 @@ impl<'a, L: Ledger> Auditor<'a, L> {
 
     /// Goes on with the first line, which has to be that of the link.
     fn begin(&mut self, line: &[u8]) -> Result<(), Stop>
-        ensures follows { (start : Start) → KeepsUp start [] self.old → Follows result start begun line.now self.new }
+        ensures follows { (start : Start) → KeepsUp start [] self.old → GoesOnOrStops result start begun line.now self.new }
         ensures early { (most : ℕ) → IsEarly most self.old → IsEarly (most + 1) self.new }
     {
         let (numerator, denominator) = self.answers.link().blf();
@@ -162,7 +164,7 @@ impl<'a, L: Ledger> Auditor<'a, L> {
     fn go_on(&mut self, line: &[u8]) -> Result<(), Stop>
         requires underway { (start : Start) × (past : List Item) × KeepsUp start past self.old }
         requires early { IsEarly (2 ^ 31) self.old }
-        ensures follows { (start : Start) (past : List Item) → IsAt Position.Between start past self.old → Follows result start (between past) line.now self.new }
+        ensures follows { (start : Start) (past : List Item) → IsAt Position.Between start past self.old → GoesOnOrStops result start (between past) line.now self.new }
         ensures early { (most : ℕ) → IsEarly most self.old → IsEarly (most + 1) self.new }
     {
         match word_of_line(line) {
@@ -207,7 +209,7 @@ impl<'a, L: Ledger> Auditor<'a, L> {
     /// Goes on with a line behind a tx line: the rx line of the exchange has to follow.
     fn hear(&mut self, line: &[u8]) -> Result<(), Stop>
         requires { IsEarly (2 ^ 31) self.old }
-        ensures follows { (start : Start) (past : List Item) (sent : Record) → IsHearing start past sent self.old → Follows result start (sending past sent) line.now self.new }
+        ensures follows { (start : Start) (past : List Item) (sent : Record) → IsHearing start past sent self.old → GoesOnOrStops result start (sending past sent) line.now self.new }
         ensures early { (most : ℕ) → IsEarly most self.old → IsEarly (most + 1) self.new }
     {
         match word_of_line(line) {
@@ -221,13 +223,13 @@ impl<'a, L: Ledger> Auditor<'a, L> {
     fn hear_levels(&mut self, line: &[u8]) -> Result<(), Stop>
         requires word { first_field line.now ≡ codes "rx" }
         requires early { IsEarly (2 ^ 31) self.old }
-        ensures follows { (start : Start) (past : List Item) (sent : Record) → IsHearing start past sent self.old → Follows result start (sending past sent) line.now self.new }
+        ensures follows { (start : Start) (past : List Item) (sent : Record) → IsHearing start past sent self.old → GoesOnOrStops result start (sending past sent) line.now self.new }
         ensures early { (most : ℕ) → IsEarly most self.old → IsEarly (most + 1) self.new }
     {
         // By these laws no levels come that are too many for a line.
         answers_are_replies();
         steps_keep_tags_legal();
-        if let Err(reason) = read_rx_line(
+        if let Err(reason) = compare_rx_line(
             line,
             self.exchanges,
             self.answers.count(),
@@ -263,24 +265,20 @@ impl<'a, L: Ledger> Auditor<'a, L> {
     /// The PC and the EPC of the stream that came last, if they come whole.
     fn hear_epc(&mut self) -> Option<(u16, EpcWords)>
         ensures same { self.new ≡ self.old }
-        ensures received { (received : Received) × IsReceived (table_of self.old.answers.link.code) self.old.answers.link.trext Expect.Epc self.old.answers.levels received × Brings result received }
+        ensures received { (received : Received) × IsReceived (table_of self.old.answers.link.code) self.old.answers.link.trext Expect.Epc self.old.answers.levels received × (result ≡ pair_received (reception_from received)) }
     {
         let link = self.answers.link();
-        match receive(
+        receive_epc(
             self.answers.levels(),
             link.code(),
             link.trext(),
-            &Expect::Epc,
             &mut self.room,
-        ) {
-            Received::Whole(Reply::Epc { pc, epc }) => Some((pc, epc)),
-            _ => None,
-        }
+        )
     }
 
     /// Goes on with a line behind an exchange that lists an EPC: its list line has to follow.
     fn list(&mut self, line: &[u8]) -> Result<(), Stop>
-        ensures follows { (start : Start) (past : List Item) (listed : Listed) → ExpectsList start past listed self.old → Follows result start (listing past listed) line.now self.new }
+        ensures follows { (start : Start) (past : List Item) (listed : Listed) → ExpectsList start past listed self.old → GoesOnOrStops result start (listing past listed) line.now self.new }
         ensures early { (most : ℕ) → IsEarly most self.old → IsEarly (most + 1) self.new }
     {
         if !is_text(line, self.text.as_str()) {
@@ -292,7 +290,7 @@ impl<'a, L: Ledger> Auditor<'a, L> {
 
     /// Goes on with a line behind those of so many tags.
     fn tell_on(&mut self, told: u32, line: &[u8]) -> Result<(), Stop>
-        ensures follows { (start : Start) (past : List Item) → KeepsUp start past self.old → Follows result start (telling past told) line.now self.new }
+        ensures follows { (start : Start) (past : List Item) → KeepsUp start past self.old → GoesOnOrStops result start (telling past told) line.now self.new }
         ensures early { (most : ℕ) → IsEarly most self.old → IsEarly (most + 1) self.new }
     {
         match word_of_line(line) {

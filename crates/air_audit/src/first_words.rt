@@ -1,9 +1,8 @@
 //! The words that lines begin with.
 ghost use Rattle.air_audit.specs.FirstWords.{IsWord};
-ghost use Rattle.air_audit.specs.TraceLines.{first_field};
+ghost use Rattle.report_lines.specs.ReadLines.{first_field};
 
-use crate::fields::next_field;
-use text_fields::Fields;
+use report_lines::first_field;
 
 /// What a line is by the word that it begins with.
 #[derive(Clone, Copy, Debug, PartialEq, Eq)]
@@ -40,9 +39,5 @@ fn word_of(word: &[u8]) -> Word
 pub(crate) fn word_of_line(line: &[u8]) -> Word
     ensures { IsWord result (first_field line.now) }
 {
-    match next_field(&mut Fields::new(line)) {
-        Some(first) => word_of(first),
-        // A line has a field at least.
-        None => unreachable!(),
-    }
+    word_of(first_field(line))
 }

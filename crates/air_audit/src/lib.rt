@@ -14,7 +14,6 @@ mod stop;
 mod texts;
 mod trace_behind;
 mod traces;
-mod tx_line;
 mod verdict;
 mod verdict_lines;
 

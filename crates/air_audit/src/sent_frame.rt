@@ -6,13 +6,15 @@ ghost use Rattle.pie_line.specs.Pie.{longest_interval};
 ghost use Rattle.air_model.specs.Channel.{lead_of};
 ghost use Rattle.air_audit.specs.LineRefusals.{IsNoTxLine};
 ghost use Rattle.air_audit.specs.Sent.{IsNoFrame, ReadsFrame, ReadsCommand};
-ghost use Rattle.air_audit.specs.TraceLines.{BeginsWith, first_field};
+ghost use Rattle.report_lines.specs.ReadLines.{first_field};
+ghost use Rattle.air_audit.specs.TraceLines.{BeginsWith};
 
 use crate::AuditReason;
-use crate::tx_line::{MOST_INTERVALS, read_tx_line};
+use crate::fields::{reason_of, spells};
 use bit_strings::{Bits, OutOfMemory};
 use command_grammar::{Command, CommandRefusal, decode_command_to};
 use pie_line::{FrameKind, Intervals, decode_frame};
+use report_lines::{MOST_INTERVALS, read_tx_line};
 use std::alloc::Global;
 use std::marker::Model;
 
@@ -30,7 +32,7 @@ impl Model for SentFrame {
     ghost use Rattle.std.specs.Prelude.{◌≤◌, Result};
     ghost use Rattle.command_grammar.specs.declared.commands.Command.{Command};
     ghost use Rattle.command_grammar.specs.declared.refusal.CommandRefusal.{CommandRefusal};
-    ghost use Rattle.air_audit.specs.TraceLines.{most_intervals};
+    ghost use Rattle.report_lines.specs.ReadLines.{most_intervals};
 
     ghost Value = { Result Command CommandRefusal };
 
@@ -61,7 +63,13 @@ impl SentFrame {
         ensures reads { IsOk result → ReadsCommand exchange line.now self.new }
         ensures refused { IfErr result (IsNoTxLine exchange line.now) }
     {
-        read_tx_line(line, exchange, &mut self.intervals)?;
+        let number = match read_tx_line(line, &mut self.intervals) {
+            Ok(number) => number,
+            Err(fault) => return Err(reason_of(fault)),
+        };
+        if !spells(number, exchange) {
+            return Err(AuditReason::Exchange);
+        }
         read_frame(&self.intervals, &mut self.bits, &mut self.command)
     }
 

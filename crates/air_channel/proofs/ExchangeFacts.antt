@@ -6,32 +6,14 @@ use Rattle.air_events.specs.declared.Event.{Event}
 use Rattle.command_grammar.specs.declared.commands.Command.{Command}
 use Rattle.tag_machine.specs.Answers.{Outcome}
 use Rattle.tag_machine.specs.TagValue.{TagValue}
+use Rattle.tag_population.proofs.OneExchange.{one_exchange}
 use Rattle.tag_population.proofs.TagsAtRest.{length-befallen}
 use Rattle.air_channel.specs.Air.{AirValue, air_after, next_exchange}
-use Rattle.tag_machine.specs.Exchange.{outcomes_in, replies_in, Replied, replies_from, tag_after_own_event, tag_after_events, tags_after_event, outcome_in, outcomes_from, tags_after, IsQueryRep, busy_from}
+use Rattle.tag_machine.specs.Exchange.{outcomes_in, replies_in, Replied, replies_from, tags_after, IsQueryRep, busy_from}
 use Rattle.air_model.specs.Channel.{given_in, wave_for, heard_levels, given_of, got_of}
 use Rattle.tag_population.specs.Hearing.{tags_after_events, hearing_from}
 use Rattle.air_channel.specs.Kept.{KeptReplies, RepliesStandFor}
 use Rattle.air_model.specs.declared.got.Got.{Got}
-
--- what events make of the first tag and of the others
-events_apart : (number : ℕ) (events : List (Event × ℕ)) (tag : TagValue) (tags : List TagValue)
-    → tags_after_events number events (tag ∷ tags) ≡ tag_after_events number events tag ∷ tags_after_events (number + 1) events tags
-events_apart number [] tag tags = refl
-events_apart number (event ∷ events) tag tags =
-    events_apart number events (tag_after_own_event number event.0 event.1 tag) (tags_after_event (number + 1) event.0 event.1 tags)
-
-no_tags : (number : ℕ) (events : List (Event × ℕ)) → tags_after_events number events [] ≡ []
-no_tags number [] = refl
-no_tags number (event ∷ events) = no_tags number events
-
--- events and then the command are what an exchange is for each tag
-pub exchange_outcomes : (number : ℕ) (command : Command) (entry : Entry) (tags : List TagValue)
-    → hearing_from number command entry (tags_after_events number entry.events tags) ≡ outcomes_from number command entry tags
-exchange_outcomes number command entry [] = ap (λ (l : List TagValue). hearing_from number command entry l) (no_tags number entry.events)
-exchange_outcomes number command entry (tag ∷ tags) =
-    ap (λ (l : List TagValue). hearing_from number command entry l) (events_apart number entry.events tag tags)
-    ∙ ap (λ (l : List Outcome). outcome_in number command entry tag ∷ l) (exchange_outcomes (number + 1) command entry tags)
 
 -- what is known of an exchange: the command that the tags heard is the one that was sent, after each event befell its tag
 pub record Exchanged (old : List TagValue) (command : Command) (entry : Entry) : Type 0 where
@@ -46,8 +28,7 @@ pub record Exchanged (old : List TagValue) (command : Command) (entry : Entry) :
 outcomes_are : (old : List TagValue) (command : Command) (entry : Entry) (is : Exchanged old command entry) → hearing_from 0 is.heard entry is.befallen ≡ outcomes_in command entry old
 outcomes_are old command entry is =
     ap (λ (h : Command). hearing_from 0 h entry is.befallen) is.same
-    ∙ ap (λ (l : List TagValue). hearing_from 0 command entry l) (is.befell ∙ ap (λ (l : List (Event × ℕ)). tags_after_events 0 l old) is.events_are)
-    ∙ exchange_outcomes 0 command entry old
+    ∙ one_exchange command entry old is.befallen is.events is.events_are is.befell
 
 -- what the tags answered is what is said of the exchange
 pub exchange_replies : (old : List TagValue) (command : Command) (entry : Entry) (is : Exchanged old command entry)

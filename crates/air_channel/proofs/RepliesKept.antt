@@ -1,21 +1,10 @@
 -- What is kept of replies stands for one reply more.
-use Rattle.std.proofs.Common.{◌≡◌, ◌≢◌, ℕ, zero, suc, ◌+◌, List, [], ◌∷◌, ◌++◌, length, Some, refl, sym, ap, ◌∙◌, subst, arith, length-append}
+use Rattle.std.proofs.Common.{◌≡◌, ◌≢◌, zero, ◌+◌, List, [], ◌∷◌, ◌++◌, length, Some, sym, ap, ◌∙◌, subst, arith, length-append}
 use Rattle.std.specs.Prelude.{slice_get}
 use Rattle.std.proofs.lemmas.Option.{same_Some}
+use Rattle.air_model.specs.laws.LastItem.{slice_get-last, slice_get-other}
 use Rattle.tag_machine.specs.Exchange.{Replied}
 use Rattle.air_channel.specs.Kept.{KeptReplies, IsKept, RepliesStandFor}
-
--- the last item of a list
-slice_get-last : {A : Type 0} (xs : List A) (y : A) → slice_get (xs ++ y ∷ []) (length xs) ≡ Some y
-slice_get-last [] y = refl
-slice_get-last (x ∷ xs) y = slice_get-last xs y
-
--- ... and any other
-slice_get-front : {A : Type 0} (xs : List A) (y : A) (at : ℕ) (x : A) → at ≢ length xs → slice_get (xs ++ y ∷ []) at ≡ Some x → slice_get xs at ≡ Some x
-slice_get-front [] y zero x other found = absurd (other refl)
-slice_get-front [] y (suc at) x other found = found
-slice_get-front (first ∷ xs) y zero x other found = found
-slice_get-front (first ∷ xs) y (suc at) x other found = slice_get-front xs y at x (λ same. other (ap (λ n. suc n) same)) found
 
 -- with one reply more, which is the wanted one
 pub stands_wanted : (replies : List Replied) (reply : Replied) (old new : KeptReplies)
@@ -39,7 +28,7 @@ stands_other replies reply old new stands other is = record {
   wanted_is = λ found_reply found.
       let elsewhere : old.wanted ≢ length replies = λ same. other (omega (arith, same, stands.count_is)) in
       let at : slice_get replies old.wanted ≡ Some found_reply =
-      slice_get-front replies reply old.wanted found_reply elsewhere (subst (λ (k : KeptReplies). slice_get (replies ++ reply ∷ []) k.wanted ≡ Some found_reply) is found) in
+      sym (slice_get-other replies reply old.wanted elsewhere) ∙ (subst (λ (k : KeptReplies). slice_get (replies ++ reply ∷ []) k.wanted ≡ Some found_reply) is found) in
       let was = stands.wanted_is found_reply at in
       subst (λ (k : KeptReplies). IsKept found_reply.sent k) (sym is) (record { in_range = was.in_range; bits_are = was.bits_are; mark_is = was.mark_is });
 }

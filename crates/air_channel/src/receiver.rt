@@ -1,5 +1,5 @@
 //! What a tag makes of a frame: its intervals to bits, and these to a command.
-ghost use Rattle.std.specs.Prelude.{◌≡◌, ◌≤◌, ℕ, Bool, List, All, IfOk, IsOk, Ok, length};
+ghost use Rattle.std.specs.Prelude.{◌≡◌, ◌≤◌, Bool, List, All, IfOk, IsOk, Ok, length};
 ghost use Rattle.bit_strings.specs.BitString.{most_counted};
 ghost use Rattle.command_grammar.specs.Commands.{SpellsCommand};
 ghost use Rattle.command_grammar.specs.declared.commands.Command.{Command};

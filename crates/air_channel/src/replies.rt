@@ -1,5 +1,5 @@
 //! The replies to one command, of which the channel gives one or none.
-ghost use Rattle.std.specs.Prelude.{◌≡◌, ℕ, ◌%◌, ◌≤◌, List, [], Some, length, slice_get, IfOk};
+ghost use Rattle.std.specs.Prelude.{◌≡◌, ◌%◌, ◌≤◌, List, [], Some, length, slice_get, IfOk};
 ghost use Rattle.air_events.specs.Streams.{longest_stream};
 ghost use Rattle.line_code.specs.TableFacts.{with_level_flipped};
 ghost use Rattle.pie_line.specs.Link.{LinkValue};

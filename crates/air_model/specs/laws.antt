@@ -1,3 +1,4 @@
 pub mod GivenLaws
 pub mod ReceptionLaws
 pub mod AwaitedLaws
+pub mod LastItem

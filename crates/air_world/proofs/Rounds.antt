@@ -1,5 +1,5 @@
 -- The slots of a round, one after another.
-use Rattle.std.proofs.Common.{◌≡◌, ℕ, zero, suc, ◌+◌, ◌*◌, ◌≤◌, false, List, [], ◌∷◌, ◌++◌, length, refl, sym, ◌∙◌, ap, subst, arith}
+use Rattle.std.proofs.Common.{◌≡◌, ℕ, zero, suc, ◌+◌, ◌*◌, ◌≤◌, false, Some, List, [], ◌∷◌, ◌++◌, length, refl, sym, ◌∙◌, ap, subst, arith}
 use Rattle.access_ops.specs.declared.OpList.{OpList}
 use Rattle.air_channel.specs.Air.{AirValue}
 use Rattle.air_model.specs.Past.{Start, Item, ended, past_behind_command, exchanges_in, rounds_in}
@@ -8,12 +8,14 @@ use Rattle.air_world.specs.Playing.{RunValue, StandsAt, most_in_slot}
 use Rattle.command_grammar.specs.declared.commands.Command.{Command}
 use Rattle.q_round.specs.laws.SlotLaws.{slots-underway}
 use Rattle.q_round.specs.Rounds.{AreOutcomes, is_over, slots_of, next_command}
+use Rattle.q_round.specs.NextAnswer.{next_of}
 use Rattle.q_round.specs.RoundValue.{RoundValue, RoundStandsFor, IsNextAnswer}
 use Rattle.q_round.specs.SpecValue.{SpecValue, IsLegalSpec}
 use Rattle.q_round.specs.declared.frame.Outcome.{Outcome}
 use Rattle.q_round.specs.declared.round.Next.{Next}
 use Rattle.q_round.specs.declared.round.Next.TheVariants as nexts
 use Rattle.q_round.specs.declared.round.RoundEnd.{RoundEnd}
+use Rattle.q_round.specs.declared.round.RoundEnd.TheVariants as ends
 use Rattle.report_lines.specs.ReportLine.{ReportLine, RoundLine}
 use Rattle.runs.specs.laws.Growth.{Grows, answer-keeps, turns-grow}
 use Rattle.runs.specs.laws.PlayedRounds.{PlayedRound, past_behind_played}
@@ -152,7 +154,7 @@ round-goes-on played here past u s after next fits answers =
     }
 
 -- the past that the end of a round leaves
-pub round-left : (played : PlayedRound) (here : RoundSoFar) (past : List Item) (u : IsInRound played here past) (s : SlotPlayed played here past u.outcomes)
+round-left : (played : PlayedRound) (here : RoundSoFar) (past : List Item) (u : IsInRound played here past) (s : SlotPlayed played here past u.outcomes)
     (after : RoundValue) (next : Next) → IsNextAnswer next after played.spec (s.outcome ∷ u.outcomes)
     → past_behind_turn (past_behind_turns u.left played.start played.operations here.number played.spec) played.start played.operations here.number (s.outcome ∷ u.outcomes)
     (past_behind_numbered played here s.slot past) next
@@ -162,6 +164,13 @@ round-left played here past u s after next answers =
     ap (λ (n : Next). past_behind_turn (past_behind_turns u.left start played.operations here.number played.spec) start played.operations here.number (s.outcome ∷ u.outcomes)
     (past_behind_numbered played here s.slot past) n) (answers.next start.link)
     ∙ turn-rest played here past u s
+
+-- ... with that end, whichever of the two it is
+pub round-ends : (played : PlayedRound) (here : RoundSoFar) (past : List Item) (u : IsInRound played here past) (s : SlotPlayed played here past u.outcomes)
+    (after : RoundValue) (end : RoundEnd) (command : Command) → IsNextAnswer (next_of (Some end) command) after played.spec (s.outcome ∷ u.outcomes)
+    → ended here.number end (length (s.outcome ∷ u.outcomes)) ∷ past_behind_numbered played here s.slot past ≡ past_behind_played played
+round-ends played here past u s after ends.Quiet command answers = round-left played here past u s after nexts.Quiet answers
+round-ends played here past u s after ends.Limit command answers = round-left played here past u s after nexts.Limit answers
 
 -- what is past behind a slot leads to what is past behind the round
 pub slot-leads : (played : PlayedRound) (here : RoundSoFar) (past : List Item) (u : IsInRound played here past) (s : SlotPlayed played here past u.outcomes)

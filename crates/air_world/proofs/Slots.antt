@@ -13,7 +13,7 @@ use Rattle.air_model.specs.laws.GivenLaws.{given_is_read}
 use Rattle.air_model.specs.laws.ReceptionLaws.{stream_reception}
 use Rattle.air_model.specs.declared.got.Got.TheVariants as gots
 use Rattle.air_world.proofs.Passing.{Listening, IsTold, passes-then, RunBehind, Stands}
-use Rattle.air_world.specs.Heard.{pair_received, rn16_received}
+use Rattle.reply_wire.specs.Heard.{pair_received, rn16_received}
 use Rattle.air_world.specs.Playing.{RunValue, IsAt, StandsAt, HasRoom}
 use Rattle.air_world.specs.Telling.{Passes, lines_behind}
 use Rattle.command_grammar.specs.declared.commands.Command.{Command}

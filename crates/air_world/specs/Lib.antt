@@ -2,7 +2,6 @@ pub mod NewAir
 pub mod Telling
 pub mod Playing
 pub mod Saying
-pub mod Heard
 pub mod Listing
 pub mod Counting
 pub mod laws

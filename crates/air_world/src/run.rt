@@ -1,14 +1,16 @@
 //! A run that is under way.
 ghost use Rattle.std.specs.Prelude.{◌≡◌, ℕ, ◌+◌, ◌≤◌, ◌++◌, ◌||◌, length, List, [], ◌∷◌, Some, None, OnOk, IfErr, IfOk};
+ghost use Rattle.access_ops.specs.declared.op_next.Answer.TheVariants.{Got as GotAnswer};
 ghost use Rattle.air_model.specs.Channel.{got_of, heard_levels};
 ghost use Rattle.air_model.specs.Past.{Item, Start, next_record, past_behind_command};
-ghost use Rattle.air_world.specs.Heard.{rn16_received, pair_received};
+ghost use Rattle.reply_wire.specs.Heard.{rn16_received, pair_received};
 ghost use Rattle.air_events.specs.Streams.{longest_stream};
 ghost use Rattle.air_world.specs.Playing.{IsAt, StandsAt, IsBetweenSteps, IsEndedBy, IsUnderway, last_exchange_lines, most_in_slot};
 ghost use Rattle.air_world.specs.Telling.{Ends, IsCutOff, Passes, lines_behind};
 ghost use Rattle.runs.specs.Report.{exchange_lines};
 ghost use Rattle.line_codes.specs.Codes.{table_of};
 ghost use Rattle.reply_grammar.specs.Reception.{reception_from};
+ghost use Rattle.reply_grammar.specs.declared.expected.Received.{Received};
 ghost use Rattle.reply_wire.specs.Received.{IsReceived};
 ghost use Rattle.report_lines.specs.ReportLine.{ReportLine, ListLine, RoundLine};
 ghost use Rattle.runs.specs.History.{outcome_of, past_behind_ack, past_behind_round, past_behind_slot, slot_reception};
@@ -19,14 +21,15 @@ mod report;
 mod saying;
 mod steps;
 
-use crate::receiving::{receive_epc, receive_last, receive_rn16};
-use access_ops::OpList;
+use crate::receiving::receive_last;
+use access_ops::{Answer, OpList};
 use air_channel::{Air, Got};
 use air_events::{Entry, EntryCursor};
 use bit_strings::Bits;
 use command_grammar::Command;
-use q_round::{Next, Outcome, Round, RoundEnd, RoundSpec, round_laws};
-use reply_grammar::{EpcWords, Expect, Received};
+use q_round::{Outcome, Round, RoundEnd, RoundSpec, round_laws};
+use reply_grammar::{EpcWords, Expect};
+use reply_wire::{receive_epc, receive_rn16};
 pub(crate) use report::tell_link;
 use report_lines::{Line, Listener, PlayFault};
 use saying::say;
@@ -102,7 +105,8 @@ impl<'a, L: Ledger> Run<'a, L> {
         ensures same { self.new ≡ self.old }
         ensures received { (received : Received) × IsReceived (table_of air.now.link.code) air.now.link.trext Expect.Rn16 air.now.stream received × (result ≡ rn16_received (reception_from received)) }
     {
-        receive_rn16(air, &mut self.bits)
+        let link = air.link();
+        receive_rn16(air.stream(), link.code(), link.trext(), &mut self.bits)
     }
 
     /// The PC and the EPC of the stream that came last, if they come whole.
@@ -110,15 +114,17 @@ impl<'a, L: Ledger> Run<'a, L> {
         ensures same { self.new ≡ self.old }
         ensures received { (received : Received) × IsReceived (table_of air.now.link.code) air.now.link.trext Expect.Epc air.now.stream received × (result ≡ pair_received (reception_from received)) }
     {
-        receive_epc(air, &mut self.bits)
+        let link = air.link();
+        receive_epc(air.stream(), link.code(), link.trext(), &mut self.bits)
     }
 
-    /// What is received of the stream that came last, with the extended preamble or by the TRext of the link.
-    fn hear(&mut self, air: &Air, expect: &Expect, extended: bool) -> Received
+    /// Gives what is received of the stream that came last, with the extended preamble or by the TRext of the link, as what is
+    /// heard.
+    fn hear(&mut self, air: &Air, expect: &Expect, extended: bool, answer: &mut Answer)
         ensures same { self.new ≡ self.old }
-        ensures received { IsReceived (table_of air.now.link.code) (extended || air.now.link.trext) expect.now air.now.stream result }
+        ensures received { (received : Received) × (answer.new ≡ GotAnswer received) × IsReceived (table_of air.now.link.code) (extended || air.now.link.trext) expect.now air.now.stream received }
     {
-        receive_last(air, expect, extended, &mut self.bits)
+        receive_last(air, expect, extended, &mut self.bits, answer)
     }
 
     /// Plays a round, and says how it ended.
@@ -145,16 +151,9 @@ impl<'a, L: Ledger> Run<'a, L> {
             let slot = round.slots_sent();
             let outcome = self.play_slot(air, number, slot, &command, operations, report);
             check(report)?;
-            match round.next(outcome) {
-                Next::Send(next) => command = next,
-                Next::Quiet => {
-                    self.end_round(number, RoundEnd::Quiet, slot, report);
-                    return Ok(RoundEnd::Quiet);
-                }
-                Next::Limit => {
-                    self.end_round(number, RoundEnd::Limit, slot, report);
-                    return Ok(RoundEnd::Limit);
-                }
+            if let Some(end) = round.next_to(outcome, &mut command) {
+                self.end_round(number, end, slot, report);
+                return Ok(end);
             }
         }
     }

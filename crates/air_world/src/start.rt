@@ -1,8 +1,8 @@
 //! The air of a scenario.
-ghost use Rattle.std.specs.Prelude.{◌≡◌, ◌<◌, ◌≤◌, ◌^◌, ◌++◌, All, IfOk, OnOk, length, map};
+ghost use Rattle.std.specs.Prelude.{◌≡◌, ◌<◌, ◌≤◌, ◌^◌, ◌++◌, IfOk, OnOk, length, map};
 ghost use Rattle.air_world.specs.NewAir.{IsGroupOfTags, new_air};
 ghost use Rattle.runs.specs.ScenarioStart.{start_of, tag_of};
-ghost use Rattle.scenario.specs.Groups.{copies_of, copy_of, raised, raised_at, tags_of};
+ghost use Rattle.scenario.specs.Groups.{copies_of, copy_of, raised, raised_at};
 ghost use Rattle.scenario.specs.Limits.{IsScenario};
 ghost use Rattle.scenario_lines.specs.TagForm.{IsTag, epc_length};
 ghost use Rattle.tag_machine.specs.Hearing.{tag_value_of};
@@ -88,24 +88,17 @@ fn push_group(alloc: Global, tags: &mut Vec<AnyTag>, group: &TagGroup) -> Result
     Ok(())
 }
 
-/// The tags of a scenario, group by group.
-fn new_tags(alloc: Global, groups: &[TagGroup]) -> Result<Vec<AnyTag>, OutOfMemory>
-    requires { All IsGroupOfTags groups.now }
-    ensures { IfOk result (λ tags. map tag_value_of tags.items ≡ map tag_of (tags_of groups.now)) }
+/// The tags of a scenario as they are at the start, group by group.
+pub fn tags_at_start(alloc: Global, scenario: &Scenario) -> Result<Vec<AnyTag>, OutOfMemory>
+    requires { IsScenario scenario.now }
+    ensures { IfOk result (λ tags. map tag_value_of tags.items ≡ (start_of scenario.now).tags) }
 {
+    let groups = scenario.groups.as_slice();
     let mut tags = Vec::new(alloc);
     for group in groups {
         push_group(alloc, &mut tags, group)?;
     }
     Ok(tags)
-}
-
-/// The tags of a scenario as they are at the start.
-pub fn tags_at_start(alloc: Global, scenario: &Scenario) -> Result<Vec<AnyTag>, OutOfMemory>
-    requires { IsScenario scenario.now }
-    ensures { IfOk result (λ tags. map tag_value_of tags.items ≡ (start_of scenario.now).tags) }
-{
-    new_tags(alloc, scenario.groups.as_slice())
 }
 
 /// The air of a scenario: its link, its tags as they are at the start, what the channel gives of several replies, and no exchange

@@ -10,7 +10,7 @@ ghost use Rattle.tag_machine.specs.laws.Replies.{expect_of, expect_of_read};
 
 use bit_strings::{Bits, Count1};
 use command_grammar::Command;
-use reply_grammar::{Expect, Reply, decode_reply};
+use reply_grammar::{Expect, Reply, decode_reply_to, reply_laws};
 use tag_machine::StateNumbers;
 
 /// Whether a tag that holds these numbers holds the first half of a password.
@@ -59,14 +59,17 @@ pub fn expectation_of(command: &Command, unfinished: bool) -> Option<Expect>
     }
 }
 
-/// The reply that bits are, of which it is known that they answer what is expected.
-pub fn reply_of(bits: &Bits, expect: &Option<Expect>) -> Reply
-    requires { (reply : Reply) × IsSomeAnd expect.now (λ it. AnswersExpected reply it bits.now.items) }
-    ensures { (reply : Reply) → IsSomeAnd expect.now (λ it. AnswersExpected reply it bits.now.items) → result ≡ reply }
+/// Gives the reply that bits are, of which it is known that they answer what is expected, in place of another one. A reply has room for
+/// the longest list of words, and none is copied so.
+pub fn expected_reply_to(bits: &Bits, expect: &Option<Expect>, reply: &mut Reply)
+    requires { (answer : Reply) × IsSomeAnd expect.now (λ it. AnswersExpected answer it bits.now.items) }
+    ensures { (answer : Reply) → IsSomeAnd expect.now (λ it. AnswersExpected answer it bits.now.items) → reply.new ≡ answer }
 {
+    // By this law bits are one reply that is expected, or are refused.
+    reply_laws();
     let Some(expect) = expect else { unreachable!() };
-    match decode_reply(bits, expect) {
-        Ok(reply) => reply,
+    match decode_reply_to(bits, expect, reply) {
+        Ok(()) => {}
         Err(_) => unreachable!(),
     }
 }

@@ -6,4 +6,4 @@ mod answers;
 mod expectation;
 
 pub use answers::reply_to;
-pub use expectation::{expectation_of, has_half, reply_of};
+pub use expectation::{expectation_of, expected_reply_to, has_half};

@@ -1,4 +1,5 @@
 -- What reading does, field by field and bit by bit, and that it is what the spellings of commands say.
+pub mod AccessCommands
 pub mod BitRuns
 pub mod ChoiceTables
 pub mod CommandFields
@@ -14,5 +15,6 @@ pub mod NamedFields
 pub mod NumberFields
 pub mod Readers
 pub mod Resuming
+pub mod ShortCommands
 pub mod WholeReading
 pub mod WordFields

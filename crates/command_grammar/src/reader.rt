@@ -1,10 +1,12 @@
 //! Reading a command, bit by bit: its code, then its fields in their order, one stage after another.
 
+mod access;
 mod check;
 mod codes;
 mod decoding;
 mod fields;
 mod framer;
+mod short;
 mod stage;
 mod state;
 

@@ -7,7 +7,8 @@ use Rattle.command_grammar.specs.declared.kinds.CommandKind.{CommandKind}
 use Rattle.command_grammar.specs.declared.kinds.CommandKind.TheVariants as kinds
 use Rattle.command_grammar.specs.declared.commands.Command.{Command}
 use Rattle.command_grammar.specs.declared.commands.Command.TheVariants.{Select}
-use Rattle.command_text.specs.CommandText.{IsCommandBehind, other_command_fields}
+use Rattle.text_fields.specs.NamedFields.{AreFilled}
+use Rattle.command_text.specs.CommandText.{IsCommandBehind, command_field_count, other_command_fields}
 
 no_select : (kind : CommandKind) (fields : List (List ℕ)) → kind ≡ kinds.Select
     → ((target : FlagName) (action : ℕ) (bank : MaskBank) (pointer : ℕ) (mask : List Bool) → action ≤ 7 → pointer < 2 ^ 28 → length mask ≤ 255 → fields ≢ other_command_fields (Select target action bank pointer mask))
@@ -15,8 +16,8 @@ no_select : (kind : CommandKind) (fields : List (List ℕ)) → kind ≡ kinds.S
 no_select kind fields this none (Select target action bank pointer mask) is = none target action bank pointer mask is.in_range.0 is.in_range.1 is.in_range.2 is.spelling
 no_select kind fields this none command is = let same = is.same_kind ∙ this in cc
 
-pub no_select_read : (result : Option Command) (kind : CommandKind) (fields : List (List ℕ)) → kind ≡ kinds.Select
-    → IfNone result ((target : FlagName) (action : ℕ) (bank : MaskBank) (pointer : ℕ) (mask : List Bool) → action ≤ 7 → pointer < 2 ^ 28 → length mask ≤ 255 → fields ≢ other_command_fields (Select target action bank pointer mask))
-    → IfNone result ((command : Command) → ¬ IsCommandBehind kind fields command)
-no_select_read None kind fields this none = no_select kind fields this none
-no_select_read (Some command) kind fields this none = tt
+pub no_select_read : {A : Type 0} (result : Option A) (kind : CommandKind) (fields : List (List ℕ)) → kind ≡ kinds.Select
+    → (AreFilled 5 fields → (target : FlagName) (action : ℕ) (bank : MaskBank) (pointer : ℕ) (mask : List Bool) → action ≤ 7 → pointer < 2 ^ 28 → length mask ≤ 255 → fields ≢ other_command_fields (Select target action bank pointer mask))
+    → IfNone result (AreFilled (command_field_count kind) fields → (command : Command) → ¬ IsCommandBehind kind fields command)
+no_select_read None kind fields this none = λ filled. no_select kind fields this (none (rw this at filled))
+no_select_read (Some value) kind fields this none = tt

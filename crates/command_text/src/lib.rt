@@ -21,5 +21,5 @@ pub use names::{
     side_name, side_named,
 };
 pub use payloads::{payload_of, push_next_payload};
-pub use reading::read_command;
+pub use reading::{read_command, read_command_to};
 pub use refusals::push_command_refusal;

@@ -5,7 +5,7 @@ ghost use Rattle.text_fields.specs.Hexadecimal.{hex_words};
 ghost use Rattle.text_fields.specs.WordLists.{IsWordList};
 
 use command_fields::{BlockWords, Mask};
-use text_fields::{Words, list_digits};
+use text_fields::{list_digits, words_from};
 
 /// The mask of at most 255 bits that a field spells.
 pub fn mask_of(field: &[u8]) -> Option<Mask>
@@ -49,10 +49,9 @@ pub fn block_of(field: &[u8]) -> Option<BlockWords>
     ensures value { IfSome result (λ block. (field.now ≡ hex_words block) × IsWordList 1 255 block) }
     ensures only { (words : List ℕ) → IsWordList 1 255 words → field.now ≡ hex_words words → IsSomeAnd result (λ block. block ≡ words) }
 {
-    let mut words = Words::new(field, 255)?;
-    let mut block = BlockWords::first(words.take_first()?);
-    while let Some(word) = words.take_first() {
-        block.push_reserved(word);
-    }
-    Some(block)
+    let words = words_from(field, 1, 255)?;
+    let mut room = [0_u16; 255];
+    let block = &mut room[..words.len() as usize];
+    words.write_to(block);
+    Some(BlockWords::of(block))
 }

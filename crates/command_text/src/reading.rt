@@ -1,5 +1,5 @@
 //! Commands, read from the fields of a line. Nothing here takes memory.
-ghost use Rattle.std.specs.Prelude.{◌≡◌, IfSome, IfNone, IfOk, IfErr, IsOkAnd};
+ghost use Rattle.std.specs.Prelude.{◌≡◌, IsSome, IfNone, IfOk, IfErr, IsOk, IsOkAnd};
 ghost use Rattle.text_fields.specs.NamedFields.{AreFilled};
 ghost use Rattle.command_grammar.specs.declared.commands.Command.{Command};
 ghost use Rattle.command_text.specs.CommandText.{IsCommandBehind, IsCommandText, IsFaultyCommand, command_field_count};
@@ -10,62 +10,75 @@ mod select;
 
 use crate::kinds::{command_named, field_count};
 use access::{
-    read_block_erase, read_block_write, read_lock, read_read, read_two_words, read_write,
+    read_block_erase_to, read_block_write_to, read_lock_to, read_read_to, read_two_words,
+    read_write_to,
 };
 use command_grammar::{Command, CommandKind};
-use inventory::{read_query, read_query_adjust, read_session, read_word};
-use select::read_select;
-use text_fields::{Fields, FieldsFault, are_filled};
+use inventory::{read_query_adjust_to, read_query_to, read_session, read_word};
+use select::read_select_to;
+use text_fields::{Fields, FieldsFault, are_filled, is_at_end};
 
-/// The command that the fields behind its name spell.
-fn read_behind(kind: CommandKind, fields: Fields) -> Option<Command>
-    requires { AreFilled (command_field_count kind) fields }
-    ensures value { IfSome result (IsCommandBehind kind fields.entry) }
-    ensures none { IfNone result ((command : Command) → ¬ IsCommandBehind kind fields.entry command) }
+/// Puts in place of another the command that the fields behind its name spell.
+fn read_behind_to(kind: CommandKind, fields: Fields, command: &mut Command) -> Option<()>
+    ensures value { IsSome result → IsCommandBehind kind fields.entry command.new }
+    ensures none { IfNone result (AreFilled (command_field_count kind) fields.entry → (other : Command) → ¬ IsCommandBehind kind fields.entry other) }
 {
     match kind {
-        CommandKind::QueryRep => Some(Command::QueryRep {
-            session: read_session(fields)?,
-        }),
-        CommandKind::Ack => Some(Command::Ack {
-            rn: read_word(fields)?,
-        }),
-        CommandKind::Query => read_query(fields),
-        CommandKind::QueryAdjust => read_query_adjust(fields),
-        CommandKind::Select => read_select(fields),
-        CommandKind::Nak => Some(Command::Nak),
-        CommandKind::ReqRn => Some(Command::ReqRn {
-            rn: read_word(fields)?,
-        }),
-        CommandKind::Read => read_read(fields),
-        CommandKind::Write => read_write(fields),
+        CommandKind::QueryRep => {
+            *command = Command::QueryRep {
+                session: read_session(fields)?,
+            };
+        }
+        CommandKind::Ack => {
+            *command = Command::Ack {
+                rn: read_word(fields)?,
+            };
+        }
+        CommandKind::Query => read_query_to(fields, command)?,
+        CommandKind::QueryAdjust => read_query_adjust_to(fields, command)?,
+        CommandKind::Select => read_select_to(fields, command)?,
+        CommandKind::Nak => {
+            if !is_at_end(fields) {
+                return None;
+            }
+            *command = Command::Nak;
+        }
+        CommandKind::ReqRn => {
+            *command = Command::ReqRn {
+                rn: read_word(fields)?,
+            };
+        }
+        CommandKind::Read => read_read_to(fields, command)?,
+        CommandKind::Write => read_write_to(fields, command)?,
         CommandKind::Kill => {
             let (covered, rn) = read_two_words(fields)?;
-            Some(Command::Kill { covered, rn })
+            *command = Command::Kill { covered, rn };
         }
-        CommandKind::Lock => read_lock(fields),
+        CommandKind::Lock => read_lock_to(fields, command)?,
         CommandKind::Access => {
             let (covered, rn) = read_two_words(fields)?;
-            Some(Command::Access { covered, rn })
+            *command = Command::Access { covered, rn };
         }
-        CommandKind::BlockWrite => read_block_write(fields),
-        CommandKind::BlockErase => read_block_erase(fields),
+        CommandKind::BlockWrite => read_block_write_to(fields, command)?,
+        CommandKind::BlockErase => read_block_erase_to(fields, command)?,
     }
+    Some(())
 }
 
-/// The command that fields spell: its name, and its fields in the order in which they are sent (6.3.2.11 of
-/// the standard), as [`push_command`](crate::push_command) writes them.
+/// Puts in place of another the command that fields spell: its name, and its fields in the order in which they are
+/// sent (6.3.2.11 of the standard), as [`push_command`](crate::push_command) writes them. A command has room for the longest
+/// mask and the longest list of words, so that one that is handed on by value is copied and filled with zeros again and again.
 ///
 /// # Errors
 ///
 /// The first reason for which the fields spell no command: [`FieldsFault::Word`] where the first field is
 /// the name of none; [`FieldsFault::Shape`] where there is no field, or the number of those behind the name
 /// is wrong or one is empty; [`FieldsFault::Number`] where one isn't of its form or in its range.
-pub fn read_command(mut fields: Fields) -> Result<Command, FieldsFault>
+pub fn read_command_to(mut fields: Fields, command: &mut Command) -> Result<(), FieldsFault>
     // What is read is spelled so.
-    ensures ok { IfOk result (IsCommandText fields.entry) }
+    ensures ok { IsOk result → IsCommandText fields.entry command.new }
     // What is spelled so is read.
-    ensures only { (command : Command) → IsCommandText fields.entry command → IsOkAnd result (λ it. it ≡ command) }
+    ensures only { (spelled : Command) → IsCommandText fields.entry spelled → IsOk result × (command.new ≡ spelled) }
     ensures refused { IfErr result (IsFaultyCommand fields.entry) }
 {
     let Some(name) = fields.next() else {
@@ -74,11 +87,25 @@ pub fn read_command(mut fields: Fields) -> Result<Command, FieldsFault>
     let Some(kind) = command_named(name) else {
         return Err(FieldsFault::Word);
     };
-    if !are_filled(&fields, field_count(kind)) {
-        return Err(FieldsFault::Shape);
+    match read_behind_to(kind, fields.again(), command) {
+        Some(()) => Ok(()),
+        // The number of fields is looked at only where they spell none.
+        None if are_filled(&fields, field_count(kind)) => Err(FieldsFault::Number),
+        None => Err(FieldsFault::Shape),
     }
-    match read_behind(kind, fields) {
-        Some(command) => Ok(command),
-        None => Err(FieldsFault::Number),
-    }
+}
+
+/// The command that fields spell, as [`read_command_to`] reads it.
+///
+/// # Errors
+///
+/// As for [`read_command_to`].
+pub fn read_command(fields: Fields) -> Result<Command, FieldsFault>
+    ensures ok { IfOk result (IsCommandText fields.entry) }
+    ensures only { (command : Command) → IsCommandText fields.entry command → IsOkAnd result (λ it. it ≡ command) }
+    ensures refused { IfErr result (IsFaultyCommand fields.entry) }
+{
+    let mut command = Command::Nak;
+    read_command_to(fields, &mut command)?;
+    Ok(command)
 }

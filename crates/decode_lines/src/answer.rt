@@ -26,7 +26,7 @@ use pie_line::{FrameKind, Intervals, PieRefusal, decode_frame};
 use pie_text::{Numbers, push_frame, push_pie_refusal};
 use reply_grammar::{Expect, Received, Reply, ReplyRefusal, decode_reply};
 use reply_text::{push_reply, push_reply_refusal};
-use reply_wire::receive;
+use reply_wire::receive_to;
 use sample_slicer::{SliceRefusal, slice_levels};
 use sgtin_text::{push_epc_fault, push_name, push_sgtin_words, push_uri_fault};
 use std::alloc::Global;
@@ -104,7 +104,7 @@ impl Workspace {
     }
 }
 
-/// Room for the levels, bits, samples, words and the command of the longest line.
+/// Room for the levels, bits, samples, words, the command and the reply of the longest line.
 #[derive(Drop)]
 struct Rooms {
     levels: Levels,
@@ -112,6 +112,7 @@ struct Rooms {
     samples: Vec<u8>,
     words: Vec<u16>,
     command: Result<Command, CommandRefusal>,
+    received: Received,
     ghost levels_room: { levels.capacity ≡ most_levels },
     ghost bits_room: { bits.capacity ≡ most_levels },
 }
@@ -130,6 +131,8 @@ impl Rooms {
             words,
             // What no bits are.
             command: Err(CommandRefusal::Short(0)),
+            // What no levels are.
+            received: Received::Refused(0),
         })
     }
 
@@ -223,8 +226,15 @@ impl Rooms {
         ensures { OnOk result (AddsAnswer (Request.Heard code trext expect.now levels.now) (string_bytes text.old) (string_bytes text.new)) }
     {
         levels.copy_to(&mut self.levels);
-        let received = receive(&self.levels, code, trext, expect, &mut self.bits);
-        push_received(text, &received)
+        receive_to(
+            &self.levels,
+            code,
+            trext,
+            expect,
+            &mut self.bits,
+            &mut self.received,
+        );
+        push_received(text, &self.received)
     }
 
     /// Adds the frame that intervals are, or why they are none.

@@ -1,5 +1,6 @@
 //! FM0 baseband and its preamble.
-ghost use Rattle.std.specs.Prelude.{◌≡◌, ◌<◌, Some, ◌∷◌, [], not};
+ghost use Rattle.std.specs.Prelude.{◌≡◌, ◌<◌, Some, ◌∷◌, [], true};
+ghost use Rattle.line_code.specs.Stream.{blocks};
 ghost use Rattle.fm0_line.specs.Fm0.{fm0, fm0_second};
 ghost use Rattle.fm0_line.specs.laws.Fm0.{fm0_even, fm0_has_lead, fm0_tells_bits, fm0_refuses_flips, fm0_hides_lead};
 
@@ -36,16 +37,40 @@ const SYMBOLS: [[[bool; 2]; 2]; 2] = [
     [[true, false], [true, true]],
 ];
 
-/// The levels of two symbols, one behind the other, by the first of them and by their bits.
-const TWO_SYMBOLS: [[[[bool; 4]; 2]; 2]; 2] = [
-    [
-        [[false, true, false, true], [false, true, false, false]],
-        [[false, false, true, false], [false, false, true, true]],
-    ],
-    [
-        [[true, false, true, false], [true, false, true, true]],
-        [[true, true, false, true], [true, true, false, false]],
-    ],
+/// The levels of four symbols, one behind the other. The level before them and their bits are the digits of the row's number.
+const FOUR_SYMBOLS: [[bool; 8]; 32] = [
+    [true, false, true, false, true, false, true, false],
+    [true, false, true, false, true, false, true, true],
+    [true, false, true, false, true, true, false, true],
+    [true, false, true, false, true, true, false, false],
+    [true, false, true, true, false, true, false, true],
+    [true, false, true, true, false, true, false, false],
+    [true, false, true, true, false, false, true, false],
+    [true, false, true, true, false, false, true, true],
+    [true, true, false, true, false, true, false, true],
+    [true, true, false, true, false, true, false, false],
+    [true, true, false, true, false, false, true, false],
+    [true, true, false, true, false, false, true, true],
+    [true, true, false, false, true, false, true, false],
+    [true, true, false, false, true, false, true, true],
+    [true, true, false, false, true, true, false, true],
+    [true, true, false, false, true, true, false, false],
+    [false, true, false, true, false, true, false, true],
+    [false, true, false, true, false, true, false, false],
+    [false, true, false, true, false, false, true, false],
+    [false, true, false, true, false, false, true, true],
+    [false, true, false, false, true, false, true, false],
+    [false, true, false, false, true, false, true, true],
+    [false, true, false, false, true, true, false, true],
+    [false, true, false, false, true, true, false, false],
+    [false, false, true, false, true, false, true, false],
+    [false, false, true, false, true, false, true, true],
+    [false, false, true, false, true, true, false, true],
+    [false, false, true, false, true, true, false, false],
+    [false, false, true, true, false, true, false, true],
+    [false, false, true, true, false, true, false, false],
+    [false, false, true, true, false, false, true, false],
+    [false, false, true, true, false, false, true, true],
 ];
 
 /// The second level of a symbol whose first level is this.
@@ -55,11 +80,22 @@ fn second_level(first: bool, bit: bool) -> bool
     if bit { first } else { !first }
 }
 
-/// The levels of two symbols, one behind the other, by the first of them and by their bits.
-fn two_symbols(level: bool, first: bool, second: bool) -> &'static [bool]
-    ensures { result.now ≡ level ∷ fm0_second level first ∷ not (fm0_second level first) ∷ fm0_second (not (fm0_second level first)) second ∷ [] }
+/// The levels of four symbols, one behind the other, by the level before them and by their bits.
+fn four_symbols(
+    before: bool,
+    first: bool,
+    second: bool,
+    third: bool,
+    fourth: bool,
+) -> &'static [bool; 8]
+    ensures { result.now ≡ blocks fm0 (record { before = true; phase = before }) (first ∷ second ∷ third ∷ fourth ∷ []) }
 {
-    &TWO_SYMBOLS[level as usize][first as usize][second as usize]
+    let row = 16 * (before as usize)
+        + 8 * (first as usize)
+        + 4 * (second as usize)
+        + 2 * (third as usize)
+        + fourth as usize;
+    &FOUR_SYMBOLS[row]
 }
 
 impl LineCode for Fm0 {
@@ -98,8 +134,13 @@ impl LineCode for Fm0 {
         }
     }
 
-    fn two_blocks(mark: SymbolBefore, first: bool, second: bool) -> &'static [bool] {
-        two_symbols(!mark.last_level, first, second)
+    fn four_blocks(mark: SymbolBefore, bits: &[bool; 4]) -> (&'static [bool], SymbolBefore) {
+        let levels = four_symbols(mark.last_level, bits[0], bits[1], bits[2], bits[3]);
+        let last = SymbolBefore {
+            bit: bits[3],
+            last_level: levels[7],
+        };
+        (levels, last)
     }
 
     fn four_bits(mark: SymbolBefore, levels: &[bool]) -> Option<([bool; 4], SymbolBefore)> {

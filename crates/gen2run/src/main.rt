@@ -6,12 +6,15 @@ mod tests;
 
 use air_io::{StdSink, StdSource};
 use std::env;
-use std::io::{self, ErrorKind};
+use std::io::{self, BufWriter, ErrorKind, Write};
 use std::process::ExitCode;
 use top_call::{Status, gen2run};
 
 /// The exit status where the words can't be had for another cause, as where one isn't UTF-8.
 const UNREADABLE_WORDS: u8 = 8;
+
+/// How many bytes are gathered before standard output is written to. A trace has hundreds of thousands of short lines.
+const PAGE_BYTES: usize = 65_536;
 
 fn main(rt: HostRuntime) -> ExitCode {
     let words = match program_words(&rt) {
@@ -22,9 +25,17 @@ fn main(rt: HostRuntime) -> ExitCode {
         ),
         Err(_) => return ExitCode::from(UNREADABLE_WORDS),
     };
+    let Ok(mut page) = BufWriter::with_capacity(rt.alloc(), PAGE_BYTES, rt.stdout()) else {
+        return ExitCode::from(Status::OutOfMemory.number());
+    };
     let mut input = StdSource::new(rt.stdin());
-    let mut output = StdSink::new(rt.stdout());
+    let mut output = StdSink::new(&mut page);
     let status = gen2run(rt.alloc(), &words, &mut input, &mut output);
+    // What is still on the page is written last, and that may fail as every write.
+    let status = match page.flush() {
+        Ok(()) => status,
+        Err(_) => Status::WriteFault,
+    };
     ExitCode::from(status.number())
 }
 

@@ -233,7 +233,8 @@ type Row = (&'static [u8], &'static [u8], &'static [u8]);
 /// Whether the next call is given this and answers that.
 fn goes_on(run: &mut OpRun, list: &OpList, given: u8, said: u8) -> Option<bool> {
     let answer = answer_of(given)?;
-    let next = run.next(list, answer.as_ref());
+    let mut next = OpNext::End;
+    run.next_to(list, answer.as_ref(), &mut next);
     Some(next == next_of(said)?)
 }
 

@@ -1,6 +1,6 @@
 //! What is received of levels, against levels written out by hand.
 use bit_strings::Bits;
-use reply_wire::{Code, Expect, Received, Reply, receive};
+use reply_wire::{Code, Expect, Received, Reply, receive_to};
 use std::alloc::Global;
 
 /// The levels of the RN16 A1B2 hexadecimal, in FM0 with TRext 0: 12 of the lead, 32 of the bits, and 2
@@ -21,7 +21,9 @@ fn received(alloc: Global, code: Code, expect: &Expect, levels: &str) -> Option<
     if stream.len() > 100 || bits.capacity() != 100 {
         return None;
     }
-    let received = receive(&stream, code, false, expect, &mut bits);
+    // What was received before goes.
+    let mut received = Received::Whole(Reply::Header);
+    receive_to(&stream, code, false, expect, &mut bits, &mut received);
     Some((received, bits))
 }
 

@@ -2,3 +2,4 @@ pub mod Buffer
 pub mod Whole
 pub mod Steps
 pub mod Writing
+pub mod Words

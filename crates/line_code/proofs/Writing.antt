@@ -1,10 +1,13 @@
 -- What the encoder has written, and how much room it takes.
-use Rattle.std.proofs.Common.{◌≡◌, ℕ, ◌+◌, ◌*◌, ◌<◌, ◌≤◌, Bool, true, false, List, [], ◌∷◌, ◌++◌, length, take, drop, get_or, sym, ap, ◌∙◌, arith, append_assoc, length-append}
-use Rattle.std.proofs.lemmas.List.{append-nil, take_more, take_all, length-take-le, length-drop}
+use Rattle.std.proofs.Common.{◌≡◌, ℕ, ◌+◌, ◌*◌, ◌≤◌, Bool, true, List, [], ◌∷◌, ◌++◌, length, take, drop, sym, ap, ◌∙◌, arith, append_assoc, length-append}
+use Rattle.std.proofs.lemmas.List.{append-nil, take_all, take-take, take-append-drop, drop-take, length-take-le, length-drop}
+use Rattle.std.proofs.Math.Nat.{mul-add}
 use Rattle.std.proofs.Math.Seq.{take-append_seam}
+use Rattle.std.proofs.lemmas.Slice.{drop-append-drop}
 use Rattle.bit_strings.specs.BitString.{BitString}
 use Rattle.line_code.specs.Table.{Context, Table}
 use Rattle.line_code.specs.Stream.{blocks}
+use Rattle.line_code.specs.Overwriting.{with_levels_at}
 use Rattle.line_code.specs.States.{context_after}
 use Rattle.line_code.specs.TableFacts.{CodeTable}
 use Rattle.line_code.specs.laws.Splits.{blocks-append, context_after-append}
@@ -26,6 +29,56 @@ overwritten_size items block at within =
     let before = length-take-le at items (omega (arith, within)) in
     let behind = length-drop (at + length block) items in
     omega arith
+
+-- more levels behind those that were put over others
+over_over : (old : BitString) (at : ℕ) (first second : List Bool) → (at + length first) + length second ≤ length old.items
+    → with_levels_at (with_levels_at old at first) (at + length first) second ≡ with_levels_at old at (first ++ second)
+over_over old at first second within =
+    let front = take at old.items in
+    let behind = at + length first in
+    let items = (with_levels_at old at first).items in
+    let before : take behind items ≡ front ++ first = overwritten old.items first at (omega (arith, within)) in
+    let size : length (front ++ first) ≡ behind = length-append front first ∙ ap (λ n. n + length first) (length-take-le at old.items (omega (arith, within))) in
+    let rest : drop (behind + length second) items ≡ drop (behind + length second) old.items = drop-append-drop behind old.items (front ++ first) (behind + length second) (omega arith) size in
+    let levels : (take behind items ++ second) ++ drop (behind + length second) items ≡ (front ++ (first ++ second)) ++ drop (at + length (first ++ second)) old.items =
+    ap (λ ls. (ls ++ second) ++ drop (behind + length second) items) before
+    ∙ ap (λ ls. ((front ++ first) ++ second) ++ ls) rest
+    ∙ ap (λ ls. ls ++ drop (behind + length second) old.items) (append_assoc front first second)
+    ∙ ap (λ n. (front ++ (first ++ second)) ++ drop n old.items) (omega (arith, length-append first second)) in
+    ap (λ (ls : List Bool). record { items = ls; capacity = old.capacity }) levels
+
+-- blocks put over others leave as many levels as before
+pub size_over : (code : CodeTable) (c : Context) (bits : List Bool) (at : ℕ) (now new : BitString) → new ≡ with_levels_at now at (blocks code.table c bits)
+    → at + code.chips * length bits ≤ length now.items → length new.items ≡ length now.items
+size_over code c bits at now new new_is room =
+    let size = length-blocks code.table code.chips code.even bits c in
+    ap (λ (it : BitString). length it.items) new_is ∙ overwritten_size now.items (blocks code.table c bits) at (omega (arith, room, size))
+
+-- where blocks are put over others: the list that has these, the place, and the context of the first block
+pub record Place : Type 0 where
+  pub old : BitString
+  pub at : ℕ
+  pub context : Context
+
+-- the blocks of more bits, behind those that were put there
+pub blocks_over : (code : CodeTable) (place : Place) (bits more : List Bool) (now : BitString) (next : Context)
+    → now ≡ with_levels_at place.old place.at (blocks code.table place.context bits) → next ≡ context_after code.table place.context bits
+    → place.at + code.chips * (length bits + length more) ≤ length place.old.items
+    → with_levels_at now (place.at + code.chips * length bits) (blocks code.table next more) ≡ with_levels_at place.old place.at (blocks code.table place.context (bits ++ more))
+blocks_over code place bits more now next now_is next_is room =
+    let t = code.table in
+    let first = blocks t place.context bits in
+    let context = context_after t place.context bits in
+    let second = blocks t context more in
+    let first_size = length-blocks t code.chips code.even bits place.context in
+    let second_size = length-blocks t code.chips code.even more context in
+    let all = mul-add code.chips (length bits) (length more) in
+    let at = place.at + code.chips * length bits in
+    ap (λ it. with_levels_at it at (blocks t next more)) now_is
+    ∙ ap (λ c. with_levels_at (with_levels_at place.old place.at first) at (blocks t c more)) next_is
+    ∙ ap (λ n. with_levels_at (with_levels_at place.old place.at first) (place.at + n) second) (sym first_size)
+    ∙ over_over place.old place.at first second (omega (arith, room, first_size, second_size, all))
+    ∙ ap (with_levels_at place.old place.at) (sym (blocks-append t bits more place.context))
 
 -- more blocks, behind the lead and the blocks before
 pub more_blocks : (t : Table) (lead bits more : List Bool) (c : Context)
@@ -131,12 +184,8 @@ writes_last code lead bits step all last =
     ∙ put_levels code lead bits more now new (omega (arith, last)) put step.written
     ∙ ap (λ bs. lead ++ blocks t t.start bs) (sym all)
 
--- the next two bits
-pub take_two : (bits : List Bool) (n : ℕ) → n + 1 < length bits → take (n + 2) bits ≡ take n bits ++ get_or bits n false ∷ get_or bits (n + 1) false ∷ []
-take_two bits n within =
-    ap (λ k. take k bits) (add_two n) ∙ take_more bits (n + 1) false within
-    ∙ ap (λ bs. bs ++ get_or bits (n + 1) false ∷ []) (take_more bits n false (omega (arith, within)))
-    ∙ append_assoc (take n bits) (get_or bits n false ∷ []) (get_or bits (n + 1) false ∷ [])
-  where
-    add_two : (k : ℕ) → k + 2 ≡ (k + 1) + 1
-    add_two k = omega arith
+-- the next bits, so many
+pub take_next : (bits : List Bool) (n count : ℕ) → take (n + count) bits ≡ take n bits ++ take count (drop n bits)
+take_next bits n count =
+    let front = take (n + count) bits in
+    sym (take-append-drop n front) ∙ ap (λ ls. ls ++ drop n front) (take-take n (n + count) bits (omega arith)) ∙ ap (λ ls. take n bits ++ ls) (drop-take n count bits)

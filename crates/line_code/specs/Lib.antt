@@ -1,5 +1,6 @@
 pub mod Table
 pub mod Stream
+pub mod Overwriting
 pub mod TableFacts
 pub mod States
 pub mod Refusal

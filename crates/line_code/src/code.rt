@@ -68,9 +68,10 @@ pub trait LineCode {
         ensures some { IfSome result (λ bit. levels.now ≡ table.block (context_of mark) bit) }
         ensures none { IfNone result ((bit : Bool) → levels.now ≢ table.block (context_of mark) bit) };
 
-    /// The levels of the blocks of two bits, one behind the other.
-    fn two_blocks(mark: Self::Mark, first: bool, second: bool) -> &'static [bool]
-        ensures { result.now ≡ blocks table (context_of mark) (first ∷ second ∷ []) };
+    /// The levels of the blocks of four bits, one behind the other, and the mark of the bit that follows them.
+    fn four_blocks(mark: Self::Mark, bits: &[bool; 4]) -> (&'static [bool], Self::Mark)
+        ensures levels { result.0.now ≡ blocks table (context_of mark) bits.now }
+        ensures mark { context_of result.1 ≡ context_after table (context_of mark) bits.now };
 
     /// The four bits whose blocks, one behind the other, the levels are, and the mark of the bit that follows them; none exactly where they
     /// are no such blocks.

@@ -57,133 +57,61 @@ const SYMBOLS_8: [[[bool; 16]; 2]; 2] = [
     ],
 ];
 
-/// The levels of two symbols, one behind the other, with M = 2, by the phase at the start of the first and by their bits.
-const TWO_SYMBOLS_2: [[[[bool; 8]; 2]; 2]; 2] = [
-    [
+/// The levels of four symbols, one behind the other: those of their halves, of which one in phase 0 is `$high` and one in phase 1 `$low`. The
+/// phase at the start of the first symbol and their bits are the digits of the row's number.
+macro_rules! four_symbols {
+    ($high:expr, $low:expr) => {
         [
-            [true, false, true, false, false, true, false, true],
-            [true, false, true, false, true, false, false, true],
-        ],
-        [
-            [true, false, false, true, false, true, false, true],
-            [true, false, false, true, false, true, true, false],
-        ],
-    ],
-    [
-        [
-            [false, true, false, true, true, false, true, false],
-            [false, true, false, true, false, true, true, false],
-        ],
-        [
-            [false, true, true, false, true, false, true, false],
-            [false, true, true, false, true, false, false, true],
-        ],
-    ],
-];
+            [$high, $high, $low, $low, $high, $high, $low, $low],
+            [$high, $high, $low, $low, $high, $high, $high, $low],
+            [$high, $high, $low, $low, $low, $high, $high, $high],
+            [$high, $high, $low, $low, $low, $high, $high, $low],
+            [$high, $high, $high, $low, $low, $low, $high, $high],
+            [$high, $high, $high, $low, $low, $low, $low, $high],
+            [$high, $high, $high, $low, $low, $high, $high, $high],
+            [$high, $high, $high, $low, $low, $high, $high, $low],
+            [$high, $low, $low, $low, $high, $high, $low, $low],
+            [$high, $low, $low, $low, $high, $high, $high, $low],
+            [$high, $low, $low, $low, $low, $high, $high, $high],
+            [$high, $low, $low, $low, $low, $high, $high, $low],
+            [$high, $low, $low, $high, $high, $high, $low, $low],
+            [$high, $low, $low, $high, $high, $high, $high, $low],
+            [$high, $low, $low, $high, $high, $low, $low, $low],
+            [$high, $low, $low, $high, $high, $low, $low, $high],
+            [$low, $low, $high, $high, $low, $low, $high, $high],
+            [$low, $low, $high, $high, $low, $low, $low, $high],
+            [$low, $low, $high, $high, $high, $low, $low, $low],
+            [$low, $low, $high, $high, $high, $low, $low, $high],
+            [$low, $low, $low, $high, $high, $high, $low, $low],
+            [$low, $low, $low, $high, $high, $high, $high, $low],
+            [$low, $low, $low, $high, $high, $low, $low, $low],
+            [$low, $low, $low, $high, $high, $low, $low, $high],
+            [$low, $high, $high, $high, $low, $low, $high, $high],
+            [$low, $high, $high, $high, $low, $low, $low, $high],
+            [$low, $high, $high, $high, $high, $low, $low, $low],
+            [$low, $high, $high, $high, $high, $low, $low, $high],
+            [$low, $high, $high, $low, $low, $low, $high, $high],
+            [$low, $high, $high, $low, $low, $low, $low, $high],
+            [$low, $high, $high, $low, $low, $high, $high, $high],
+            [$low, $high, $high, $low, $low, $high, $high, $low],
+        ]
+    };
+}
 
-/// The levels of two symbols, one behind the other, with M = 4, by the phase at the start of the first and by their bits.
-const TWO_SYMBOLS_4: [[[[bool; 16]; 2]; 2]; 2] = [
-    [
-        [
-            [
-                true, false, true, false, true, false, true, false, false, true, false, true,
-                false, true, false, true,
-            ],
-            [
-                true, false, true, false, true, false, true, false, true, false, true, false,
-                false, true, false, true,
-            ],
-        ],
-        [
-            [
-                true, false, true, false, false, true, false, true, false, true, false, true,
-                false, true, false, true,
-            ],
-            [
-                true, false, true, false, false, true, false, true, false, true, false, true, true,
-                false, true, false,
-            ],
-        ],
-    ],
-    [
-        [
-            [
-                false, true, false, true, false, true, false, true, true, false, true, false, true,
-                false, true, false,
-            ],
-            [
-                false, true, false, true, false, true, false, true, false, true, false, true, true,
-                false, true, false,
-            ],
-        ],
-        [
-            [
-                false, true, false, true, true, false, true, false, true, false, true, false, true,
-                false, true, false,
-            ],
-            [
-                false, true, false, true, true, false, true, false, true, false, true, false,
-                false, true, false, true,
-            ],
-        ],
-    ],
-];
+/// The levels of four symbols with M = 2.
+const FOUR_SYMBOLS_2: [[[bool; 2]; 8]; 32] = four_symbols!([true, false], [false, true]);
 
-/// The levels of two symbols, one behind the other, with M = 8, by the phase at the start of the first and by their bits.
-const TWO_SYMBOLS_8: [[[[bool; 32]; 2]; 2]; 2] = [
-    [
-        [
-            [
-                true, false, true, false, true, false, true, false, true, false, true, false, true,
-                false, true, false, false, true, false, true, false, true, false, true, false,
-                true, false, true, false, true, false, true,
-            ],
-            [
-                true, false, true, false, true, false, true, false, true, false, true, false, true,
-                false, true, false, true, false, true, false, true, false, true, false, false,
-                true, false, true, false, true, false, true,
-            ],
-        ],
-        [
-            [
-                true, false, true, false, true, false, true, false, false, true, false, true,
-                false, true, false, true, false, true, false, true, false, true, false, true,
-                false, true, false, true, false, true, false, true,
-            ],
-            [
-                true, false, true, false, true, false, true, false, false, true, false, true,
-                false, true, false, true, false, true, false, true, false, true, false, true, true,
-                false, true, false, true, false, true, false,
-            ],
-        ],
-    ],
-    [
-        [
-            [
-                false, true, false, true, false, true, false, true, false, true, false, true,
-                false, true, false, true, true, false, true, false, true, false, true, false, true,
-                false, true, false, true, false, true, false,
-            ],
-            [
-                false, true, false, true, false, true, false, true, false, true, false, true,
-                false, true, false, true, false, true, false, true, false, true, false, true, true,
-                false, true, false, true, false, true, false,
-            ],
-        ],
-        [
-            [
-                false, true, false, true, false, true, false, true, true, false, true, false, true,
-                false, true, false, true, false, true, false, true, false, true, false, true,
-                false, true, false, true, false, true, false,
-            ],
-            [
-                false, true, false, true, false, true, false, true, true, false, true, false, true,
-                false, true, false, true, false, true, false, true, false, true, false, false,
-                true, false, true, false, true, false, true,
-            ],
-        ],
-    ],
-];
+/// The levels of four symbols with M = 4.
+const FOUR_SYMBOLS_4: [[[bool; 4]; 8]; 32] = four_symbols!(
+    [true, false, true, false],
+    [false, true, false, true]
+);
+
+/// The levels of four symbols with M = 8.
+const FOUR_SYMBOLS_8: [[[bool; 8]; 8]; 32] = four_symbols!(
+    [true, false, true, false, true, false, true, false],
+    [false, true, false, true, false, true, false, true]
+);
 
 /// The levels of the pilot, which has 16 symbols, and of the preamble with M = 2 and TRext 1.
 const LEAD_2: [bool; 88] = [
@@ -355,38 +283,48 @@ pub fn block_bit(m: u32, before: SymbolBefore, levels: &[bool]) -> Option<bool>
     }
 }
 
-/// The levels of two symbols, one behind the other, by the phase at the start of the first and by their bits.
-fn two_symbols(m: u32, start: bool, first: bool, second: bool) -> &'static [bool]
+/// The levels of four symbols, one behind the other, by the phase at the start of the first and by their bits.
+fn four_symbols(
+    m: u32,
+    start: bool,
+    first: bool,
+    second: bool,
+    third: bool,
+    fourth: bool,
+) -> &'static [bool]
     requires { IsOneOfThree m }
-    ensures { result.now ≡ symbol m start (middle_phase start first) ++ miller_block m (record { before = first; phase = middle_phase start first }) second ++ [] }
+    ensures { result.now ≡ symbol m start (middle_phase start first) ++ blocks (miller m) (record { before = first; phase = middle_phase start first }) (second ∷ third ∷ fourth ∷ []) }
 {
+    let row = 16 * (start as usize)
+        + 8 * (first as usize)
+        + 4 * (second as usize)
+        + 2 * (third as usize)
+        + fourth as usize;
     match m {
-        2 => &TWO_SYMBOLS_2[start as usize][first as usize][second as usize],
-        4 => &TWO_SYMBOLS_4[start as usize][first as usize][second as usize],
-        _ => &TWO_SYMBOLS_8[start as usize][first as usize][second as usize],
+        2 => FOUR_SYMBOLS_2[row].as_flattened(),
+        4 => FOUR_SYMBOLS_4[row].as_flattened(),
+        _ => FOUR_SYMBOLS_8[row].as_flattened(),
     }
 }
 
-/// The levels of the blocks of two bits, one behind the other.
-pub fn two_blocks(m: u32, before: SymbolBefore, first: bool, second: bool) -> &'static [bool]
+/// The levels of the blocks of four bits, one behind the other, and what stands before the bit that follows them.
+pub fn four_blocks(
+    m: u32,
+    before: SymbolBefore,
+    bits: &[bool; 4],
+) -> (&'static [bool], SymbolBefore)
     requires { IsOneOfThree m }
-    ensures { result.now ≡ blocks (miller m) (context before) (first ∷ second ∷ []) }
+    ensures levels { result.0.now ≡ blocks (miller m) (context before) bits.now }
+    ensures mark { context result.1 ≡ context_after (miller m) (context before) bits.now }
 {
-    two_symbols(m, phase_at_start(before, first), first, second)
-}
-
-/// Whether the levels are those of two lists, one behind the other.
-fn are_both(levels: &[bool], front: &[bool], back: &[bool]) -> bool
-    requires same { length front.now ≡ length back.now }
-    requires whole { length levels.now ≡ 2 * length front.now }
-    ensures { IsTrue result ↔ (levels.now ≡ front.now ++ back.now) }
-{
-    let (one, other) = levels.split_at(front.len());
-    let mut same = true;
-    for (at, level) in one.iter().enumerate() {
-        same &= (*level == front[at]) & (other[at] == back[at]);
-    }
-    same
+    let start = phase_at_start(before, bits[0]);
+    let levels = four_symbols(m, start, bits[0], bits[1], bits[2], bits[3]);
+    // The last level of a half tells its phase, since a half has an even number of levels.
+    let last = SymbolBefore {
+        bit: bits[3],
+        phase: levels[(8 * m - 1) as usize],
+    };
+    (levels, last)
 }
 
 /// The four bits whose blocks, one behind the other, the levels are, and what stands before the bit that follows them; none exactly where
@@ -402,14 +340,10 @@ pub fn four_bits(m: u32, before: SymbolBefore, levels: &[bool]) -> Option<([bool
     let second = bit_of_symbol(m, &levels[size..2 * size]);
     let third = bit_of_symbol(m, &levels[2 * size..3 * size]);
     let fourth = bit_of_symbol(m, &levels[3 * size..]);
-    let middle = after(after(before, first), second);
-    if are_both(
-        levels,
-        two_blocks(m, before, first, second),
-        two_blocks(m, middle, third, fourth),
-    ) {
-        let last = after(after(middle, third), fourth);
-        Some(([first, second, third, fourth], last))
+    let bits = [first, second, third, fourth];
+    let (blocks, behind) = four_blocks(m, before, &bits);
+    if is_block(levels, blocks) {
+        Some((bits, behind))
     } else {
         None
     }

@@ -1,5 +1,5 @@
 -- A decoder goes over data symbols.
-use Rattle.std.proofs.Common.{◌≡◌, ℕ, ◌+◌, ◌-◌, Bool, Ok, List, [], ◌∷◌, ◌++◌, length, ap, arith, length-append}
+use Rattle.std.proofs.Common.{◌≡◌, ℕ, ◌+◌, ◌-◌, ◌≤◌, Bool, Ok, List, [], ◌∷◌, ◌++◌, length, ap, arith, length-append}
 use Rattle.pie_line.specs.declared.frame.FrameKind.{FrameKind}
 use Rattle.pie_line.specs.declared.frame_state.FrameState.TheVariants.{High}
 use Rattle.pie_line.specs.Pie.{bit_of}
@@ -33,3 +33,12 @@ stands_symbol old kind high low bits intervals is symbol stands =
     let at = stands-at old (High kind) bits intervals is stands in
     standing-so (record { standing = old.standing; count = old.count + 2 }) (High kind) _ _ is
     (omega (arith, at.0, length-append intervals (high ∷ low ∷ [])), leads-symbol kind bits intervals high low symbol at.1)
+
+-- there is room for what is left, and it can be counted
+pub room_for_left : (old new : EdgesValue) (before after : List Bool) (intervals rest : List ℕ) (capacity : ℕ) → GoesOver old new before after intervals rest
+    → length before + length intervals ≤ capacity → length after + length rest ≤ capacity
+room_for_left old new before after intervals rest capacity over room = omega (arith, room, over.few, ap length over.cut, length-append over.taken rest)
+
+pub count_of_left : (old new : EdgesValue) (before after : List Bool) (intervals rest : List ℕ) (most : ℕ) → GoesOver old new before after intervals rest
+    → old.count + length intervals ≤ most → new.count + length rest ≤ most
+count_of_left old new before after intervals rest most over few = omega (arith, few, over.counted, ap length over.cut, length-append over.taken rest)

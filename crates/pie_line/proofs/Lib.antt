@@ -5,6 +5,7 @@ pub mod DecoderStandsFor
 pub mod Decoding
 pub mod FrameAnswers
 pub mod GoneOver
+pub mod Headers
 pub mod Leads
 pub mod OneAnswer
 pub mod Symbols

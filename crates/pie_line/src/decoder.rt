@@ -46,7 +46,10 @@ fn decode_intervals(intervals: &[u32], out: &mut Bits) -> Result<FrameKind, PieR
     ensures capacity { out.new.capacity ≡ out.old.capacity }
 {
     let mut edges = Edges::new();
-    let mut rest = intervals;
+    // Each frame but that of a Query begins with a frame-sync.
+    let behind_sync = edges.take_frame_sync(intervals, out);
+    let left = edges.take_symbols(behind_sync, out);
+    let mut rest = left;
     while let [interval, behind @ ..] = rest {
         match edges.push(*interval) {
             Edge::More => {}

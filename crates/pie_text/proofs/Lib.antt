@@ -1,3 +1,4 @@
 pub mod Decided
 pub mod LeadingNumbers
 pub mod Numerals
+pub mod PairTexts

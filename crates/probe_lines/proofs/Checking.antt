@@ -8,8 +8,8 @@ use Rattle.text_fields.specs.declared.fields_fault.FieldsFault.{FieldsFault}
 use Rattle.scenario_lines.specs.declared.tag.TagSpec.{TagSpec}
 use Rattle.probe_lines.specs.declared.fault.Fault.{Fault}
 use Rattle.probe_lines.specs.declared.fault.Fault.TheVariants.{Extra, End, Version}
-use Rattle.probe_lines.specs.declared.line.ProbeLine.TheVariants as lines
-use Rattle.probe_lines.specs.declared.line.Stimulus.{Stimulus}
+use Rattle.probe_lines.specs.Said as lines
+use Rattle.probe_lines.specs.Said.{Stimulus}
 use Rattle.probe_lines.specs.LineFaults.{IsFaultyProbeLine}
 use Rattle.probe_lines.specs.laws.LineLaws.{LineLaws}
 use Rattle.probe_lines.specs.ProbeLine.{SpellsProbeLine, SpellsTag, version_line}
@@ -74,7 +74,7 @@ pub record FirstStimulus (left : List (List ℕ)) : Type 0 where
   pub behind : List (List ℕ)
   pub cut : left ≡ line ∷ behind
   pub stimulus : Stimulus
-  pub spells : SpellsProbeLine (fields_of line) (lines.Stimulus stimulus)
+  pub spells : SpellsProbeLine (fields_of line) (lines.Does stimulus)
 
 -- one line more
 pub one_read : (all left : List (List ℕ)) (count : ℕ) (next : FirstStimulus left) → HasReadTo all left count → count < most_stimuli → HasReadTo all next.behind (count + 1)
@@ -88,7 +88,7 @@ one_read all left count next so_far room = record {
         behind = next.behind;
         cut = next.cut;
         next = within (count + 1);
-        goes = record { says = lines.Stimulus next.stimulus; spells = next.spells; room = room; leads = refl };
+        goes = record { says = lines.Does next.stimulus; spells = next.spells; room = room; leads = refl };
       }) (omega arith) is);
   says = λ said say few.
       so_far.says (next.stimulus ∷ said) (subst (λ (list : List (List ℕ)). SayStimuli list (next.stimulus ∷ said)) (sym next.cut) (next.spells, say)) (omega arith);
@@ -183,13 +183,13 @@ probe_cut text second =
 
 -- What the first line that is left says is done to the tag is the first that is done to it.
 first_of : LineLaws → (line : List ℕ) (behind : List (List ℕ)) (stimulus : Stimulus) (said : List Stimulus)
-    → SpellsProbeLine (fields_of line) (lines.Stimulus stimulus) → SayStimuli (line ∷ behind) said
+    → SpellsProbeLine (fields_of line) (lines.Does stimulus) → SayStimuli (line ∷ behind) said
     → (rest : List Stimulus) × (said ≡ stimulus ∷ rest) × SayStimuli behind rest
 first_of laws line behind stimulus [] spells say =
-    let same = laws.told (fields_of line) (lines.Stimulus stimulus) lines.End spells say.0 in
+    let same = laws.told (fields_of line) (lines.Does stimulus) lines.End spells say.0 in
     absurd cc
 first_of laws line behind stimulus (next ∷ rest) spells say =
-    let same = laws.told (fields_of line) (lines.Stimulus stimulus) (lines.Stimulus next) spells say.0 in
+    let same = laws.told (fields_of line) (lines.Does stimulus) (lines.Does next) spells say.0 in
     (rest, cc, say.1)
 
 pub first_left : LineLaws → (left : List (List ℕ)) (first : FirstStimulus left) (said : List Stimulus) → SayStimuli left said
@@ -208,7 +208,7 @@ left_behind laws left first said are =
 says_something : LineLaws → (line : List ℕ) (behind : List (List ℕ)) (said : List Stimulus) (fault : FieldsFault) → SayStimuli (line ∷ behind) said
     → IsFaultyProbeLine (fields_of line) fault → ⊥
 says_something laws line behind [] fault say faulty = laws.not_faulty (fields_of line) lines.End fault say.0 faulty
-says_something laws line behind (stimulus ∷ rest) fault say faulty = laws.not_faulty (fields_of line) (lines.Stimulus stimulus) fault say.0 faulty
+says_something laws line behind (stimulus ∷ rest) fault say faulty = laws.not_faulty (fields_of line) (lines.Does stimulus) fault say.0 faulty
 
 pub none_faulty : LineLaws → (left : List (List ℕ)) (line : List ℕ) (behind : List (List ℕ)) (said : List Stimulus) (fault : FieldsFault) → AreStimuli left said
     → left ≡ line ∷ behind → IsFaultyProbeLine (fields_of line) fault → ⊥

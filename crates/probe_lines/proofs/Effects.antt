@@ -5,10 +5,8 @@ use Rattle.bit_strings.specs.Family.{IsBadAt, IsShortAt}
 use Rattle.command_grammar.specs.Commands.{Spellings, SpellsCommand}
 use Rattle.command_grammar.specs.declared.commands.Command.{Command}
 use Rattle.tag_machine.specs.TagValue.{TagValue}
-use Rattle.probe_lines.specs.declared.effect.StimulusEffect.{StimulusEffect}
-use Rattle.probe_lines.specs.declared.effect.StimulusEffect.TheVariants.{Hears, Befalls, Nothing}
-use Rattle.probe_lines.specs.declared.line.Stimulus.{Stimulus}
-use Rattle.probe_lines.specs.declared.line.Stimulus.TheVariants as stimuli
+use Rattle.probe_lines.specs.Said.{Stimulus, StimulusEffect, Hears, Befalls, Nothing}
+use Rattle.probe_lines.specs.Said as stimuli
 use Rattle.probe_lines.specs.Answers.{HasEffect, Tells, first_number, text_from}
 
 -- what the laws of spellings say
@@ -19,15 +17,15 @@ pub record Known : Type 0 where
   pub not_short : (bits : List Bool) (count : ℕ) → Spellings bits → IsShortAt Spellings bits count → ⊥
 
 bits_effect : Known → (bits : List Bool) → Spellings bits ⊎ (IsShortAt Spellings bits (length bits) ⊎ ((place : ℕ) × IsBadAt Spellings bits place))
-    → (effect : StimulusEffect) × HasEffect (stimuli.Bits bits) effect
+    → (effect : StimulusEffect) × HasEffect (stimuli.SendsBits bits) effect
 bits_effect known bits (inl spelled) = (Hears spelled.0, spelled.1)
 bits_effect known bits (inr (inl short)) = (Nothing, λ command spells. known.not_short bits (length bits) (command, spells) short)
 bits_effect known bits (inr (inr bad)) = (Nothing, λ command spells. known.not_bad bits bad.0 (command, spells) bad.1)
 
 some_effect : Known → (stimulus : Stimulus) → (effect : StimulusEffect) × HasEffect stimulus effect
-some_effect known (stimuli.Command command) = (Hears command, refl)
-some_effect known (stimuli.Bits bits) = bits_effect known bits (known.some bits)
-some_effect known (stimuli.Event event) = (Befalls event, refl)
+some_effect known (stimuli.SendsCommand command) = (Hears command, refl)
+some_effect known (stimuli.SendsBits bits) = bits_effect known bits (known.some bits)
+some_effect known (stimuli.Brings event) = (Befalls event, refl)
 
 pub some_effects : Known → (said : List Stimulus) → (effects : List StimulusEffect) × AllZip HasEffect said effects
 some_effects known [] = ([], tt)
@@ -37,15 +35,15 @@ some_effects known (stimulus ∷ said) =
     (first.0 ∷ rest.0, (first.1, rest.1))
 
 one_effect : Known → (stimulus : Stimulus) (one other : StimulusEffect) → HasEffect stimulus one → HasEffect stimulus other → one ≡ other
-one_effect known (stimuli.Command command) one other has has' = has ∙ sym has'
-one_effect known (stimuli.Event event) one other has has' = has ∙ sym has'
-one_effect known (stimuli.Bits bits) (Hears c) (Hears d) has has' = ap Hears (known.one c d bits has has')
-one_effect known (stimuli.Bits bits) (Hears c) Nothing has has' = absurd (has' c has)
-one_effect known (stimuli.Bits bits) Nothing (Hears d) has has' = absurd (has d has')
-one_effect known (stimuli.Bits bits) Nothing Nothing has has' = refl
-one_effect known (stimuli.Bits bits) (Befalls event) other has has' = absurd has
-one_effect known (stimuli.Bits bits) (Hears c) (Befalls event) has has' = absurd has'
-one_effect known (stimuli.Bits bits) Nothing (Befalls event) has has' = absurd has'
+one_effect known (stimuli.SendsCommand command) one other has has' = has ∙ sym has'
+one_effect known (stimuli.Brings event) one other has has' = has ∙ sym has'
+one_effect known (stimuli.SendsBits bits) (Hears c) (Hears d) has has' = ap Hears (known.one c d bits has has')
+one_effect known (stimuli.SendsBits bits) (Hears c) Nothing has has' = absurd (has' c has)
+one_effect known (stimuli.SendsBits bits) Nothing (Hears d) has has' = absurd (has d has')
+one_effect known (stimuli.SendsBits bits) Nothing Nothing has has' = refl
+one_effect known (stimuli.SendsBits bits) (Befalls event) other has has' = absurd has
+one_effect known (stimuli.SendsBits bits) (Hears c) (Befalls event) has has' = absurd has'
+one_effect known (stimuli.SendsBits bits) Nothing (Befalls event) has has' = absurd has'
 
 pub one_effects : Known → (said : List Stimulus) (one other : List StimulusEffect) → AllZip HasEffect said one → AllZip HasEffect said other → one ≡ other
 one_effects known [] [] [] has has' = refl

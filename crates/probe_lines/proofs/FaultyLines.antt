@@ -1,5 +1,5 @@
 -- The faults of a line as its reader tells them.
-use Rattle.std.proofs.Common.{◌≡◌, ◌<◌, ◌≤◌, ℕ, List, ◌∷◌, sym, subst, ◌⊎◌, inl, arith}
+use Rattle.std.proofs.Common.{◌≡◌, ◌≤◌, ℕ, List, ◌∷◌, sym, subst, inl}
 use Rattle.std.specs.Prelude.{IfErr, IsErrAnd, Result, Ok, Err}
 use Rattle.text_fields.specs.declared.fields_fault.FieldsFault.{FieldsFault}
 use Rattle.probe_lines.specs.declared.line.LineWord.{LineWord}
@@ -8,8 +8,8 @@ use Rattle.text_fields.specs.declared.fields_fault.FieldsFault.TheVariants as re
 use Rattle.probe_lines.specs.LineFaults.{AreFaultyBehind, BeginsWith, IsFaultyProbeLine}
 use Rattle.probe_lines.specs.laws.LineLaws.{LineLaws}
 use Rattle.probe_lines.specs.ProbeText.{IsTooMuch, most_stimuli}
-use Rattle.probe_lines.specs.declared.line.ProbeLine.TheVariants as lines
-use Rattle.probe_lines.specs.declared.line.Stimulus.{Stimulus}
+use Rattle.probe_lines.specs.Said as lines
+use Rattle.probe_lines.specs.Said.{Stimulus}
 use Rattle.probe_lines.specs.ProbeLine.{SpellsProbeLine, line_word}
 use Rattle.probe_lines.proofs.LineTexts.{stimulus_is_no_end, word_or_word}
 
@@ -34,7 +34,7 @@ begins_with_event fields others first begins = word_or_word fields others begins
 pub ruleset no_ends = (begins_with_bits, begins_with_event)
 
 -- what is said is known, and has no room
-pub one_too_many : LineLaws → (count : ℕ) (fields : List (List ℕ)) (stimulus : Stimulus) → SpellsProbeLine fields (lines.Stimulus stimulus) → most_stimuli ≤ count
+pub one_too_many : LineLaws → (count : ℕ) (fields : List (List ℕ)) (stimulus : Stimulus) → SpellsProbeLine fields (lines.Does stimulus) → most_stimuli ≤ count
     → (¬ IsFaultyProbeLine fields reasons.Word) × IsTooMuch count fields
 one_too_many laws count fields stimulus spells full =
-    (laws.not_faulty fields (lines.Stimulus stimulus) reasons.Word spells, record { full = full; needs = stimulus_is_no_end fields stimulus spells })
+    (laws.not_faulty fields (lines.Does stimulus) reasons.Word spells, record { full = full; needs = stimulus_is_no_end fields stimulus spells })

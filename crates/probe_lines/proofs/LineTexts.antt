@@ -14,10 +14,8 @@ use Rattle.command_grammar.specs.declared.kinds.CommandKind.TheVariants as kinds
 use Rattle.command_text.specs.CommandText.{IsCommandText, IsFaultyCommand, command_kind, command_name, other_command_fields}
 use Rattle.probe_lines.specs.declared.line.LineWord.{LineWord}
 use Rattle.probe_lines.specs.declared.line.LineWord.TheVariants as words
-use Rattle.probe_lines.specs.declared.line.ProbeLine.{ProbeLine}
-use Rattle.probe_lines.specs.declared.line.ProbeLine.TheVariants as lines
-use Rattle.probe_lines.specs.declared.line.Stimulus.{Stimulus}
-use Rattle.probe_lines.specs.declared.line.Stimulus.TheVariants as stimuli
+use Rattle.probe_lines.specs.Said as lines
+use Rattle.probe_lines.specs.Said.{Stimulus, ProbeLine}
 use Rattle.probe_lines.specs.LineFaults.{AreFaultyBehind, BeginsWith, IsFaultyProbeLine, MisspellsCommand, MisspellsWord}
 use Rattle.probe_lines.specs.laws.LineLaws.{LineLaws}
 use Rattle.probe_lines.specs.ProbeLine.{IsProbeEvent, SpellsProbeLine, line_word, probe_events, probe_line_fields}
@@ -74,55 +72,55 @@ word_or_word fields others behind one other differ is begins =
 behind_word : (fields others behind : List (List ℕ)) (word : LineWord) → fields ≡ line_word word ∷ others → fields ≡ line_word word ∷ behind → others ≡ behind
 behind_word fields others behind word is begins = (same_behind (line_word word) (line_word word) others behind (sym is ∙ begins)).1
 
-command_of : (fields : List (List ℕ)) (command : Command) → SpellsProbeLine fields (lines.Stimulus (stimuli.Command command)) → IsCommandText fields command
+command_of : (fields : List (List ℕ)) (command : Command) → SpellsProbeLine fields (lines.Does (lines.SendsCommand command)) → IsCommandText fields command
 command_of fields command spells = record { in_range = spells.is; spelling = spells.spelling }
 
 -- a line with a word is the one line of its kind that the fields say
 told_with_word : Known → (fields others : List (List ℕ)) (word : LineWord) (line : ProbeLine) → SpellsProbeLine fields line → fields ≡ line_word word ∷ others
     → (other : ProbeLine) → SpellsProbeLine fields other → line ≡ other
-told_with_word known fields others word (lines.Stimulus (stimuli.Command c)) spells begins other spells' =
+told_with_word known fields others word (lines.Does (lines.SendsCommand c)) spells begins other spells' =
     absurd (command_or_word fields (other_command_fields c) others (command_kind c) word spells.spelling begins)
-told_with_word known fields others word line spells begins (lines.Stimulus (stimuli.Command c)) spells' =
+told_with_word known fields others word line spells begins (lines.Does (lines.SendsCommand c)) spells' =
     absurd (command_or_word fields (other_command_fields c) others (command_kind c) word spells'.spelling begins)
-told_with_word known fields others word (lines.Stimulus (stimuli.Bits a)) spells begins (lines.Stimulus (stimuli.Bits b)) spells' =
+told_with_word known fields others word (lines.Does (lines.SendsBits a)) spells begins (lines.Does (lines.SendsBits b)) spells' =
     let same = behind_word fields (binary a ∷ []) (binary b ∷ []) words.Bits spells.spelling spells'.spelling in
-    ap (λ (it : List Bool). lines.Stimulus (stimuli.Bits it)) (known.bits_told a b (same_behind (binary a) (binary b) [] [] same).0)
-told_with_word known fields others word (lines.Stimulus (stimuli.Bits a)) spells begins (lines.Stimulus (stimuli.Event e)) spells' =
+    ap (λ (it : List Bool). lines.Does (lines.SendsBits it)) (known.bits_told a b (same_behind (binary a) (binary b) [] [] same).0)
+told_with_word known fields others word (lines.Does (lines.SendsBits a)) spells begins (lines.Does (lines.Brings e)) spells' =
     absurd (word_or_word fields _ _ words.Bits words.Event (λ same. cc) spells.spelling spells'.spelling)
-told_with_word known fields others word (lines.Stimulus (stimuli.Bits a)) spells begins lines.End spells' =
+told_with_word known fields others word (lines.Does (lines.SendsBits a)) spells begins lines.End spells' =
     absurd (word_or_word fields _ _ words.Bits words.End (λ same. cc) spells.spelling spells'.spelling)
-told_with_word known fields others word (lines.Stimulus (stimuli.Event d)) spells begins (lines.Stimulus (stimuli.Bits b)) spells' =
+told_with_word known fields others word (lines.Does (lines.Brings d)) spells begins (lines.Does (lines.SendsBits b)) spells' =
     absurd (word_or_word fields _ _ words.Event words.Bits (λ same. cc) spells.spelling spells'.spelling)
-told_with_word known fields others word (lines.Stimulus (stimuli.Event d)) spells begins (lines.Stimulus (stimuli.Event e)) spells' =
+told_with_word known fields others word (lines.Does (lines.Brings d)) spells begins (lines.Does (lines.Brings e)) spells' =
     let same = behind_word fields (spelled_fields probe_events d) (spelled_fields probe_events e) words.Event spells.spelling spells'.spelling in
-    ap (λ it. lines.Stimulus (stimuli.Event it))
+    ap (λ it. lines.Does (lines.Brings it))
     (event_told (spelled_fields probe_events d) d e (record { in_range = spells.is; spelling = refl }) (record { in_range = spells'.is; spelling = same }))
-told_with_word known fields others word (lines.Stimulus (stimuli.Event d)) spells begins lines.End spells' =
+told_with_word known fields others word (lines.Does (lines.Brings d)) spells begins lines.End spells' =
     absurd (word_or_word fields _ _ words.Event words.End (λ same. cc) spells.spelling spells'.spelling)
-told_with_word known fields others word lines.End spells begins (lines.Stimulus (stimuli.Bits b)) spells' =
+told_with_word known fields others word lines.End spells begins (lines.Does (lines.SendsBits b)) spells' =
     absurd (word_or_word fields _ _ words.End words.Bits (λ same. cc) spells.spelling spells'.spelling)
-told_with_word known fields others word lines.End spells begins (lines.Stimulus (stimuli.Event e)) spells' =
+told_with_word known fields others word lines.End spells begins (lines.Does (lines.Brings e)) spells' =
     absurd (word_or_word fields _ _ words.End words.Event (λ same. cc) spells.spelling spells'.spelling)
 told_with_word known fields others word lines.End spells begins lines.End spells' = refl
 
 line_told : Known → (fields : List (List ℕ)) (one other : ProbeLine) → SpellsProbeLine fields one → SpellsProbeLine fields other → one ≡ other
-line_told known fields (lines.Stimulus (stimuli.Command c)) (lines.Stimulus (stimuli.Command d)) is is' =
-    ap (λ (it : Command). lines.Stimulus (stimuli.Command it)) (known.told fields c d (command_of fields c is) (command_of fields d is'))
-line_told known fields one (lines.Stimulus (stimuli.Bits b)) is is' =
-    told_with_word known fields (binary b ∷ []) words.Bits one is is'.spelling (lines.Stimulus (stimuli.Bits b)) is'
-line_told known fields one (lines.Stimulus (stimuli.Event e)) is is' =
-    told_with_word known fields (spelled_fields probe_events e) words.Event one is is'.spelling (lines.Stimulus (stimuli.Event e)) is'
+line_told known fields (lines.Does (lines.SendsCommand c)) (lines.Does (lines.SendsCommand d)) is is' =
+    ap (λ (it : Command). lines.Does (lines.SendsCommand it)) (known.told fields c d (command_of fields c is) (command_of fields d is'))
+line_told known fields one (lines.Does (lines.SendsBits b)) is is' =
+    told_with_word known fields (binary b ∷ []) words.Bits one is is'.spelling (lines.Does (lines.SendsBits b)) is'
+line_told known fields one (lines.Does (lines.Brings e)) is is' =
+    told_with_word known fields (spelled_fields probe_events e) words.Event one is is'.spelling (lines.Does (lines.Brings e)) is'
 line_told known fields one lines.End is is' = told_with_word known fields [] words.End one is is'.spelling lines.End is'
-line_told known fields (lines.Stimulus (stimuli.Bits b)) (lines.Stimulus (stimuli.Command d)) is is' =
+line_told known fields (lines.Does (lines.SendsBits b)) (lines.Does (lines.SendsCommand d)) is is' =
     absurd (command_or_word fields (other_command_fields d) (binary b ∷ []) (command_kind d) words.Bits is'.spelling is.spelling)
-line_told known fields (lines.Stimulus (stimuli.Event e)) (lines.Stimulus (stimuli.Command d)) is is' =
+line_told known fields (lines.Does (lines.Brings e)) (lines.Does (lines.SendsCommand d)) is is' =
     absurd (command_or_word fields (other_command_fields d) (spelled_fields probe_events e) (command_kind d) words.Event is'.spelling is.spelling)
-line_told known fields lines.End (lines.Stimulus (stimuli.Command d)) is is' =
+line_told known fields lines.End (lines.Does (lines.SendsCommand d)) is is' =
     absurd (command_or_word fields (other_command_fields d) [] (command_kind d) words.End is'.spelling is.spelling)
 
 -- the fields behind a word say something, or are faulty
 bits_not_faulty : (bits : List Bool) (others : List (List ℕ)) (fault : FieldsFault) → others ≡ binary bits ∷ []
-    → SpellsProbeLine (probe_line_fields (lines.Stimulus (stimuli.Bits bits))) (lines.Stimulus (stimuli.Bits bits)) → AreFaultyBehind words.Bits others fault → ⊥
+    → SpellsProbeLine (probe_line_fields (lines.Does (lines.SendsBits bits))) (lines.Does (lines.SendsBits bits)) → AreFaultyBehind words.Bits others fault → ⊥
 bits_not_faulty bits others reasons.Word is spells faulty = faulty
 bits_not_faulty bits others reasons.Shape is spells faulty =
     faulty (subst (λ (list : List (List ℕ)). AreFilled 1 list) (sym is) (one_more 0 (binary bits) [] (IsFieldText-binary bits).filled none_filled))
@@ -136,20 +134,20 @@ end_not_faulty others reasons.Number is faulty = faulty
 -- a line that says something has nothing faulty behind its word
 word_not_faulty : (fields others : List (List ℕ)) (line : ProbeLine) (fault : FieldsFault) (word : LineWord) → SpellsProbeLine fields line
     → fields ≡ line_word word ∷ others → AreFaultyBehind word others fault → ⊥
-word_not_faulty fields others (lines.Stimulus (stimuli.Command c)) fault word spells begins faulty =
+word_not_faulty fields others (lines.Does (lines.SendsCommand c)) fault word spells begins faulty =
     command_or_word fields (other_command_fields c) others (command_kind c) word spells.spelling begins
-word_not_faulty fields others (lines.Stimulus (stimuli.Bits b)) fault words.Bits spells begins faulty =
+word_not_faulty fields others (lines.Does (lines.SendsBits b)) fault words.Bits spells begins faulty =
     bits_not_faulty b others fault (behind_word fields others (binary b ∷ []) words.Bits begins spells.spelling) (record { spelling = refl; is = spells.is }) faulty
-word_not_faulty fields others (lines.Stimulus (stimuli.Bits b)) fault words.Event spells begins faulty =
+word_not_faulty fields others (lines.Does (lines.SendsBits b)) fault words.Event spells begins faulty =
     word_or_word fields _ others words.Bits words.Event (λ same. cc) spells.spelling begins
-word_not_faulty fields others (lines.Stimulus (stimuli.Bits b)) fault words.End spells begins faulty =
+word_not_faulty fields others (lines.Does (lines.SendsBits b)) fault words.End spells begins faulty =
     word_or_word fields _ others words.Bits words.End (λ same. cc) spells.spelling begins
-word_not_faulty fields others (lines.Stimulus (stimuli.Event e)) fault words.Bits spells begins faulty =
+word_not_faulty fields others (lines.Does (lines.Brings e)) fault words.Bits spells begins faulty =
     word_or_word fields _ others words.Event words.Bits (λ same. cc) spells.spelling begins
-word_not_faulty fields others (lines.Stimulus (stimuli.Event e)) fault words.Event spells begins faulty =
+word_not_faulty fields others (lines.Does (lines.Brings e)) fault words.Event spells begins faulty =
     spelling_is_not_faulty probe_events IsProbeEvent events_are others e fault
     (record { in_range = spells.is; spelling = behind_word fields others (spelled_fields probe_events e) words.Event begins spells.spelling }) faulty
-word_not_faulty fields others (lines.Stimulus (stimuli.Event e)) fault words.End spells begins faulty =
+word_not_faulty fields others (lines.Does (lines.Brings e)) fault words.End spells begins faulty =
     word_or_word fields _ others words.Event words.End (λ same. cc) spells.spelling begins
 word_not_faulty fields others lines.End fault words.Bits spells begins faulty =
     word_or_word fields _ others words.End words.Bits (λ same. cc) spells.spelling begins
@@ -160,11 +158,11 @@ word_not_faulty fields others lines.End fault words.End spells begins faulty =
 
 -- ... and where it begins with no word, it is a command
 command_not_faulty : Known → (fields : List (List ℕ)) (line : ProbeLine) (fault : FieldsFault) → SpellsProbeLine fields line → MisspellsCommand fields fault → ⊥
-command_not_faulty known fields (lines.Stimulus (stimuli.Command c)) fault spells misspells =
+command_not_faulty known fields (lines.Does (lines.SendsCommand c)) fault spells misspells =
     known.not_faulty fields c fault (command_of fields c spells) misspells.faulty
-command_not_faulty known fields (lines.Stimulus (stimuli.Bits b)) fault spells misspells =
+command_not_faulty known fields (lines.Does (lines.SendsBits b)) fault spells misspells =
     misspells.other words.Bits (record { others = binary b ∷ []; first = spells.spelling })
-command_not_faulty known fields (lines.Stimulus (stimuli.Event e)) fault spells misspells =
+command_not_faulty known fields (lines.Does (lines.Brings e)) fault spells misspells =
     misspells.other words.Event (record { others = spelled_fields probe_events e; first = spells.spelling })
 command_not_faulty known fields lines.End fault spells misspells = misspells.other words.End (record { others = []; first = spells.spelling })
 
@@ -174,11 +172,11 @@ line_not_faulty known fields line fault spells (inl misspells) =
 line_not_faulty known fields line fault spells (inr misspells) = command_not_faulty known fields line fault spells misspells
 
 -- what is done to the tag doesn't begin with `end`
-pub stimulus_is_no_end : (fields : List (List ℕ)) (stimulus : Stimulus) → SpellsProbeLine fields (lines.Stimulus stimulus) → ¬ BeginsWith fields words.End
-stimulus_is_no_end fields (stimuli.Command c) spells begins =
+pub stimulus_is_no_end : (fields : List (List ℕ)) (stimulus : Stimulus) → SpellsProbeLine fields (lines.Does stimulus) → ¬ BeginsWith fields words.End
+stimulus_is_no_end fields (lines.SendsCommand c) spells begins =
     command_or_word fields (other_command_fields c) begins.others (command_kind c) words.End spells.spelling begins.first
-stimulus_is_no_end fields (stimuli.Bits b) spells begins = word_or_word fields _ begins.others words.Bits words.End (λ same. cc) spells.spelling begins.first
-stimulus_is_no_end fields (stimuli.Event e) spells begins = word_or_word fields _ begins.others words.Event words.End (λ same. cc) spells.spelling begins.first
+stimulus_is_no_end fields (lines.SendsBits b) spells begins = word_or_word fields _ begins.others words.Bits words.End (λ same. cc) spells.spelling begins.first
+stimulus_is_no_end fields (lines.Brings e) spells begins = word_or_word fields _ begins.others words.Event words.End (λ same. cc) spells.spelling begins.first
 
 -- one reason behind a word
 one_bits_fault : (others : List (List ℕ)) (one other : FieldsFault) → AreFaultyBehind words.Bits others one → AreFaultyBehind words.Bits others other → one ≡ other

@@ -3,8 +3,8 @@ use Rattle.std.proofs.Common.{◌≡◌, ◌≢◌, ◌≤◌, ◌+◌, ℕ, suc
 use Rattle.text_fields.specs.Lines.{fields_of, lines_of}
 use Rattle.scenario_lines.specs.declared.tag.TagSpec.{TagSpec}
 use Rattle.probe_lines.specs.declared.fault.Fault.{Fault}
-use Rattle.probe_lines.specs.declared.line.ProbeLine.TheVariants as lines
-use Rattle.probe_lines.specs.declared.line.Stimulus.{Stimulus}
+use Rattle.probe_lines.specs.Said as lines
+use Rattle.probe_lines.specs.Said.{Stimulus}
 use Rattle.probe_lines.specs.ProbeLine.{SpellsTag, version_line}
 use Rattle.probe_lines.specs.ProbeText.{AreStimuli, GoesTo, IsFaultyBefore, IsFirstFault, IsFirstFaultFrom, IsProbe, Lead, SayStimuli, Standing, begun, ended, most_stimuli, start, within}
 use Rattle.probe_lines.proofs.Checking.{FirstGoes}
@@ -112,7 +112,7 @@ stimuli_not_faulty : Laws → (count : ℕ) (all : List (List ℕ)) (said : List
 stimuli_not_faulty laws count [] said before fault say few at = say
 stimuli_not_faulty laws count (line ∷ behind) [] before fault say few at = end_not_faulty laws count line behind before fault say at
 stimuli_not_faulty laws count (line ∷ behind) (stimulus ∷ said) [] fault say few at =
-    let goes : GoesTo (within count) line (within (count + 1)) = record { says = lines.Stimulus stimulus; spells = say.0; room = omega arith; leads = refl } in
+    let goes : GoesTo (within count) line (within (count + 1)) = record { says = lines.Does stimulus; spells = say.0; room = omega arith; leads = refl } in
     goes_on laws (within count) at.line at.behind fault (record { line = line; behind = behind; cut = sym at.cut; next = within (count + 1); goes = goes })
     (some_said behind said say.1)
     (subst (λ (s : Standing). IsFaultyBefore at.behind s at.line fault) (sym at.lead) at.faulty)
@@ -120,7 +120,7 @@ stimuli_not_faulty laws count (line ∷ behind) (stimulus ∷ said) (first ∷ b
     let both = parts line first behind (before ++ at.line ∷ at.behind) at.cut in
     let goes : GoesTo (within count) first (within (count + 1)) =
     subst (λ (l : List ℕ). GoesTo (within count) l (within (count + 1))) both.0
-    (record { says = lines.Stimulus stimulus; spells = say.0; room = omega arith; leads = refl }) in
+    (record { says = lines.Does stimulus; spells = say.0; room = omega arith; leads = refl }) in
     let same = goes_once laws (within count) at.lead.0 (within (count + 1)) first at.lead.1 goes in
     stimuli_not_faulty laws (count + 1) behind said before fault say.1 (omega arith)
     (record {
@@ -171,13 +171,13 @@ said_once : Laws → (all : List (List ℕ)) (one other : List Stimulus) → Say
 said_once laws [] one other say say' = absurd say
 said_once laws (line ∷ behind) [] [] say say' = refl
 said_once laws (line ∷ behind) [] (t ∷ other) say say' =
-    let same = laws.lines.told (fields_of line) lines.End (lines.Stimulus t) say.0 say'.0 in
+    let same = laws.lines.told (fields_of line) lines.End (lines.Does t) say.0 say'.0 in
     absurd (cc)
 said_once laws (line ∷ behind) (s ∷ one) [] say say' =
-    let same = laws.lines.told (fields_of line) (lines.Stimulus s) lines.End say.0 say'.0 in
+    let same = laws.lines.told (fields_of line) (lines.Does s) lines.End say.0 say'.0 in
     absurd (cc)
 said_once laws (line ∷ behind) (s ∷ one) (t ∷ other) say say' =
-    let same = laws.lines.told (fields_of line) (lines.Stimulus s) (lines.Stimulus t) say.0 say'.0 in
+    let same = laws.lines.told (fields_of line) (lines.Does s) (lines.Does t) say.0 say'.0 in
     let first : s ≡ t = cc in
     let rest = said_once laws behind one other say.1 say'.1 in
     cc

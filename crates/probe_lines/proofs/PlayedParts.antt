@@ -1,17 +1,19 @@
 -- How far a probe is played.
 use Rattle.std.proofs.Common.{◌≡◌, ◌+◌, ℕ, List, [], ◌∷◌, ◌++◌, length, Option, Result, Ok, Err, refl, sym, ◌∙◌, ap, subst, arith, append_assoc}
-use Rattle.std.specs.Prelude.{IfErr, IsErrAnd, OnOk}
+use Rattle.std.specs.Prelude.{IfErr, IfOk, IsErrAnd, OnOk}
 use Rattle.std.specs.List.{AllZip}
+use Rattle.std.proofs.lemmas.List.{append-nil}
 use Rattle.air_io.specs.Flow.{Adds}
 use Rattle.air_io.specs.laws.Flow.{Adds-more, Adds-nothing}
 use Rattle.report_lines.specs.declared.mode.PlayFault.{PlayFault}
 use Rattle.report_lines.specs.declared.mode.PlayFault.TheVariants.{Write, OutOfMemory}
+use Rattle.tag_machine.specs.declared.any_tag.AnyTag.{AnyTag}
+use Rattle.tag_machine.specs.Hearing.{tag_value_of}
 use Rattle.tag_machine.specs.TagValue.{TagValue}
 use Rattle.text_fields.specs.Lines.{text_with}
-use Rattle.probe_lines.specs.declared.effect.StimulusEffect.{StimulusEffect}
-use Rattle.probe_lines.specs.declared.line.Stimulus.{Stimulus}
-use Rattle.probe_lines.specs.Answers.{HasEffect, first_number, last_text, lines_behind, outcome_of, text_from}
-use Rattle.probe_lines.specs.Played.{AddsFrontOf, HasPlayed, StopsAt, StopsIn, TellsNext, WritesPart, WritesText}
+use Rattle.probe_lines.specs.Said.{Stimulus, StimulusEffect}
+use Rattle.probe_lines.specs.Answers.{HasEffect, Tells, first_number, last_text, lines_behind, outcome_of, text_from}
+use Rattle.probe_lines.specs.Played.{AddsFrontOf, HasPlayed, Sends, StopsIn, TellsNext, WritesPart}
 use Rattle.probe_lines.specs.ProbeText.{SayStimuli}
 
 -- whatever is done to a tag has an effect
@@ -31,31 +33,33 @@ pub record Beginning : Type 0 where
   pub written : Option (List ℕ)
   pub faults : ℕ
 
--- where the play stands: the number of the next line, the tag, the lines that are left, and what the sink was given
+-- where the play stands: the number of the next line, the tag, the lines that are left, what waits to be written, and what the sink was given
 pub record Place : Type 0 where
   pub number : ℕ
   pub tag : TagValue
   pub left : List (List ℕ)
+  pub waiting : List ℕ
   pub written : Option (List ℕ)
 
--- The tag has come so far, the text of that was written, and these lines are left.
+-- The tag has come so far, the text of that was written but for what waits, and these lines are left.
 pub record PlayedTo (begun : Beginning) (to : Place) : Type 0 where
-  pub text : List ℕ
-  pub added : Adds begun.written to.written text
+  pub sent : List ℕ
+  pub added : Adds begun.written to.written sent
   pub left : List Stimulus
   pub say : SayStimuli to.left left
   pub count : to.number + length left ≡ first_number + length begun.said
-  pub goes : (effects : List StimulusEffect) → AllZip HasEffect left effects → GoesBy begun.first begun.said text to.number to.tag effects
+  pub goes : (effects : List StimulusEffect) → AllZip HasEffect left effects → GoesBy begun.first begun.said (sent ++ to.waiting) to.number to.tag effects
 
-pub none_played : (begun : Beginning) (behind : List (List ℕ)) → SayStimuli behind begun.said
-    → PlayedTo begun (record { number = first_number; tag = begun.first; left = behind; written = begun.written })
-none_played begun behind say = record {
-  text = [];
+pub none_played : (begun : Beginning) (behind : List (List ℕ)) (waiting : List ℕ) → SayStimuli behind begun.said → waiting ≡ []
+    → PlayedTo begun (record { number = first_number; tag = begun.first; left = behind; waiting = waiting; written = begun.written })
+none_played begun behind waiting say none = record {
+  sent = [];
   added = Adds-nothing begun.written;
   left = begun.said;
   say = say;
   count = refl;
-  goes = λ effects each. record { all = effects; each = each; told = refl };
+  goes = λ effects each.
+      record { all = effects; each = each; told = ap (λ (w : List ℕ). w ++ text_from first_number begun.first effects) (sym none) };
 }
 
 -- what is done next is the first of what is left
@@ -66,15 +70,21 @@ pub record Next (left : List Stimulus) : Type 0 where
   pub is : left ≡ stimulus ∷ others
   pub say : SayStimuli behind others
 
+-- a piece more behind a text of two parts, and a text behind it
+piece_behind : (sent waiting waiting' piece rest : List ℕ) → waiting' ≡ waiting ++ piece → (sent ++ waiting) ++ (piece ++ rest) ≡ (sent ++ waiting') ++ rest
+piece_behind sent waiting waiting' piece rest is =
+    sym (append_assoc (sent ++ waiting) piece rest)
+    ∙ ap (λ (t : List ℕ). t ++ rest) (append_assoc sent waiting piece ∙ ap (λ (t : List ℕ). sent ++ t) (sym is))
+
 -- one effect more
-pub one_played : (begun : Beginning) (from : Place) (tag : TagValue) (after : Option (List ℕ)) (so_far : PlayedTo begun from) (next : Next so_far.left)
-    → TellsNext from.number from.tag next.stimulus tag from.written after
-    → PlayedTo begun (record { number = from.number + 1; tag = tag; left = next.behind; written = after })
-one_played begun from tag after so_far next told =
+pub one_played : (begun : Beginning) (from : Place) (tag : TagValue) (waiting : List ℕ) (so_far : PlayedTo begun from) (next : Next so_far.left)
+    → TellsNext from.number from.tag next.stimulus tag from.waiting waiting
+    → PlayedTo begun (record { number = from.number + 1; tag = tag; left = next.behind; waiting = waiting; written = from.written })
+one_played begun from tag waiting so_far next told =
     let piece : List ℕ = text_with (lines_behind from.number told.effect from.tag) in
     record {
-      text = so_far.text ++ piece;
-      added = Adds-more begun.written from.written after so_far.text piece so_far.added told.added;
+      sent = so_far.sent;
+      added = so_far.added;
       left = next.others;
       say = next.say;
       count = let count = so_far.count in let length_is = ap length next.is in omega arith;
@@ -83,100 +93,125 @@ one_played begun from tag after so_far next told =
           record {
             all = by.all;
             each = by.each;
-            told = by.told ∙ ap (λ (t : TagValue). so_far.text ++ (piece ++ text_from (from.number + 1) t effects)) (sym told.becomes)
-                ∙ sym (append_assoc so_far.text piece (text_from (from.number + 1) tag effects));
+            told = by.told
+                ∙ ap (λ (t : TagValue). (so_far.sent ++ from.waiting) ++ (piece ++ text_from (from.number + 1) t effects)) (sym told.becomes)
+                ∙ piece_behind so_far.sent from.waiting waiting piece (text_from (from.number + 1) tag effects) told.told;
           };
     }
 
--- a part of the text was written, of what comes of the next line or of nothing more
-part_of : (begun : Beginning) (from : Place) (after : Option (List ℕ)) (effects : List StimulusEffect) (so_far : PlayedTo begun from) → AllZip HasEffect so_far.left effects
-    → AddsFrontOf (text_from from.number from.tag effects) from.written after → WritesPart begun.first begun.said begun.written after
-part_of begun from after effects so_far each adds =
-    let by = so_far.goes effects each in
+-- what is done next was done, and what comes of it waits
+pub tells_next : {E : Type 0} (result : Result AnyTag E) (from : Place) (stimulus : Stimulus) (some : (effect : StimulusEffect) × HasEffect stimulus effect) (waiting : List ℕ)
+    → IfOk result (λ it. tag_value_of it ≡ (outcome_of some.0 from.tag).tag) → OnOk result (waiting ≡ from.waiting ++ text_with (lines_behind from.number some.0 from.tag))
+    → IfOk result (λ it. TellsNext from.number from.tag stimulus (tag_value_of it) from.waiting waiting)
+tells_next (Ok it) from stimulus some waiting becomes told = record { effect = some.0; has = some.1; becomes = becomes; told = told }
+tells_next (Err cause) from stimulus some waiting becomes told = tt
+
+-- nothing of what waits is written, or all of it
+pub none_sent : (waiting : List ℕ) (written : Option (List ℕ)) → Sends waiting waiting written written
+none_sent waiting written = record { front = []; cut = refl; added = Adds-nothing written }
+
+pub all_sent : {E : Type 0} (result : Result (Unit {0}) E) (waiting waiting' : List ℕ) (written written' : Option (List ℕ)) → OnOk result (Adds written written' waiting)
+    → OnOk result (waiting' ≡ []) → OnOk result (Sends waiting waiting' written written')
+all_sent (Ok done) waiting waiting' written written' added empty =
+    record { front = waiting; cut = sym (ap (λ (w : List ℕ). waiting ++ w) empty ∙ append-nil waiting); added = added }
+all_sent (Err cause) waiting waiting' written written' added empty = tt
+
+-- a front of what waits was written
+pub some_sent : (begun : Beginning) (from : Place) (waiting : List ℕ) (after : Option (List ℕ)) → PlayedTo begun from → Sends from.waiting waiting from.written after
+    → PlayedTo begun (record { number = from.number; tag = from.tag; left = from.left; waiting = waiting; written = after })
+some_sent begun from waiting after so_far sends = record {
+  sent = so_far.sent ++ sends.front;
+  added = Adds-more begun.written from.written after so_far.sent sends.front so_far.added sends.added;
+  left = so_far.left;
+  say = so_far.say;
+  count = so_far.count;
+  goes = λ effects each.
+      let by = so_far.goes effects each in
+      record {
+        all = by.all;
+        each = by.each;
+        told = by.told
+            ∙ ap (λ (t : List ℕ). t ++ text_from from.number from.tag effects)
+            (ap (λ (w : List ℕ). so_far.sent ++ w) sends.cut ∙ sym (append_assoc so_far.sent sends.front waiting));
+      };
+}
+
+-- all is told: the text is what was written and what waits
+pub record IsTold (begun : Beginning) (to : Place) : Type 0 where
+  pub sent : List ℕ
+  pub added : Adds begun.written to.written sent
+  pub tells : Tells begun.first begun.said (sent ++ to.waiting)
+
+pub all_told : (begun : Beginning) (from : Place) (waiting : List ℕ) (so_far : PlayedTo begun from) → so_far.left ≡ [] → waiting ≡ from.waiting ++ last_text from.tag
+    → IsTold begun (record from { waiting = waiting })
+all_told begun from waiting so_far none is =
+    let by = so_far.goes [] (subst (λ (list : List Stimulus). AllZip HasEffect list []) (sym none) tt) in
     record {
-      front = so_far.text ++ adds.front;
-      rest = adds.rest;
+      sent = so_far.sent;
+      added = so_far.added;
       tells = record {
         effects = by.all;
         each = by.each;
-        told = sym (by.told ∙ ap (λ (t : List ℕ). so_far.text ++ t) adds.cut ∙ sym (append_assoc so_far.text adds.front adds.rest));
+        told = sym (by.told ∙ append_assoc so_far.sent from.waiting (last_text from.tag) ∙ ap (λ (w : List ℕ). so_far.sent ++ w) (sym is));
       };
-      added = Adds-more begun.written from.written after so_far.text adds.front so_far.added adds.added;
     }
 
--- a part of what comes of the next line was
-part_of_next : HaveEffects → (begun : Beginning) (from : Place) (after : Option (List ℕ)) (so_far : PlayedTo begun from) (next : Next so_far.left) (effect : StimulusEffect)
-    → HasEffect next.stimulus effect → AddsFrontOf (text_with (lines_behind from.number effect from.tag)) from.written after
-    → WritesPart begun.first begun.said begun.written after
-part_of_next have begun from after so_far next effect has adds =
-    let others = have next.others in
-    let tail = text_from (from.number + 1) (outcome_of effect from.tag).tag others.0 in
-    part_of begun from after (effect ∷ others.0) so_far
-    (subst (λ (list : List Stimulus). AllZip HasEffect list (effect ∷ others.0)) (sym next.is) (has, others.1))
-    (record {
-      front = adds.front;
-      rest = adds.rest ++ tail;
-      cut = ap (λ (p : List ℕ). p ++ tail) adds.cut ∙ append_assoc adds.front adds.rest tail;
-      added = adds.added;
-    })
+-- a front of a text that is told was written
+part_of : (begun : Beginning) (written after : Option (List ℕ)) (sent waiting behind : List ℕ) → Adds begun.written written sent
+    → Tells begun.first begun.said ((sent ++ waiting) ++ behind) → AddsFrontOf waiting written after → WritesPart begun.first begun.said begun.written after
+part_of begun written after sent waiting behind added tells adds = record {
+  front = sent ++ adds.front;
+  rest = adds.rest ++ behind;
+  tells = record {
+    effects = tells.effects;
+    each = tells.each;
+    told = append_assoc sent adds.front (adds.rest ++ behind) ∙ ap (λ (t : List ℕ). sent ++ t) (sym (append_assoc adds.front adds.rest behind))
+        ∙ sym (append_assoc sent (adds.front ++ adds.rest) behind) ∙ ap (λ (w : List ℕ). (sent ++ w) ++ behind) (sym adds.cut) ∙ tells.told;
+  };
+  added = Adds-more begun.written written after sent adds.front added adds.added;
+}
 
--- where nothing is left, the text ends with what the tag is
-last_part : (begun : Beginning) (from : Place) (after : Option (List ℕ)) (so_far : PlayedTo begun from) → so_far.left ≡ []
-    → AddsFrontOf (last_text from.tag) from.written after → WritesPart begun.first begun.said begun.written after
-last_part begun from after so_far none adds = part_of begun from after [] so_far (subst (λ (list : List Stimulus). AllZip HasEffect list []) (sym none) tt) adds
+-- what stands for a cause
+stopped : (begun : Beginning) (waiting : List ℕ) (written after : Option (List ℕ)) (faults : ℕ) (fault : PlayFault)
+    → (AddsFrontOf waiting written after → WritesPart begun.first begun.said begun.written after) → StopsIn waiting written after begun.faults faults fault
+    → HasPlayed begun.first begun.said begun.written after begun.faults faults (Err fault)
+stopped begun waiting written after faults Write part stop = (stop.0, part stop.1)
+stopped begun waiting written after faults OutOfMemory part stop = (stop.0, part stop.1)
 
-all_played : (begun : Beginning) (from : Place) (after : Option (List ℕ)) (so_far : PlayedTo begun from) → so_far.left ≡ []
-    → Adds from.written after (last_text from.tag) → WritesText begun.first begun.said begun.written after
-all_played begun from after so_far none adds =
-    let by = so_far.goes [] (subst (λ (list : List Stimulus). AllZip HasEffect list []) (sym none) tt) in
-    record {
-      text = so_far.text ++ last_text from.tag;
-      tells = record { effects = by.all; each = by.each; told = sym by.told };
-      added = Adds-more begun.written from.written after so_far.text (last_text from.tag) so_far.added adds;
-    }
+-- an end of playing before all is told
+pub stop_played : HaveEffects → (begun : Beginning) (from : Place) (after : Option (List ℕ)) (faults : ℕ) (fault : PlayFault) → PlayedTo begun from
+    → StopsIn from.waiting from.written after begun.faults faults fault → HasPlayed begun.first begun.said begun.written after begun.faults faults (Err fault)
+stop_played have begun from after faults fault so_far stop =
+    let effects = have so_far.left in
+    let by = so_far.goes effects.0 effects.1 in
+    stopped begun from.waiting from.written after faults fault
+    (part_of begun from.written after so_far.sent from.waiting (text_from from.number from.tag effects.0) so_far.added
+    (record { effects = by.all; each = by.each; told = sym by.told })) stop
+
+-- ... and behind it
+pub last_told : (result : Result (Unit {0}) PlayFault) (begun : Beginning) (to : Place) (after : Option (List ℕ)) (faults : ℕ) → IsTold begun to
+    → OnOk result (Adds to.written after to.waiting) → OnOk result (faults ≡ begun.faults) → IfErr result (StopsIn to.waiting to.written after begun.faults faults)
+    → HasPlayed begun.first begun.said begun.written after begun.faults faults result
+last_told (Ok done) begun to after faults told ok steady failed = (
+  steady,
+  record { text = told.sent ++ to.waiting; tells = told.tells; added = Adds-more begun.written to.written after told.sent to.waiting told.added ok },
+)
+last_told (Err fault) begun to after faults told ok steady failed =
+    let tells : Tells begun.first begun.said ((told.sent ++ to.waiting) ++ []) = record {
+      effects = told.tells.effects;
+      each = told.tells.each;
+      told = append-nil (told.sent ++ to.waiting) ∙ told.tells.told;
+    } in
+    stopped begun to.waiting to.written after faults fault (part_of begun to.written after told.sent to.waiting [] told.added tells) failed
 
 -- a fault that is handed on
-kept : {T : Type 0} (result : Result T PlayFault) (cause : PlayFault) (P : PlayFault → Type 0) → IsErrAnd result (λ fault. fault ≡ cause) → P cause → IfErr result P
-kept (Ok value) cause P is holds = absurd is
-kept (Err fault) cause P is holds = subst P (sym is) holds
-
 pub handed_on : {T : Type 0} (result : Result T PlayFault) (cause : PlayFault) (P : Result T PlayFault → Type 0) → IsErrAnd result (λ fault. fault ≡ cause) → P (Err cause) → P result
 handed_on (Ok value) cause P is holds = absurd is
 handed_on (Err fault) cause P is holds = subst (λ (f : PlayFault). P (Err f)) (sym is) holds
 
--- where there is no memory, nothing of a text was written
-nothing_of : (text : List ℕ) (written : Option (List ℕ)) → AddsFrontOf text written written
-nothing_of text written = record { front = []; rest = text; cut = refl; added = Adds-nothing written }
-
-pub no_memory : {T : Type 0} (result : Result T PlayFault) (text : List ℕ) (written : Option (List ℕ)) (faults : ℕ) → IsErrAnd result (λ fault. fault ≡ OutOfMemory)
-    → IfErr result (StopsIn text written written faults faults)
-no_memory result text written faults is = kept result OutOfMemory (StopsIn text written written faults faults) is (refl, nothing_of text written)
-
-pub no_memory_next : {T : Type 0} (result : Result T PlayFault) (number : ℕ) (tag : TagValue) (stimulus : Stimulus) (written : Option (List ℕ)) (faults : ℕ)
-    → IsErrAnd result (λ fault. fault ≡ OutOfMemory) → (effect : StimulusEffect) × HasEffect stimulus effect → IfErr result (StopsAt number tag stimulus written written faults faults)
-no_memory_next result number tag stimulus written faults is some =
-    kept result OutOfMemory (StopsAt number tag stimulus written written faults faults) is
-    (record { effect = some.0; has = some.1; stops = (refl, nothing_of (text_with (lines_behind number some.0 tag)) written) })
-
--- an end of playing, where what comes next was cut off
-pub stop_played : HaveEffects → (begun : Beginning) (from : Place) (after : Option (List ℕ)) (faults : ℕ) (fault : PlayFault) (so_far : PlayedTo begun from) (next : Next so_far.left)
-    → StopsAt from.number from.tag next.stimulus from.written after begun.faults faults fault → HasPlayed begun.first begun.said begun.written after begun.faults faults (Err fault)
-stop_played have begun from after faults Write so_far next stop =
-    (stop.stops.0, part_of_next have begun from after so_far next stop.effect stop.has stop.stops.1)
-stop_played have begun from after faults OutOfMemory so_far next stop =
-    (stop.stops.0, part_of_next have begun from after so_far next stop.effect stop.has stop.stops.1)
-
--- ... or what the tag is in the end was told, or cut off
-last_stop : (begun : Beginning) (from : Place) (after : Option (List ℕ)) (faults : ℕ) (fault : PlayFault) (so_far : PlayedTo begun from) → so_far.left ≡ []
-    → StopsIn (last_text from.tag) from.written after begun.faults faults fault → HasPlayed begun.first begun.said begun.written after begun.faults faults (Err fault)
-last_stop begun from after faults Write so_far none stop = (stop.0, last_part begun from after so_far none stop.1)
-last_stop begun from after faults OutOfMemory so_far none stop = (stop.0, last_part begun from after so_far none stop.1)
-
-pub last_told : (result : Result (Unit {0}) PlayFault) (begun : Beginning) (from : Place) (after : Option (List ℕ)) (faults : ℕ) (so_far : PlayedTo begun from) → so_far.left ≡ []
-    → OnOk result (Adds from.written after (last_text from.tag)) → IfErr result (StopsIn (last_text from.tag) from.written after begun.faults faults)
-    → HasPlayed begun.first begun.said begun.written after begun.faults faults result
-last_told (Ok done) begun from after faults so_far none ok failed = all_played begun from after so_far none ok
-last_told (Err fault) begun from after faults so_far none ok failed = last_stop begun from after faults fault so_far none failed
+-- where there is no memory, nothing of what waits is written
+pub no_memory : (waiting : List ℕ) (written : Option (List ℕ)) (faults faults' : ℕ) → faults' ≡ faults → StopsIn waiting written written faults faults' OutOfMemory
+no_memory waiting written faults faults' steady = (steady, record { front = []; rest = waiting; cut = refl; added = Adds-nothing written })
 
 -- nothing at all was written
 pub nothing_played : HaveEffects → (result : Result (Unit {0}) PlayFault) (first : TagValue) (said : List Stimulus) (written : Option (List ℕ)) (faults : ℕ)

@@ -5,8 +5,8 @@ use Rattle.text_fields.specs.declared.fields_fault.FieldsFault.{FieldsFault}
 use Rattle.text_fields.specs.declared.fields_fault.FieldsFault.TheVariants as reasons
 use Rattle.probe_lines.specs.declared.fault.Fault.{Fault}
 use Rattle.probe_lines.specs.declared.fault.Fault.TheVariants.{Extra, End, Version, Word, Limit, Shape, Number, Pc}
-use Rattle.probe_lines.specs.declared.line.ProbeLine.{ProbeLine}
-use Rattle.probe_lines.specs.declared.line.ProbeLine.TheVariants as lines
+use Rattle.probe_lines.specs.Said.{ProbeLine}
+use Rattle.probe_lines.specs.Said as lines
 use Rattle.probe_lines.specs.FaultWords.{fault_of}
 use Rattle.probe_lines.specs.LineFaults.{IsFaultyProbeLine}
 use Rattle.probe_lines.specs.laws.LineLaws.{LineLaws, TagLineLaws}
@@ -28,7 +28,7 @@ goes_once laws ended one other line goes goes' = absurd goes
 
 -- a line that has room is none too many
 room_or_too_much : (count : ℕ) (fields : List (List ℕ)) (says : ProbeLine) → SpellsProbeLine fields says → HasRoom count says → IsTooMuch count fields → ⊥
-room_or_too_much count fields (lines.Stimulus stimulus) spells room much = let full = much.full in omega arith
+room_or_too_much count fields (lines.Does stimulus) spells room much = let full = much.full in omega arith
 room_or_too_much count fields lines.End spells room much = much.needs (record { others = []; first = spells.spelling })
 
 -- what may stand behind the tag is not faulty

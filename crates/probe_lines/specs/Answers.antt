@@ -21,18 +21,16 @@ use Rattle.tag_machine.specs.Names.{name_of}
 use Rattle.tag_machine.specs.Numbers.{numbers_of}
 use Rattle.tag_machine.specs.Step.{step}
 use Rattle.tag_machine.specs.TagValue.{TagValue}
-use Rattle.probe_lines.specs.declared.effect.StimulusEffect.{StimulusEffect}
-use Rattle.probe_lines.specs.declared.effect.StimulusEffect.TheVariants.{Hears, Befalls, Nothing}
-use Rattle.probe_lines.specs.declared.line.Stimulus.{Stimulus}
-use Rattle.probe_lines.specs.declared.line.Stimulus.TheVariants as stimuli
+use Rattle.probe_lines.specs.Said.{Stimulus, StimulusEffect, Hears, Befalls, Nothing}
+use Rattle.probe_lines.specs.Said as stimuli
 
 -- What a line does to the tag. Bits are the command that they spell; where they spell none, the tag hears nothing.
 abbrev pub HasEffect : Stimulus → StimulusEffect → Type 0
-HasEffect (stimuli.Command command) effect = effect ≡ Hears command
-HasEffect (stimuli.Event event) effect = effect ≡ Befalls event
-HasEffect (stimuli.Bits bits) (Hears command) = SpellsCommand command bits
-HasEffect (stimuli.Bits bits) Nothing = (command : Command) → ¬ SpellsCommand command bits
-HasEffect (stimuli.Bits bits) (Befalls event) = ⊥
+HasEffect (stimuli.SendsCommand command) effect = effect ≡ Hears command
+HasEffect (stimuli.Brings event) effect = effect ≡ Befalls event
+HasEffect (stimuli.SendsBits bits) (Hears command) = SpellsCommand command bits
+HasEffect (stimuli.SendsBits bits) Nothing = (command : Command) → ¬ SpellsCommand command bits
+HasEffect (stimuli.SendsBits bits) (Befalls event) = ⊥
 
 -- the tag after it, and what it answers
 abbrev pub outcome_of : StimulusEffect → TagValue → Outcome

@@ -1,3 +1,4 @@
+pub mod Said
 pub mod ProbeLine
 pub mod LineFaults
 pub mod ProbeText

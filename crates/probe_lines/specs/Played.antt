@@ -4,9 +4,8 @@ use Rattle.air_io.specs.Flow.{Adds, FaultsRose}
 use Rattle.report_lines.specs.declared.mode.PlayFault.{PlayFault}
 use Rattle.report_lines.specs.declared.mode.PlayFault.TheVariants.{Write, OutOfMemory}
 use Rattle.tag_machine.specs.TagValue.{TagValue}
-use Rattle.probe_lines.specs.declared.line.Stimulus.{Stimulus}
+use Rattle.probe_lines.specs.Said.{Stimulus, StimulusEffect}
 use Rattle.text_fields.specs.Lines.{text_with}
-use Rattle.probe_lines.specs.declared.effect.StimulusEffect.{StimulusEffect}
 use Rattle.probe_lines.specs.Answers.{HasEffect, Tells, lines_behind, outcome_of}
 
 -- the text that tells what comes of this, done to the tag, was written whole
@@ -34,21 +33,21 @@ abbrev pub StopsIn : List ℕ → (written written' : Option (List ℕ)) → (fa
 StopsIn text written written' faults faults' Write = FaultsRose faults faults' × AddsFrontOf text written written'
 StopsIn text written written' faults faults' OutOfMemory = (faults' ≡ faults) × AddsFrontOf text written written'
 
--- what comes of what is done next was written, and the tag is this behind it
-pub record TellsNext (number : ℕ) (tag : TagValue) (stimulus : Stimulus) (tag' : TagValue) (written written' : Option (List ℕ)) : Type 0 where
+-- what comes of what is done next stands behind what waits to be written, and the tag is this behind it
+pub record TellsNext (number : ℕ) (tag : TagValue) (stimulus : Stimulus) (tag' : TagValue) (waiting waiting' : List ℕ) : Type 0 where
   pub effect : StimulusEffect
   pub has : HasEffect stimulus effect
   pub becomes : tag' ≡ (outcome_of effect tag).tag
-  pub added : Adds written written' (text_with (lines_behind number effect tag))
+  pub told : waiting' ≡ waiting ++ text_with (lines_behind number effect tag)
 
--- ... or a front of it was
-pub record StopsAt (number : ℕ) (tag : TagValue) (stimulus : Stimulus) (written written' : Option (List ℕ)) (faults faults' : ℕ) (fault : PlayFault) : Type 0 where
-  pub effect : StimulusEffect
-  pub has : HasEffect stimulus effect
-  pub stops : StopsIn (text_with (lines_behind number effect tag)) written written' faults faults' fault
+-- a front of what waits was written, and the rest waits on
+pub record Sends (waiting waiting' : List ℕ) (written written' : Option (List ℕ)) : Type 0 where
+  pub front : List ℕ
+  pub cut : waiting ≡ front ++ waiting'
+  pub added : Adds written written' front
 
 -- what an end says of what was written and is written, and of the count of the sink's faults before and after
 abbrev pub HasPlayed : TagValue → List Stimulus → (written written' : Option (List ℕ)) → (faults faults' : ℕ) → Result (Unit {0}) PlayFault → Type 0
-HasPlayed tag said written written' faults faults' (Ok done) = WritesText tag said written written'
+HasPlayed tag said written written' faults faults' (Ok done) = (faults' ≡ faults) × WritesText tag said written written'
 HasPlayed tag said written written' faults faults' (Err Write) = FaultsRose faults faults' × WritesPart tag said written written'
 HasPlayed tag said written written' faults faults' (Err OutOfMemory) = (faults' ≡ faults) × WritesPart tag said written written'

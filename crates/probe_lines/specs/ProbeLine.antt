@@ -16,9 +16,8 @@ use Rattle.scenario_lines.specs.Spelling.{tag_fields}
 use Rattle.scenario_lines.specs.TagForm.{IsTag}
 use Rattle.probe_lines.specs.declared.line.LineWord.{LineWord}
 use Rattle.probe_lines.specs.declared.line.LineWord.TheVariants as words
-use Rattle.probe_lines.specs.declared.line.Stimulus.TheVariants as stimuli
-use Rattle.probe_lines.specs.declared.line.ProbeLine.{ProbeLine}
-use Rattle.probe_lines.specs.declared.line.ProbeLine.TheVariants as lines
+use Rattle.probe_lines.specs.Said.{ProbeLine}
+use Rattle.probe_lines.specs.Said as lines
 
 -- the first line
 abbrev pub version_line : List ℕ
@@ -61,16 +60,16 @@ line_word words.End = codes "end"
 
 -- the fields of a line behind that of the tag: a command as it is written everywhere, bits, or an event; or the end
 abbrev pub probe_line_fields : ProbeLine → List (List ℕ)
-probe_line_fields (lines.Stimulus (stimuli.Command command)) = command_fields command
-probe_line_fields (lines.Stimulus (stimuli.Bits bits)) = line_word words.Bits ∷ binary bits ∷ []
-probe_line_fields (lines.Stimulus (stimuli.Event event)) = line_word words.Event ∷ spelled_fields probe_events event
+probe_line_fields (lines.Does (lines.SendsCommand command)) = command_fields command
+probe_line_fields (lines.Does (lines.SendsBits bits)) = line_word words.Bits ∷ binary bits ∷ []
+probe_line_fields (lines.Does (lines.Brings event)) = line_word words.Event ∷ spelled_fields probe_events event
 probe_line_fields lines.End = line_word words.End ∷ []
 
 -- each number of the line is in its range
 abbrev pub IsProbeLine : ProbeLine → Type 0
-IsProbeLine (lines.Stimulus (stimuli.Command command)) = IsLegalCommand command
-IsProbeLine (lines.Stimulus (stimuli.Bits bits)) = length bits ≤ most_bits
-IsProbeLine (lines.Stimulus (stimuli.Event event)) = IsProbeEvent event
+IsProbeLine (lines.Does (lines.SendsCommand command)) = IsLegalCommand command
+IsProbeLine (lines.Does (lines.SendsBits bits)) = length bits ≤ most_bits
+IsProbeLine (lines.Does (lines.Brings event)) = IsProbeEvent event
 IsProbeLine lines.End = Unit {0}
 
 -- the fields say the line

@@ -9,9 +9,8 @@ use Rattle.scenario_lines.specs.Names.{keyword_text}
 use Rattle.scenario_lines.specs.Reading.{MisreadsTag}
 use Rattle.probe_lines.specs.declared.fault.Fault.{Fault}
 use Rattle.probe_lines.specs.declared.fault.Fault.TheVariants.{Extra, End, Version, Word, Limit, Shape, Number, Pc}
-use Rattle.probe_lines.specs.declared.line.Stimulus.{Stimulus}
-use Rattle.probe_lines.specs.declared.line.ProbeLine.{ProbeLine}
-use Rattle.probe_lines.specs.declared.line.ProbeLine.TheVariants as lines
+use Rattle.probe_lines.specs.Said.{Stimulus, ProbeLine}
+use Rattle.probe_lines.specs.Said as lines
 use Rattle.probe_lines.specs.declared.line.LineWord.TheVariants as words
 use Rattle.probe_lines.specs.ProbeLine.{SpellsProbeLine, SpellsTag, version_line}
 use Rattle.probe_lines.specs.LineFaults.{BeginsWith, IsFaultyProbeLine}
@@ -24,7 +23,7 @@ most_stimuli = 70000
 abbrev pub SayStimuli : List (List ℕ) → List Stimulus → Type 0
 SayStimuli [] said = ⊥
 SayStimuli (line ∷ behind) [] = SpellsProbeLine (fields_of line) lines.End × (behind ≡ [] ∷ [])
-SayStimuli (line ∷ behind) (stimulus ∷ said) = SpellsProbeLine (fields_of line) (lines.Stimulus stimulus) × SayStimuli behind said
+SayStimuli (line ∷ behind) (stimulus ∷ said) = SpellsProbeLine (fields_of line) (lines.Does stimulus) × SayStimuli behind said
 
 -- what the lines behind that of the tag say, which is not too much
 pub record AreStimuli (behind : List (List ℕ)) (said : List Stimulus) : Type 0 where
@@ -58,12 +57,12 @@ pub data Standing : Type 0 where
 
 -- where it stands behind a line more
 abbrev pub after : ℕ → ProbeLine → Standing
-after count (lines.Stimulus stimulus) = within (count + 1)
+after count (lines.Does stimulus) = within (count + 1)
 after count lines.End = ended
 
 -- the line is not one too many
 abbrev pub HasRoom : ℕ → ProbeLine → Type 0
-HasRoom count (lines.Stimulus stimulus) = count < most_stimuli
+HasRoom count (lines.Does stimulus) = count < most_stimuli
 HasRoom count lines.End = Unit {0}
 
 -- the line says one that may stand behind so many, and leads there

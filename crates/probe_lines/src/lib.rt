@@ -13,12 +13,12 @@ mod probe;
 mod reading;
 mod stimuli;
 
-pub use effect::StimulusEffect;
+pub use effect::SaidEffect;
 pub use fault::{Fault, ProbeFault, fault_text};
 pub use laws::{
     probe_texts_are_not_faulty, probe_texts_have_one_fault, probes_are_told_apart,
     probes_have_one_text, stimuli_have_one_effect,
 };
-pub use line::{LineWord, ProbeLine, Stimulus};
+pub use line::{LineWord, SaidLine, SaidStimulus};
 pub use playing::play;
 pub use probe::{Probe, read_probe};

@@ -1,22 +1,19 @@
 //! A probe, played: what the tag answers and what it is behind each line, written as it is made.
-ghost use Rattle.std.specs.Prelude.{◌≡◌, ◌≤◌, ◌++◌, List, IfOk, IfErr, OnOk};
+ghost use Rattle.std.specs.Prelude.{◌≡◌, ◌++◌, List, [], IfOk, IfErr, OnOk};
 ghost use Rattle.std.specs.String.{string_bytes};
 ghost use Rattle.air_io.specs.Flow.{Adds};
 ghost use Rattle.text_fields.specs.Lines.{text_with};
-ghost use Rattle.reply_grammar.specs.Table.{reply_room};
 ghost use Rattle.scenario_lines.specs.TagForm.{IsTag};
 ghost use Rattle.tag_machine.specs.Hearing.{tag_value_of};
-ghost use Rattle.probe_lines.specs.declared.effect.StimulusEffect.{StimulusEffect};
-ghost use Rattle.probe_lines.specs.declared.line.Stimulus.{Stimulus};
+ghost use Rattle.probe_lines.specs.Said.{Does, Hears, Stimulus, effect_with, stimulus_with};
 ghost use Rattle.probe_lines.specs.Answers.{last_text, lines_behind, outcome_of, tag_of};
-ghost use Rattle.probe_lines.specs.declared.line.ProbeLine.{ProbeLine};
-ghost use Rattle.probe_lines.specs.Played.{HasPlayed, StopsAt, StopsIn, TellsNext};
+ghost use Rattle.probe_lines.specs.Played.{HasPlayed, Sends, StopsIn, TellsNext};
 ghost use Rattle.probe_lines.specs.ProbeLine.{IsProbeLine};
 ghost use Rattle.probe_lines.specs.ProbeText.{AreStimuli};
 
-use crate::effect::{StimulusEffect, effect_of};
+use crate::effect::{SaidEffect, effect_of};
 use crate::laws::stimuli_have_one_effect;
-use crate::line::Stimulus;
+use crate::line::SaidStimulus;
 use crate::printing::{push_answer_line, push_silence, push_state_line};
 use crate::probe::Probe;
 use crate::stimuli::{FIRST_NUMBER, Stimuli};
@@ -24,6 +21,7 @@ use air_io::{Sink, write_all};
 use answer_reading::{expectation_of, has_half};
 use bit_strings::{Bits, OutOfMemory};
 use command_grammar::Command;
+use reply_grammar::Reply;
 use report_lines::{PlayFault, push_done_line, push_tag_line};
 use scenario_lines::{TagSpec, TagText};
 use std::alloc::Global;
@@ -34,62 +32,11 @@ use tag_machine::{AnyTag, Heard, Steps, answers_are_replies};
 /// Room for the bits of a line and for those of a reply.
 const ROOM: u32 = 8_240;
 
-/// Room for what is written at once: the words of a Read of a whole bank, or the four banks of a tag.
-const LINE_ROOM: usize = 2_500;
+/// How many bytes wait until they are written together.
+const PAGE_BYTES: usize = 4_096;
 
-/// Lets the tag hear a command, and writes what it answered and what it is then.
-fn hear<L: Ledger>(
-    number: u32,
-    tag: AnyTag,
-    command: &Command,
-    bits: &mut Bits,
-    text: &mut String,
-    steps: &mut Steps<L>,
-) -> Result<AnyTag, OutOfMemory>
-    requires room { reply_room ≤ bits.old.capacity }
-    ensures tag { IfOk result (λ it. tag_value_of it ≡ (outcome_of (StimulusEffect.Hears command.now) (tag_value_of tag)).tag) }
-    ensures text { OnOk result (string_bytes text.new ≡ string_bytes text.old ++ text_with (lines_behind number (StimulusEffect.Hears command.now) (tag_value_of tag))) }
-    ensures capacity { bits.new.capacity ≡ bits.old.capacity }
-{
-    // By this law the bits of an answer are a reply that is expected.
-    answers_are_replies();
-    // In each state a tag is legal.
-    let _ = tag.state();
-    let expect = expectation_of(command, has_half(tag.numbers()));
-    let Heard { tag, answered } = tag.hear(command, bits, steps);
-    push_answer_line(text, number, answered, bits, &expect)?;
-    push_state_line(text, number, &tag)?;
-    Ok(tag)
-}
-
-/// Does this to the tag, and writes what it answered, where it may answer, and what it is then.
-fn respond<L: Ledger>(
-    number: u32,
-    tag: AnyTag,
-    effect: StimulusEffect,
-    bits: &mut Bits,
-    text: &mut String,
-    steps: &mut Steps<L>,
-) -> Result<AnyTag, OutOfMemory>
-    requires room { reply_room ≤ bits.old.capacity }
-    ensures tag { IfOk result (λ it. tag_value_of it ≡ (outcome_of effect (tag_value_of tag)).tag) }
-    ensures text { OnOk result (string_bytes text.new ≡ string_bytes text.old ++ text_with (lines_behind number effect (tag_value_of tag))) }
-    ensures capacity { bits.new.capacity ≡ bits.old.capacity }
-{
-    match effect {
-        StimulusEffect::Hears(command) => hear(number, tag, &command, bits, text, steps),
-        StimulusEffect::Befalls(event) => {
-            let befallen = tag.event(event);
-            push_state_line(text, number, &befallen)?;
-            Ok(befallen)
-        }
-        StimulusEffect::Nothing => {
-            push_silence(text, number)?;
-            push_state_line(text, number, &tag)?;
-            Ok(tag)
-        }
-    }
-}
+/// Room for a page and for what comes behind it before it is written: the words of a Read of a whole bank, or the four banks of a tag.
+const TEXT_ROOM: usize = 6_656;
 
 /// The tag as the line gives it: ready, with new flags and no draw made.
 fn new_tag(alloc: Global, tag: &TagText<'_>) -> Result<AnyTag, OutOfMemory>
@@ -116,65 +63,153 @@ fn write_text<O: Sink>(out: &mut O, text: &str) -> Result<(), PlayFault>
     }
 }
 
-/// Room for bits and for what is written at once, taken once for all lines.
+/// Room for a command, for bits, for a reply and for what waits to be written, taken once for all lines.
 #[derive(Drop)]
 struct Rooms {
+    command: Command,
     bits: Bits,
+    reply: Reply,
     text: String,
     ghost bits_room: { bits.capacity ≡ 8240 },
 }
 
 impl Rooms {
-    /// Takes the room.
-    fn new(alloc: Global) -> Result<Rooms, OutOfMemory> {
+    /// Takes the room. Nothing waits.
+    fn new(alloc: Global) -> Result<Rooms, OutOfMemory>
+        ensures { IfOk result (λ it. string_bytes it.text ≡ []) }
+    {
         let bits = Bits::new(alloc, ROOM)?;
-        let text = String::with_capacity(alloc, LINE_ROOM)?;
-        Ok(Rooms { bits, text })
+        let text = String::with_capacity(alloc, TEXT_ROOM)?;
+        Ok(Rooms {
+            command: Command::Nak,
+            bits,
+            reply: Reply::Header,
+            text,
+        })
     }
 
-    /// Does to the tag what is said next, and writes what comes of it.
-    ///
-    /// # Errors
-    ///
-    /// As for [`play`].
-    fn play_next<L: Ledger, O: Sink>(
+    /// Lets the tag hear the command. What it answered and what it is then waits to be written.
+    fn hear<L: Ledger>(
         &mut self,
         number: u32,
         tag: AnyTag,
-        stimulus: Stimulus<'_>,
         steps: &mut Steps<L>,
-        out: &mut O,
-    ) -> Result<AnyTag, PlayFault>
-        requires legal { IsProbeLine (ProbeLine.Stimulus stimulus) }
-        ensures ok { IfOk result (λ it. TellsNext number (tag_value_of tag) stimulus.entry (tag_value_of it) (O.written out.old) (O.written out.new)) }
-        ensures steady { OnOk result (O.faults out.new ≡ O.faults out.old) }
-        ensures failed { IfErr result (StopsAt number (tag_value_of tag) stimulus.entry (O.written out.old) (O.written out.new) (O.faults out.old) (O.faults out.new)) }
+    ) -> Result<AnyTag, OutOfMemory>
+        ensures tag { IfOk result (λ it. tag_value_of it ≡ (outcome_of (Hears self.old.command) (tag_value_of tag)).tag) }
+        ensures text { OnOk result (string_bytes self.new.text ≡ string_bytes self.old.text ++ text_with (lines_behind number (Hears self.old.command) (tag_value_of tag))) }
     {
-        let effect = effect_of(stimulus, &mut self.bits);
-        self.text.clear();
-        let tag = respond(number, tag, effect, &mut self.bits, &mut self.text, steps)?;
-        write_text(out, self.text.as_str())?;
+        // By this law the bits of an answer are a reply that is expected.
+        answers_are_replies();
+        // In each state a tag is legal.
+        let _ = tag.state();
+        let expect = expectation_of(&self.command, has_half(tag.numbers()));
+        let Heard { tag, answered } = tag.hear(&self.command, &mut self.bits, steps);
+        push_answer_line(
+            &mut self.text,
+            number,
+            answered,
+            &self.bits,
+            &expect,
+            &mut self.reply,
+        )?;
+        push_state_line(&mut self.text, number, &tag)?;
         Ok(tag)
     }
 
-    /// Writes what the tag is in the end.
+    /// Does this to the tag. What it answered, where it may answer, and what it is then waits to be written.
+    fn respond<L: Ledger>(
+        &mut self,
+        number: u32,
+        tag: AnyTag,
+        effect: SaidEffect,
+        steps: &mut Steps<L>,
+    ) -> Result<AnyTag, OutOfMemory>
+        ensures tag { IfOk result (λ it. tag_value_of it ≡ (outcome_of (effect_with effect self.old.command) (tag_value_of tag)).tag) }
+        ensures text { OnOk result (string_bytes self.new.text
+            ≡ string_bytes self.old.text ++ text_with (lines_behind number (effect_with effect self.old.command) (tag_value_of tag))) }
+    {
+        match effect {
+            SaidEffect::Hears => self.hear(number, tag, steps),
+            SaidEffect::Befalls(event) => {
+                let befallen = tag.event(event);
+                push_state_line(&mut self.text, number, &befallen)?;
+                Ok(befallen)
+            }
+            SaidEffect::Nothing => {
+                push_silence(&mut self.text, number)?;
+                push_state_line(&mut self.text, number, &tag)?;
+                Ok(tag)
+            }
+        }
+    }
+
+    /// Does to the tag what is said next, where a command has its room here. What comes of it waits to be written.
     ///
     /// # Errors
     ///
-    /// As for [`play`].
-    fn tell_tag<O: Sink>(&mut self, tag: &AnyTag, out: &mut O) -> Result<(), PlayFault>
-        ensures ok { OnOk result (Adds (O.written out.old) (O.written out.new) (last_text (tag_value_of tag.now))) }
-        ensures failed { IfErr result (StopsIn (last_text (tag_value_of tag.now)) (O.written out.old) (O.written out.new) (O.faults out.old) (O.faults out.new)) }
+    /// There was no memory.
+    fn play_next<L: Ledger>(
+        &mut self,
+        number: u32,
+        tag: AnyTag,
+        stimulus: SaidStimulus<'_>,
+        steps: &mut Steps<L>,
+    ) -> Result<AnyTag, OutOfMemory>
+        requires legal { IsProbeLine (Does (stimulus_with stimulus self.old.command)) }
+        ensures { IfOk result (λ it. TellsNext number (tag_value_of tag) (stimulus_with stimulus.entry self.old.command) (tag_value_of it)
+            (string_bytes self.old.text) (string_bytes self.new.text)) }
     {
-        self.text.clear();
+        let effect = effect_of(stimulus, &mut self.bits, &mut self.command);
+        self.respond(number, tag, effect, steps)
+    }
+
+    /// What the tag is in the end waits to be written.
+    ///
+    /// # Errors
+    ///
+    /// There was no memory.
+    fn tell_tag(&mut self, tag: &AnyTag) -> Result<(), OutOfMemory>
+        ensures { OnOk result (string_bytes self.new.text ≡ string_bytes self.old.text ++ last_text (tag_value_of tag.now)) }
+    {
         push_tag_line(&mut self.text, 0, tag)?;
-        push_done_line(&mut self.text)?;
-        write_text(out, self.text.as_str())
+        push_done_line(&mut self.text)
+    }
+
+    /// Writes what waits.
+    ///
+    /// # Errors
+    ///
+    /// A write failed. A front of it was written.
+    fn flush<O: Sink>(&mut self, out: &mut O) -> Result<(), PlayFault>
+        ensures sent { OnOk result (Adds (O.written out.old) (O.written out.new) (string_bytes self.old.text)) }
+        ensures empty { OnOk result (string_bytes self.new.text ≡ []) }
+        ensures failed { IfErr result (StopsIn (string_bytes self.old.text) (O.written out.old) (O.written out.new) (O.faults out.old) (O.faults out.new)) }
+        ensures steady { OnOk result (O.faults out.new ≡ O.faults out.old) }
+    {
+        write_text(out, self.text.as_str())?;
+        self.text.clear();
+        Ok(())
+    }
+
+    /// Writes what waits, where it is a page.
+    ///
+    /// # Errors
+    ///
+    /// As for `flush`.
+    fn write_page<O: Sink>(&mut self, out: &mut O) -> Result<(), PlayFault>
+        ensures sent { OnOk result (Sends (string_bytes self.old.text) (string_bytes self.new.text) (O.written out.old) (O.written out.new)) }
+        ensures failed { IfErr result (StopsIn (string_bytes self.old.text) (O.written out.old) (O.written out.new) (O.faults out.old) (O.faults out.new)) }
+        ensures steady { OnOk result (O.faults out.new ≡ O.faults out.old) }
+    {
+        if self.text.len() < PAGE_BYTES {
+            return Ok(());
+        }
+        self.flush(out)
     }
 }
 
-/// Does to the tag what is said, one after another, and writes what comes of each; then what the tag is in the end. The blank is for the
-/// counter of steps.
+/// Does to the tag what is said, one after another, and writes what comes of each, page by page; then what the tag is in the end. The
+/// blank is for the counter of steps.
 fn play_on<L: Ledger, O: Sink>(
     blank: Blank,
     first: AnyTag,
@@ -186,6 +221,7 @@ fn play_on<L: Ledger, O: Sink>(
     requires parts { blank.parts ≡ L.parts }
     requires one { blank.parts ≡ 1 }
     requires said { (said : List Stimulus) × AreStimuli stimuli said }
+    requires nothing { string_bytes rooms.old.text ≡ [] }
     ensures { (said : List Stimulus) → AreStimuli stimuli.entry said
         → HasPlayed (tag_value_of first) said (O.written out.old) (O.written out.new) (O.faults out.old) (O.faults out.new) result }
 {
@@ -195,15 +231,17 @@ fn play_on<L: Ledger, O: Sink>(
     let mut tag = first;
     let mut left = stimuli;
     let mut number = FIRST_NUMBER;
-    while let Some(stimulus) = left.next() {
-        tag = rooms.play_next(number, tag, stimulus, &mut steps, out)?;
+    while let Some(stimulus) = left.next_to(&mut rooms.command) {
+        tag = rooms.play_next(number, tag, stimulus, &mut steps)?;
+        rooms.write_page(out)?;
         number += 1;
     }
-    rooms.tell_tag(&tag, out)
+    rooms.tell_tag(&tag)?;
+    rooms.flush(out)
 }
 
 /// Does to the tag of a probe what is said, line by line, and writes behind each line what the tag answers and what it is then; and in
-/// the end the line of the tag, as in a report. Each line is written as it is made.
+/// the end the line of the tag, as in a report. Lines wait until they are a page.
 ///
 /// # Errors
 ///

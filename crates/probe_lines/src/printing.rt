@@ -9,7 +9,7 @@ ghost use Rattle.tag_machine.specs.Hearing.{tag_value_of};
 ghost use Rattle.probe_lines.specs.Answers.{answer_line, cover_word, half_word, number_fields, password_word, state_line};
 ghost use Rattle.probe_lines.specs.Heard.{IsAnswered};
 
-use answer_reading::reply_of;
+use answer_reading::expected_reply_to;
 use bit_strings::{Bits, OutOfMemory};
 use reply_grammar::{Expect, Reply};
 use reply_text::push_reply;
@@ -43,13 +43,14 @@ fn push_sent(
 }
 
 /// Writes what the tag answered to the line of this number: with the Query's TRext, with the extended preamble, or not at all. An
-/// answer is the reply that its bits are, by what is expected.
+/// answer is the reply that its bits are, by what is expected; the room for it is lent.
 pub(crate) fn push_answer_line(
     text: &mut String,
     number: u32,
     answered: Answered,
     bits: &Bits,
     expect: &Option<Expect>,
+    reply: &mut Reply,
 ) -> Result<(), OutOfMemory>
     requires { (answer : Option Sent) × IsAnswered answer answered expect.now bits.now.items }
     ensures { (answer : Option Sent) → IsAnswered answer answered expect.now bits.now.items
@@ -57,8 +58,14 @@ pub(crate) fn push_answer_line(
 {
     match answered {
         Answered::Silent => push_silence(text, number),
-        Answered::Plain => push_sent(text, number, "plain", &reply_of(bits, expect)),
-        Answered::Extended => push_sent(text, number, "extended", &reply_of(bits, expect)),
+        Answered::Plain => {
+            expected_reply_to(bits, expect, reply);
+            push_sent(text, number, "plain", reply)
+        }
+        Answered::Extended => {
+            expected_reply_to(bits, expect, reply);
+            push_sent(text, number, "extended", reply)
+        }
     }
 }
 

@@ -1,6 +1,6 @@
 //! A probe, read from its text.
 ghost use Rattle.std.specs.Prelude.{◌≡◌, ◌↔◌, List, IfOk, IfErr, IsTrue};
-ghost use Rattle.probe_lines.specs.declared.line.Stimulus.{Stimulus};
+ghost use Rattle.probe_lines.specs.Said.{Stimulus};
 ghost use Rattle.probe_lines.specs.ProbeLine.{version_line};
 ghost use Rattle.probe_lines.specs.ProbeText.{AreStimuli, IsFirstFault, IsProbe};
 

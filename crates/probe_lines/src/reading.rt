@@ -3,6 +3,7 @@ ghost use Rattle.std.specs.Prelude.{◌≡◌, ◌<◌, ◌≤◌, ◌↔◌, �
 ghost use Rattle.text_fields.specs.Binary.{binary};
 ghost use Rattle.text_fields.specs.Lines.{fields_of};
 ghost use Rattle.probe_lines.specs.LineFaults.{AreFaultyBits, AreFaultyEnd, BeginsWith, IsFaultyProbeLine};
+ghost use Rattle.probe_lines.specs.Said.{probe_line_with};
 ghost use Rattle.probe_lines.specs.ProbeLine.{SpellsProbeLine, SpellsTag, line_word, most_bits};
 ghost use Rattle.scenario_lines.specs.declared.first_fields.Keyword.{Keyword};
 ghost use Rattle.scenario_lines.specs.Names.{keyword_text};
@@ -11,8 +12,9 @@ ghost use Rattle.probe_lines.specs.ProbeText.{BeginsAsTag, HasRoom, IsFaultyBehi
 use crate::events::read_event;
 use crate::fault::Fault;
 use crate::laws::line_laws;
-use crate::line::{LineWord, ProbeLine, Stimulus};
-use command_text::read_command;
+use crate::line::{LineWord, SaidLine, SaidStimulus};
+use command_grammar::Command;
+use command_text::read_command_to;
 use scenario_lines::{LineFault, TagText, read_tag};
 use text_fields::{Digits, Fields, FieldsFault, is_at_end, one_field};
 
@@ -71,29 +73,32 @@ fn read_end(others: Fields) -> Result<(), FieldsFault>
     }
 }
 
-/// What a line says that stands behind that of the tag, and is given without its line feed.
+/// What a line says that stands behind that of the tag, and is given without its line feed. A command takes the place of another.
 ///
 /// # Errors
 ///
 /// The first reason for which it says nothing, whatever stands before it.
-pub(crate) fn read_probe_line(line: &[u8]) -> Result<ProbeLine<'_>, FieldsFault>
-    ensures ok { IfOk result (SpellsProbeLine (fields_of line.now)) }
+pub(crate) fn read_probe_line<'a>(
+    line: &'a [u8],
+    command: &mut Command,
+) -> Result<SaidLine<'a>, FieldsFault>
+    ensures ok { IfOk result (λ said. SpellsProbeLine (fields_of line.now) (probe_line_with said command.new)) }
     ensures refused { IfErr result (IsFaultyProbeLine (fields_of line.now)) }
 {
     match split_word(line) {
         Some((LineWord::Bits, others)) => {
-            Ok(ProbeLine::Stimulus(Stimulus::Bits(read_bits(others)?)))
+            Ok(SaidLine::Stimulus(SaidStimulus::Bits(read_bits(others)?)))
         }
         Some((LineWord::Event, others)) => {
-            Ok(ProbeLine::Stimulus(Stimulus::Event(read_event(others)?)))
+            Ok(SaidLine::Stimulus(SaidStimulus::Event(read_event(others)?)))
         }
         Some((LineWord::End, others)) => {
             read_end(others)?;
-            Ok(ProbeLine::End)
+            Ok(SaidLine::End)
         }
         None => {
-            let command = read_command(Fields::new(line))?;
-            Ok(ProbeLine::Stimulus(Stimulus::Command(command)))
+            read_command_to(Fields::new(line), command)?;
+            Ok(SaidLine::Stimulus(SaidStimulus::Command))
         }
     }
 }
@@ -123,19 +128,24 @@ fn is_too_much(line: &[u8], count: u32) -> bool
     !begins_with_end(line)
 }
 
-/// What a line says that stands behind that of the tag and so many more, and is given without its line feed.
+/// What a line says that stands behind that of the tag and so many more, and is given without its line feed. A command takes the place of
+/// another.
 ///
 /// # Errors
 ///
 /// The first reason for which it may not stand there.
 #[tactic(auto, using(crate::proofs::FaultyLines::one_too_many))]
-pub(crate) fn read_behind(line: &[u8], count: u32) -> Result<ProbeLine<'_>, Fault>
-    ensures ok { IfOk result (λ says. SpellsProbeLine (fields_of line.now) says × HasRoom count says) }
+pub(crate) fn read_behind<'a>(
+    line: &'a [u8],
+    count: u32,
+    command: &mut Command,
+) -> Result<SaidLine<'a>, Fault>
+    ensures ok { IfOk result (λ said. SpellsProbeLine (fields_of line.now) (probe_line_with said command.new) × HasRoom count (probe_line_with said command.new)) }
     ensures refused { IfErr result (IsFaultyBehind count (fields_of line.now)) }
 {
     // By these laws a line says something or is faulty for one reason.
     line_laws();
-    match read_probe_line(line) {
+    match read_probe_line(line, command) {
         Err(FieldsFault::Word) => Err(Fault::Word),
         Err(FieldsFault::Shape) => {
             if is_too_much(line, count) {
@@ -149,13 +159,13 @@ pub(crate) fn read_behind(line: &[u8], count: u32) -> Result<ProbeLine<'_>, Faul
             }
             Err(Fault::Number)
         }
-        Ok(ProbeLine::Stimulus(stimulus)) => {
+        Ok(SaidLine::Stimulus(stimulus)) => {
             if count >= MOST_STIMULI {
                 return Err(Fault::Limit);
             }
-            Ok(ProbeLine::Stimulus(stimulus))
+            Ok(SaidLine::Stimulus(stimulus))
         }
-        Ok(ProbeLine::End) => Ok(ProbeLine::End),
+        Ok(SaidLine::End) => Ok(SaidLine::End),
     }
 }
 

@@ -1,15 +1,15 @@
 //! What is done to the tag, line by line.
 ghost use Rattle.std.specs.Prelude.{◌≡◌, ◌≤◌, ◌<◌, ◌+◌, ℕ, List, [], ◌∷◌, length, IfOk, IfErr, IfSome, IfNone};
 ghost use Rattle.text_fields.specs.Lines.{lines_of};
-ghost use Rattle.probe_lines.specs.declared.line.ProbeLine.{ProbeLine};
-ghost use Rattle.probe_lines.specs.declared.line.Stimulus.{Stimulus};
+ghost use Rattle.probe_lines.specs.Said.{Does, Stimulus, stimulus_with};
 ghost use Rattle.probe_lines.specs.ProbeLine.{IsProbeLine};
 ghost use Rattle.probe_lines.specs.ProbeText.{AreStimuli, IsFirstFaultFrom, SayStimuli, within};
 
 use crate::fault::{Fault, ProbeFault};
 use crate::laws::line_laws;
-use crate::line::{ProbeLine, Stimulus};
+use crate::line::{SaidLine, SaidStimulus};
 use crate::reading::{read_behind, read_probe_line};
+use command_grammar::Command;
 use std::marker::Model;
 use text_fields::split_line;
 
@@ -25,7 +25,7 @@ pub(crate) struct Stimuli<'a> {
 impl<'a> Model for Stimuli<'a> {
     ghost use Rattle.std.specs.Prelude.{List, ℕ};
     ghost use Rattle.text_fields.specs.Lines.{lines_of};
-    ghost use Rattle.probe_lines.specs.declared.line.Stimulus.{Stimulus};
+    ghost use Rattle.probe_lines.specs.Said.{Stimulus};
     ghost use Rattle.probe_lines.specs.ProbeText.{AreStimuli};
 
     ghost Value = { List (List ℕ) };
@@ -56,18 +56,19 @@ impl<'a> Stimuli<'a> {
         ensures ok { IfOk result (λ it. (it ≡ lines_of text.now) × (said : List Stimulus) × AreStimuli (lines_of text.now) said) }
         ensures refused { IfErr result (λ fault. IsFirstFaultFrom (within 0) 3 (lines_of text.now) fault.line fault.reason) }
     {
+        let mut command = Command::Nak;
         let mut rest = text;
         let mut count = 0;
         loop {
             let Some((line, behind)) = split_line(rest) else {
                 return Err(fault_behind(count, Fault::End));
             };
-            match read_behind(line, count) {
-                Ok(ProbeLine::Stimulus(_)) => {
+            match read_behind(line, count, &mut command) {
+                Ok(SaidLine::Stimulus(_)) => {
                     count += 1;
                     rest = behind;
                 }
-                Ok(ProbeLine::End) => {
+                Ok(SaidLine::End) => {
                     return if behind.is_empty() {
                         Ok(Stimuli { rest: text })
                     } else {
@@ -79,10 +80,10 @@ impl<'a> Stimuli<'a> {
         }
     }
 
-    /// What is done next; none where nothing more is.
-    pub(crate) fn next(&mut self) -> Option<Stimulus<'a>>
-        ensures some { IfSome result (λ it. IsProbeLine (ProbeLine.Stimulus it)
-            × ((said : List Stimulus) → SayStimuli self.old said → (left : List Stimulus) × (said ≡ it ∷ left) × SayStimuli self.new left)) }
+    /// What is done next; none where nothing more is. A command takes the place of another.
+    pub(crate) fn next_to(&mut self, command: &mut Command) -> Option<SaidStimulus<'a>>
+        ensures some { IfSome result (λ it. IsProbeLine (Does (stimulus_with it command.new))
+            × ((said : List Stimulus) → SayStimuli self.old said → (left : List Stimulus) × (said ≡ stimulus_with it command.new ∷ left) × SayStimuli self.new left)) }
         ensures none { IfNone result ((said : List Stimulus) → SayStimuli self.old said → said ≡ []) }
         ensures fewer { IfSome result (λ _. length self.new < length self.old) }
     {
@@ -92,12 +93,12 @@ impl<'a> Stimuli<'a> {
             // The end is there.
             unreachable!()
         };
-        match read_probe_line(line) {
-            Ok(ProbeLine::Stimulus(stimulus)) => {
+        match read_probe_line(line, command) {
+            Ok(SaidLine::Stimulus(stimulus)) => {
                 self.rest = behind;
                 Some(stimulus)
             }
-            Ok(ProbeLine::End) => None,
+            Ok(SaidLine::End) => None,
             // Each line says something.
             Err(_) => unreachable!(),
         }

@@ -1,4 +1,5 @@
 pub mod Rounds
 pub mod SpecValue
+pub mod NextAnswer
 pub mod RoundValue
 pub mod laws

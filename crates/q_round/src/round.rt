@@ -1,8 +1,9 @@
 //! A round, which takes the outcome of one slot at a time.
 ghost use Rattle.std.specs.Prelude.{◌≡◌, ◌+◌, ◌≤◌, true, false, List, [], ◌∷◌};
+ghost use Rattle.command_grammar.specs.declared.commands.Command.TheVariants.{QueryRep};
 
 use crate::frame::Frame;
-use crate::{Outcome, RoundSpec};
+use crate::{Outcome, RoundSpec, Session};
 use command_grammar::Command;
 use pie_line::Link;
 use std::marker::Model;
@@ -62,6 +63,7 @@ impl Round {
     ghost use Rattle.q_round.specs.SpecValue.{SpecValue};
     ghost use Rattle.q_round.specs.Rounds.{next_command, is_over, slots_of};
     ghost use Rattle.q_round.specs.RoundValue.{RoundStandsFor, IsNextAnswer, slots_in};
+    ghost use Rattle.q_round.specs.NextAnswer.{next_of};
 
     /// A round with these parameters, and the Query that begins it, which asks for replies as the link
     /// has them.
@@ -98,29 +100,50 @@ impl Round {
         ensures sent { self.new.slots_sent ≡ self.old.slots_sent + slots_in result }
         ensures limit { self.new.slots_sent ≤ self.new.spec.limit }
     {
+        let mut command = Command::Nak;
+        match self.next_to(outcome, &mut command) {
+            None => Next::Send(command),
+            Some(RoundEnd::Quiet) => Next::Quiet,
+            Some(RoundEnd::Limit) => Next::Limit,
+        }
+    }
+
+    /// Finds what [`next`](Round::next) finds, and puts a slot command in place of another command, or gives the
+    /// end of the round. No command is copied, as one has room for the longest list of words.
+    pub fn next_to(&mut self, outcome: Outcome, command: &mut Command) -> Option<RoundEnd>
+        ensures answer { (spec : SpecValue) (outcomes : List Outcome) → RoundStandsFor self.old spec outcomes → is_over spec outcomes ≡ false →
+            IsNextAnswer (next_of result command.new) self.new spec (outcome ∷ outcomes) }
+        ensures again { (spec : SpecValue) (outcomes : List Outcome) → RoundStandsFor self.old spec outcomes → is_over spec outcomes ≡ true →
+            (self.new ≡ self.old) × IsNextAnswer (next_of result command.new) self.new spec outcomes }
+        ensures spec { self.new.spec ≡ self.old.spec }
+        ensures sent { self.new.slots_sent ≡ self.old.slots_sent + slots_in (next_of result command.new) }
+        ensures limit { self.new.slots_sent ≤ self.new.spec.limit }
+    {
         let frame = match self.stage {
             Stage::Underway(frame) => frame,
-            Stage::Quiet => return Next::Quiet,
-            Stage::Limit => return Next::Limit,
+            Stage::Quiet => return Some(RoundEnd::Quiet),
+            Stage::Limit => return Some(RoundEnd::Limit),
         };
         let rule = self.spec.rule();
         let frame = frame.counting(outcome, rule);
         if frame.is_whole_and_silent() {
             self.stage = Stage::Quiet;
-            return Next::Quiet;
+            return Some(RoundEnd::Quiet);
         }
         if self.slots_sent == self.spec.limit() {
             self.stage = Stage::Limit;
-            return Next::Limit;
+            return Some(RoundEnd::Limit);
         }
         self.slots_sent += 1;
         let session = self.spec.session();
         if let Some(updn) = frame.change(rule) {
             self.stage = Stage::Underway(frame.begin(updn));
-            return Next::Send(Command::QueryAdjust { session, updn });
+            *command = Command::QueryAdjust { session, updn };
+            return None;
         }
         self.stage = Stage::Underway(frame);
-        Next::Send(Command::QueryRep { session })
+        put_query_rep(command, session);
+        None
     }
 
     /// How many slot commands the round has given so far, its Query among them.
@@ -130,5 +153,15 @@ impl Round {
         ensures limit { result ≤ self.now.spec.limit }
     {
         self.slots_sent
+    }
+}
+
+/// Puts a QueryRep in place of another command. Most often that is a QueryRep too, and has its session changed alone.
+fn put_query_rep(command: &mut Command, session: Session)
+    ensures { command.new ≡ QueryRep session }
+{
+    match command {
+        Command::QueryRep { session: last } => *last = session,
+        _ => *command = Command::QueryRep { session },
     }
 }

@@ -1,10 +1,11 @@
 //! Bits to replies.
-ghost use Rattle.std.specs.Prelude.{◌≡◌, ℕ, ◌+◌, ◌-◌, ◌*◌, ◌≤◌, ◌==◌, ◌↔◌, length, take, IsTrue, IfOk, IfErr, Ok, Err};
+ghost use Rattle.std.specs.Prelude.{◌≡◌, ℕ, ◌+◌, ◌-◌, ◌*◌, ◌≤◌, ◌==◌, ◌↔◌, List, length, take, IsTrue, IfOk, IfErr, OnOk, Ok, Err};
 ghost use Rattle.bit_strings.specs.Numbers.{value_of, part_of};
 ghost use Rattle.reply_grammar.specs.Table.{AnswersExpected};
 ghost use Rattle.reply_grammar.specs.Refusals.{RefusesReply, FitsLength, PassesCheck, PassesHeader, PassesNumber, EndsWithCheck, HasHandle, Passes};
-ghost use Rattle.reply_grammar.specs.declared.expected.Expect.TheVariants.{Epc as OneEpc};
+ghost use Rattle.reply_grammar.specs.declared.expected.Expect.TheVariants.{Epc as OneEpc, Rn16 as OneRn16};
 ghost use Rattle.reply_grammar.specs.declared.expected.Reply.{Reply};
+ghost use Rattle.reply_grammar.specs.declared.expected.Reply.TheVariants.{Rn16, Epc, Words};
 ghost use Rattle.reply_grammar.specs.declared.expected.ReplyRefusal.{ReplyRefusal};
 ghost use Rattle.reply_grammar.specs.laws.Reading.{ReadTo};
 
@@ -28,9 +29,48 @@ pub fn decode_reply(bits: &Bits, expect: &Expect) -> Result<Reply, ReplyRefusal>
     take_apart(bits, expect)
 }
 
-/// Asks the four things in order, and then reads.
+/// Gives the reply in place of another one, as `decode_reply` gives it. A reply has room for the longest list of words, and none is
+/// copied so. Where the bits are refused, nothing is known of what stands in the room.
+pub fn decode_reply_to(bits: &Bits, expect: &Expect, reply: &mut Reply) -> Result<(), ReplyRefusal>
+    ensures ok { OnOk result (AnswersExpected reply.new expect.now bits.now.items) }
+    ensures refused { IfErr result (λ refusal. RefusesReply refusal expect.now bits.now.items) }
+{
+    look_at(bits, expect)?;
+    read_reply_to(bits, expect, reply);
+    Ok(())
+}
+
+/// Takes the bits of an RN16 apart, as `decode_reply` does, for which no `Reply` is made.
+pub fn decode_rn16(bits: &Bits) -> Result<u16, ReplyRefusal>
+    ensures ok { IfOk result (λ rn. AnswersExpected (Rn16 rn) OneRn16 bits.now.items) }
+    ensures refused { IfErr result (λ refusal. RefusesReply refusal OneRn16 bits.now.items) }
+{
+    look_at(bits, &Expect::Rn16)?;
+    Ok(read_rn16(bits))
+}
+
+/// Takes the bits of a PC and its EPC apart, as `decode_reply` does, for which no `Reply` is made either.
+pub fn decode_epc(bits: &Bits) -> Result<(u16, EpcWords), ReplyRefusal>
+    ensures ok { IfOk result (λ it. AnswersExpected (Epc it.0 it.1) OneEpc bits.now.items) }
+    ensures refused { IfErr result (λ refusal. RefusesReply refusal OneEpc bits.now.items) }
+{
+    look_at(bits, &Expect::Epc)?;
+    Ok(read_epc(bits))
+}
+
+/// Looks, and then reads.
 fn take_apart(bits: &Bits, expect: &Expect) -> Result<Reply, ReplyRefusal>
     ensures ok { IfOk result (λ reply. AnswersExpected reply expect.now bits.now.items) }
+    ensures refused { IfErr result (λ refusal. RefusesReply refusal expect.now bits.now.items) }
+{
+    let mut reply = Reply::Header;
+    decode_reply_to(bits, expect, &mut reply)?;
+    Ok(reply)
+}
+
+/// Asks the four things in order.
+fn look_at(bits: &Bits, expect: &Expect) -> Result<(), ReplyRefusal>
+    ensures ok { OnOk result (Passes expect.now bits.now.items) }
     ensures refused { IfErr result (λ refusal. RefusesReply refusal expect.now bits.now.items) }
 {
     if !fits_length(bits, expect) {
@@ -45,7 +85,7 @@ fn take_apart(bits: &Bits, expect: &Expect) -> Result<Reply, ReplyRefusal>
     if !passes_number(bits, expect) {
         return Err(ReplyRefusal::Number);
     }
-    Ok(read_reply(bits, expect))
+    Ok(())
 }
 
 /// Whether the number of bits is one that is allowed.
@@ -155,36 +195,59 @@ fn word_at(bits: &Bits, at: u32) -> u16
     word_of(&bits.as_slice()[from..from + 16])
 }
 
-/// The reply that bits are which pass.
-fn read_reply(bits: &Bits, expect: &Expect) -> Reply
+/// The RN16 that bits are which pass as one.
+fn read_rn16(bits: &Bits) -> u16
+    requires { Passes OneRn16 bits.now.items }
+    ensures { AnswersExpected (Rn16 result) OneRn16 bits.now.items }
+{
+    word_at(bits, 0)
+}
+
+/// The PC and the EPC that bits are which pass as these.
+fn read_epc(bits: &Bits) -> (u16, EpcWords)
+    requires { Passes OneEpc bits.now.items }
+    ensures { AnswersExpected (Epc result.0 result.1) OneEpc bits.now.items }
+{
+    let pc = word_at(bits, 0);
+    let epc = epc_words(bits);
+    (pc, epc)
+}
+
+/// Gives the reply that bits are which pass, in place of another.
+fn read_reply_to(bits: &Bits, expect: &Expect, reply: &mut Reply)
     requires { Passes expect.now bits.now.items }
-    ensures { AnswersExpected result expect.now bits.now.items }
+    ensures { AnswersExpected reply.new expect.now bits.now.items }
 {
     match expect {
-        Expect::Rn16 => Reply::Rn16(word_at(bits, 0)),
-        Expect::Epc => Reply::Epc {
-            pc: word_at(bits, 0),
-            epc: epc_words(bits),
-        },
-        Expect::Handle => Reply::Handle(word_at(bits, 0)),
-        Expect::Same(_) => Reply::Handle(word_at(bits, 0)),
+        Expect::Rn16 => *reply = Reply::Rn16(word_at(bits, 0)),
+        Expect::Epc => {
+            *reply = Reply::Epc {
+                pc: word_at(bits, 0),
+                epc: epc_words(bits),
+            };
+        }
+        Expect::Handle => *reply = Reply::Handle(word_at(bits, 0)),
+        Expect::Same(_) => *reply = Reply::Handle(word_at(bits, 0)),
         Expect::Words(count, _) => {
             if is_error(bits) {
-                return Reply::Error(error_code(bits));
+                *reply = Reply::Error(error_code(bits));
+                return;
             }
-            Reply::Words(read_words(bits, u32::from(count.get())))
+            read_words_to(bits, u32::from(count.get()), reply);
         }
         Expect::AnyWords(_) => {
             if is_error(bits) {
-                return Reply::Error(error_code(bits));
+                *reply = Reply::Error(error_code(bits));
+                return;
             }
-            Reply::Words(read_words(bits, (bits.len() - 33) / 16))
+            read_words_to(bits, (bits.len() - 33) / 16, reply);
         }
         Expect::Header(_) => {
             if is_error(bits) {
-                return Reply::Error(error_code(bits));
+                *reply = Reply::Error(error_code(bits));
+                return;
             }
-            Reply::Header
+            *reply = Reply::Header;
         }
     }
 }
@@ -212,18 +275,30 @@ fn epc_words(bits: &Bits) -> EpcWords
     words
 }
 
-/// The words between the header bit and the handle.
-fn read_words(bits: &Bits, count: u32) -> ReadWords
+/// Gives the words between the header bit and the handle, in place of another reply.
+fn read_words_to(bits: &Bits, count: u32, reply: &mut Reply)
     requires few { count ≤ 512 }
     requires whole { length bits.now.items ≡ 33 + 16 * count }
-    ensures { ReadTo bits.now.items 1 (length bits.now.items - 32) result }
+    ensures { (words : List ℕ) × (reply.new ≡ Words words) × ReadTo bits.now.items 1 (length bits.now.items - 32) words }
 {
-    let mut words = ReadWords::new();
+    *reply = Reply::Words(ReadWords::new());
+    match reply {
+        Reply::Words(words) => put_words(bits, count, words),
+        _ => unreachable!(),
+    }
+}
+
+/// Puts the words between the header bit and the handle in place of others.
+fn put_words(bits: &Bits, count: u32, words: &mut ReadWords)
+    requires few { count ≤ 512 }
+    requires whole { length bits.now.items ≡ 33 + 16 * count }
+    ensures { ReadTo bits.now.items 1 (length bits.now.items - 32) words.new }
+{
+    words.clear();
     let end = 1 + 16 * count;
     let mut at = 1;
     while at < end {
         words.push_reserved(word_at(bits, at));
         at += 16;
     }
-    words
 }

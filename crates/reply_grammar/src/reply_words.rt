@@ -36,6 +36,17 @@ impl EpcWords {
         }
     }
 
+    /// The list of these words.
+    pub fn of(words: &[u16]) -> EpcWords
+        requires { length words.now ≤ 31 }
+        ensures { result ≡ words.now }
+    {
+        let mut list = ArrayVec::new();
+        // There is room for each word.
+        let _ = list.try_extend_from_slice(words);
+        EpcWords { words: list }
+    }
+
     /// How many words the list has.
     pub fn len(&self) -> u32
         ensures count { result ≡ length self.now }
@@ -118,6 +129,17 @@ impl ReadWords {
         ReadWords {
             words: ArrayVec::new(),
         }
+    }
+
+    /// The list of these words.
+    pub fn of(words: &[u16]) -> ReadWords
+        requires { length words.now ≤ 512 }
+        ensures { result ≡ words.now }
+    {
+        let mut list = ArrayVec::new();
+        // There is room for each word.
+        let _ = list.try_extend_from_slice(words);
+        ReadWords { words: list }
     }
 
     /// How many words the list has.

@@ -4,19 +4,18 @@ ghost use Rattle.text_fields.specs.Hexadecimal.{hex_words};
 ghost use Rattle.text_fields.specs.WordLists.{IsWordList};
 
 use reply_grammar::{EpcWords, ReadWords};
-use text_fields::{Words, words_from};
+use text_fields::words_from;
 
 /// The EPC of 0 to 31 words that a field spells.
 pub fn epc_of(field: &[u8]) -> Option<EpcWords>
     ensures value { IfSome result (λ epc. (field.now ≡ hex_words epc) × IsWordList 0 31 epc) }
     ensures only { (words : List ℕ) → IsWordList 0 31 words → field.now ≡ hex_words words → IsSomeAnd result (λ epc. epc ≡ words) }
 {
-    let mut words = Words::new(field, 31)?;
-    let mut epc = EpcWords::new();
-    while let Some(word) = words.take_first() {
-        epc.push_reserved(word);
-    }
-    Some(epc)
+    let words = words_from(field, 0, 31)?;
+    let mut room = [0_u16; 31];
+    let epc = &mut room[..words.len() as usize];
+    words.write_to(epc);
+    Some(EpcWords::of(epc))
 }
 
 /// What a Read brings, 1 to 512 words, which a field spells.
@@ -24,10 +23,9 @@ pub(crate) fn read_words_of(field: &[u8]) -> Option<ReadWords>
     ensures value { IfSome result (λ it. (field.now ≡ hex_words it) × IsWordList 1 512 it) }
     ensures only { (words : List ℕ) → IsWordList 1 512 words → field.now ≡ hex_words words → IsSomeAnd result (λ it. it ≡ words) }
 {
-    let mut words = words_from(field, 1, 512)?;
-    let mut read = ReadWords::new();
-    while let Some(word) = words.take_first() {
-        read.push_reserved(word);
-    }
-    Some(read)
+    let words = words_from(field, 1, 512)?;
+    let mut room = [0_u16; 512];
+    let read = &mut room[..words.len() as usize];
+    words.write_to(read);
+    Some(ReadWords::of(read))
 }

@@ -1,3 +1,4 @@
+pub mod Heard
 pub mod Received
 pub mod Receiving
 pub mod laws

@@ -1,4 +1,5 @@
 pub mod ReportLine
+pub mod ReadLines
 pub mod Line
 pub mod JsonLines
 pub mod JsonObject

@@ -7,6 +7,7 @@ mod json_lines;
 mod json_objects;
 mod laws;
 mod line;
+mod line_fields;
 mod lines;
 mod listener;
 mod member_texts;
@@ -14,15 +15,18 @@ mod mode;
 mod mode_spelling;
 mod naming;
 mod results;
+mod rx_line;
 mod seen;
 mod spelling;
 mod tags;
 mod text_report;
+mod tx_line;
 
 pub use exchange_lines::{push_answer_line, push_exchange_line, push_given_line, push_missed_line};
 pub use json_lines::push_json_line;
 pub use laws::{lines_have_names, objects_need_no_escape, seen_laws};
 pub use line::Line;
+pub use line_fields::first_field;
 pub use lines::{
     push_blf_line, push_done_line, push_list_line, push_round_line, push_rx_line, push_seen_line,
     push_tx_line,
@@ -33,7 +37,9 @@ pub use mode::{Mode, PlayFault};
 pub use mode_spelling::ModeSpelling;
 pub use naming::named;
 pub use results::push_op_line;
+pub use rx_line::read_rx_line;
 pub use seen::SeenCounts;
 pub use spelling::{Spelling, push_line};
 pub use tags::{push_next_flags, push_next_state, push_tag_line};
 pub use text_report::TextReport;
+pub use tx_line::{MOST_INTERVALS, read_tx_line};

@@ -1,7 +1,6 @@
 //! Lines of a report, written, each with its line feed. After an error the text may hold a part of the line.
-ghost use Rattle.std.specs.Prelude.{◌≡◌, ◌++◌, OnOk, [], ◌∷◌, codes};
+ghost use Rattle.std.specs.Prelude.{◌≡◌, ◌++◌, OnOk, [], ◌∷◌};
 ghost use Rattle.std.specs.String.{string_bytes};
-ghost use Rattle.std.specs.Fmt.{decimal};
 ghost use Rattle.text_fields.specs.Hexadecimal.{hex_word, hex_words};
 ghost use Rattle.text_fields.specs.Lines.{line_feed, line_with, space};
 ghost use Rattle.report_lines.specs.ReportLine.{BlfLine, DoneLine, ListLine, RoundLine, RxLine, SeenLine, TxLine, end_word, report_line_text};

@@ -1,7 +1,6 @@
 //! How often each tag was listed.
-ghost use Rattle.std.specs.Prelude.{◌≡◌, ◌<◌, ◌^◌, ◌+◌, ◌++◌, ℕ, List, [], ◌∷◌, length, map, ◌≤◌, ◌↔◌, OnErr, OnOk, IfOk, IfSome, IsNone, Some, slice_get};
-ghost use Rattle.std.specs.String.{string_bytes};
-ghost use Rattle.report_lines.specs.SeenCounts.{count_of, seen_in, seen_line, seen_more, total_of};
+ghost use Rattle.std.specs.Prelude.{◌≡◌, ◌<◌, ◌^◌, ◌+◌, ◌++◌, ℕ, List, [], ◌∷◌, length, ◌≤◌, ◌↔◌, OnErr, OnOk, IfOk, IfSome, IsNone, Some, slice_get};
+ghost use Rattle.report_lines.specs.SeenCounts.{count_of, seen_in, seen_more, total_of};
 
 use bit_strings::OutOfMemory;
 use indexmap::IndexMap;

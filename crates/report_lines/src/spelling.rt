@@ -1,5 +1,5 @@
 //! How lines are spelled.
-ghost use Rattle.std.specs.Prelude.{◌≡◌, ◌++◌, ℕ, List, [], IsFalse, OnOk, true, not};
+ghost use Rattle.std.specs.Prelude.{◌≡◌, ◌++◌, ℕ, List, [], IsFalse, OnOk, true};
 ghost use Rattle.std.specs.String.{string_bytes};
 ghost use Rattle.report_lines.specs.Kept.{is_of_exchanges, is_of_trace, kept_line_text, keeps, line_text_of};
 ghost use Rattle.report_lines.specs.Line.{line_of};

@@ -3,7 +3,7 @@ use Rattle.std.proofs.Common.{◌≡◌, ℕ, ◌+◌, Bool, true, false, ◌&&�
 use Rattle.std.proofs.lemmas.List.Elements.{recursion_from_All}
 use Rattle.std.specs.List.{AllByRecursion}
 use Rattle.access_ops.specs.laws.OperationLaws.{IsLegalOp}
-use Rattle.access_ops.specs.Operations.{Dialogue, dialogue_of, dialogue_after, dialogue_behind, first_of, next_operation, reception_in, Move, answered, told, IsAnswerFor, Follows, AreMoves}
+use Rattle.access_ops.specs.Operations.{Dialogue, dialogue_of, dialogue_after, dialogue_behind, first_of, next_operation, reception_in, Move, answered, told, IsAnswerFor, IsMoveFor, AreMoves}
 use Rattle.access_ops.specs.declared.OpList.{OpList}
 use Rattle.access_ops.specs.declared.op_next.Answer.{Answer}
 use Rattle.access_ops.specs.declared.op_next.Answer.TheVariants.{Silence, Got}
@@ -224,7 +224,7 @@ dialogue-legal laws at list epc rn past ops word legal =
           record {
             legal = legal-sent laws start at.round at.slot command now (laws.operations list epc rn here.moves command expect extended ops word here.are next) here.legal;
             moves = answered came.answer ∷ here.moves;
-            are = (subst (λ (n : OpNext). Follows n (answered came.answer)) (sym next) came.fits, here.are);
+            are = (subst (λ (n : OpNext). IsMoveFor n (answered came.answer)) (sym next) came.fits, here.are);
             left_is = ap (λ (d : Dialogue). dialogue_behind (answered came.answer) d) here.left_is ∙ ap go_on came.is;
           };
       result = λ index result later now here.
@@ -232,7 +232,7 @@ dialogue-legal laws at list epc rn past ops word legal =
           record {
             legal = legal-operated start at.round at.slot index result now here.legal;
             moves = told ∷ here.moves;
-            are = (subst (λ (n : OpNext). Follows n told) (sym next) tt, here.are);
+            are = (subst (λ (n : OpNext). IsMoveFor n told) (sym next) tt, here.are);
             left_is = ap (λ (d : Dialogue). dialogue_behind told d) here.left_is;
           };
       end = λ index now here. here.legal;

@@ -6,9 +6,9 @@ use Rattle.access_ops.specs.declared.OpList.{OpList}
 use Rattle.access_ops.specs.declared.op_next.OpResult.{OpResult}
 use Rattle.air_model.specs.Past.{Record, Item, operated, ended, next_record, past_behind_command}
 use Rattle.reply_grammar.specs.Reception.{Reception, no_stream, whole_reply, no_such_reply}
-use Rattle.runs.specs.History.{outcome_of, past_behind_dialogue, dialogue_begun, ack_reception, past_behind_ack, past_behind_answer, slot_reception, past_behind_slot}
+use Rattle.runs.specs.History.{outcome_of, past_behind_dialogue, dialogue_begun, ack_reception, slot_reception, past_behind_slot}
 use Rattle.runs.specs.NextItem.{rn_of}
-use Rattle.runs.specs.laws.Growth.{RoundsKeepLimit, KeptByOperations, dialogue-keeps, begun-awaits, next_at_end, round-holds as behind-round}
+use Rattle.runs.specs.laws.Growth.{RoundsKeepLimit, KeptByOperations, dialogue-keeps, begun-awaits, next_at_end, outcome-cases, round-holds as behind-round}
 use Rattle.runs.specs.laws.PlayedRounds.{SlotOfRun, PlayedRound, number_of, slot_in, past_behind_played, DoesNext}
 use Rattle.command_grammar.specs.declared.commands.Command.{Command}
 use Rattle.command_grammar.specs.declared.commands.Command.TheVariants as commands
@@ -78,20 +78,6 @@ begun-holds Holds at operations rn reception past kept holds =
           (sym (nothing-begun operations rn reception none)) holds
     ]
 
--- behind a slot command there is an ACK where an RN16 came whole, with what follows it in the slot, and nothing else
-answer-holds : (P : Outcome → List Item → Type 0) (at : SlotOfRun) (operations : OpList) (reception : Reception) (past : List Item)
-    → (rn_of reception ≡ None → P (outcome_of reception) past)
-    → ((rn : ℕ) → reception ≡ whole_reply (replies.Rn16 rn) → P Whole (past_behind_ack at.start operations at.round at.slot rn past))
-    → P (outcome_of reception) (past_behind_answer at.start operations at.round at.slot reception past)
-answer-holds P at operations no_stream past none ack = none refl
-answer-holds P at operations no_such_reply past none ack = none refl
-answer-holds P at operations (whole_reply (replies.Rn16 rn)) past none ack = ack rn refl
-answer-holds P at operations (whole_reply (replies.Epc pc epc)) past none ack = none refl
-answer-holds P at operations (whole_reply (replies.Handle rn)) past none ack = none refl
-answer-holds P at operations (whole_reply (replies.Words words)) past none ack = none refl
-answer-holds P at operations (whole_reply replies.Header) past none ack = none refl
-answer-holds P at operations (whole_reply (replies.Error code)) past none ack = none refl
-
 -- what holds after a slot command leads to what holds behind its slot
 slot-holds : (Before : List Outcome → List Item → Type 0) (Sent : List Outcome → Record → List Item → Type 0) (After : List Item → Type 0) (round : PlayedRound)
     → CommandSteps Before Sent After round → (outcomes : List Outcome) (past : List Item) (command : Command)
@@ -101,7 +87,7 @@ slot-holds : (Before : List Outcome → List Item → Type 0) (Sent : List Outco
 slot-holds Before Sent After round each outcomes past command sent =
     let at = slot_in round (length outcomes + 1) in
     let now = past_behind_command at.start at.round at.slot command past in
-    answer-holds (λ outcome behind. Before (outcome ∷ outcomes) behind) at round.operations (slot_reception at.start at.round at.slot command past) now
+    outcome-cases (λ outcome behind. Before (outcome ∷ outcomes) behind) at round.operations (slot_reception at.start at.round at.slot command past) now
     (λ none. each.no_answer outcomes past command (slot_reception at.start at.round at.slot command past) refl none sent)
     (λ rn heard.
     begun-holds (λ behind. Before (Whole ∷ outcomes) behind) at round.operations rn (ack_reception at.start at.round at.slot rn now)

@@ -60,13 +60,16 @@ pub struct Heard {
 
 impl AnyTag {
     /// A new tag: powered, in ready, with the flags of a new tag and no draw made.
-    pub fn new(memory: Memory, locks: Locks, words: DrawWords) -> AnyTag
-        ensures { tag_value_of result ≡ new_tag memory locks words }
+    pub fn new(
+        alloc: Global,
+        memory: Memory,
+        locks: Locks,
+        words: DrawWords,
+    ) -> Result<AnyTag, OutOfMemory>
+        ensures { IfOk result (λ tag. tag_value_of tag ≡ new_tag memory locks words) }
     {
-        AnyTag::Ready(Tag {
-            state: Ready,
-            body: Body::new(memory, locks, words),
-        })
+        let body = Body::new(alloc, memory, locks, words)?;
+        Ok(AnyTag::Ready(Tag { state: Ready, body }))
     }
 
     /// A new tag whose memory is made of an image, with StoredCRC computed. The banks of the image have sizes that a tag's
@@ -82,7 +85,7 @@ impl AnyTag {
         ensures { IfOk result (λ tag. tag_value_of tag ≡ tag_of_image image.now locks words) }
     {
         match Memory::new(alloc, image) {
-            Ok(memory) => Ok(AnyTag::new(memory, locks, words)),
+            Ok(memory) => AnyTag::new(alloc, memory, locks, words),
             Err(ImageRefusal::OutOfMemory) => Err(AllocError),
             // The sizes and the PC are right.
             Err(ImageRefusal::Size | ImageRefusal::Pc) => unreachable!(),
@@ -136,7 +139,7 @@ impl AnyTag {
         ensures { result.now ≡ (tag_value_of self.now).body.flags }
     {
         let body = self.body();
-        &body.flags
+        &body.parts.flags
     }
 
     /// The pairs of lock bits.
@@ -144,7 +147,7 @@ impl AnyTag {
         ensures { result.now ≡ (tag_value_of self.now).body.locks }
     {
         let body = self.body();
-        &body.locks
+        &body.parts.locks
     }
 
     /// The memory.
@@ -152,6 +155,6 @@ impl AnyTag {
         ensures { result.now ≡ (tag_value_of self.now).body.memory }
     {
         let body = self.body();
-        &body.memory
+        &body.parts.memory
     }
 }

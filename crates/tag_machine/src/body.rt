@@ -1,25 +1,35 @@
 //! What a tag holds in every state.
-ghost use Rattle.std.specs.Prelude.{◌≡◌, ◌+◌, ◌^◌, ◌==◌, ◌<◌, if◌then◌else◌};
+ghost use Rattle.std.specs.Prelude.{◌≡◌, ◌+◌, ◌^◌, ◌==◌, ◌<◌, if◌then◌else◌, IfOk};
 ghost use Rattle.session_flags.specs.Flags.{new_flags};
 ghost use Rattle.tag_machine.specs.Draws.{draw_of, place_behind, slot_of_draw, body_after_draw};
 ghost use Rattle.tag_machine.specs.Inventory.{selected_body};
 
 mod access;
 
-use bit_strings::{Action, Pointer, QValue};
+use bit_strings::{Action, OutOfMemory, Pointer, QValue};
 use command_grammar::{FlagName, Mask, MaskBank};
 use lock_rules::Locks;
 use session_flags::{DrawWords, Flags, mask_matches};
+use std::alloc::Global;
 use std::marker::Model;
 use tag_memory::Memory;
 
-/// What a tag holds in every state. A contract sees the record of it.
+/// What a tag holds in every state. A contract sees the record of its parts.
+///
+/// The parts stand in a box, so that a tag is small: it is moved at each change of its state.
 #[derive(Drop)]
 pub struct Body {
-    words: DrawWords,
+    /// The parts.
+    pub parts: Box<Parts>,
+}
+
+/// The parts of what a tag holds in every state.
+#[derive(Drop)]
+pub struct Parts {
     next_draw: usize,
     /// The inventoried flags and the selected flag.
     pub flags: Flags,
+    words: DrawWords,
     /// The pairs of lock bits.
     pub locks: Locks,
     /// The memory.
@@ -31,9 +41,9 @@ impl Model for Body {
 
     ghost Value = { BodyValue };
 
-    ghost view = { λ body. record { memory = body.memory; locks = body.locks; flags = body.flags; words = body.words; next_draw = body.next_draw } };
+    ghost view = { λ body. record { memory = body.parts.value.memory; locks = body.parts.value.locks; flags = body.parts.value.flags; words = body.parts.value.words; next_draw = body.parts.value.next_draw } };
 
-    ghost invariant = { λ body. IsLegalBody (record { memory = body.memory; locks = body.locks; flags = body.flags; words = body.words; next_draw = body.next_draw }) };
+    ghost invariant = { λ body. IsLegalBody (record { memory = body.parts.value.memory; locks = body.parts.value.locks; flags = body.parts.value.flags; words = body.parts.value.words; next_draw = body.parts.value.next_draw }) };
 }
 
 /// The place behind this one, among so many.
@@ -47,16 +57,23 @@ fn place_behind(place: usize, count: usize) -> usize
 
 impl Body {
     /// The body of a new tag.
-    pub fn new(memory: Memory, locks: Locks, words: DrawWords) -> Body
-        ensures { result ≡ record { memory = memory; locks = locks; flags = new_flags; words = words; next_draw = 0 } }
+    pub fn new(
+        alloc: Global,
+        memory: Memory,
+        locks: Locks,
+        words: DrawWords,
+    ) -> Result<Body, OutOfMemory>
+        ensures { IfOk result (λ body. body ≡ record { memory = memory; locks = locks; flags = new_flags; words = words; next_draw = 0 }) }
     {
-        Body {
-            memory,
-            locks,
+        let parts = Parts {
+            next_draw: 0,
             flags: Flags::new(),
             words,
-            next_draw: 0,
-        }
+            locks,
+            memory,
+        };
+        let parts = Box::new(alloc, parts)?;
+        Ok(Body { parts })
     }
 
     /// The slot that the next draw gives: the last Q bits of its word (6.3.2.4.8 Slot counter).
@@ -71,7 +88,7 @@ impl Body {
     fn next_word(&self) -> u16
         ensures { result ≡ draw_of self.now }
     {
-        self.words.words()[self.next_draw]
+        self.parts.words.words()[self.parts.next_draw]
     }
 
     /// Draws a word (6.3.2.5 Tag random or pseudo-random number generator).
@@ -80,7 +97,8 @@ impl Body {
         ensures after { self.new ≡ body_after_draw self.old }
     {
         let word = self.next_word();
-        self.next_draw = place_behind(self.next_draw, self.words.words().len());
+        let parts = &mut *self.parts;
+        parts.next_draw = place_behind(parts.next_draw, parts.words.words().len());
         word
     }
 
@@ -95,7 +113,7 @@ impl Body {
     )
         ensures { self.new ≡ selected_body target action bank pointer mask.now self.old }
     {
-        let matching = mask_matches(self.memory.words(bank), pointer, mask);
-        self.flags.select(target, action, matching);
+        let matching = mask_matches(self.parts.memory.words(bank), pointer, mask);
+        self.parts.flags.select(target, action, matching);
     }
 }

@@ -16,7 +16,7 @@ impl<S: State> Tag<S> {
         ensures { result ≡ record self { body = body_after_expiry flag powered takes_part self.body } }
     {
         let Tag { state, mut body } = self;
-        body.flags.expire(flag, powered, takes_part);
+        body.parts.flags.expire(flag, powered, takes_part);
         Tag { state, body }
     }
 }
@@ -51,7 +51,7 @@ impl AnyTag {
             | AnyTag::Secured(Tag { state: _, body })
             | AnyTag::Unpowered(Tag { state: _, body }) => {
                 let mut body = body;
-                body.flags.lose_power();
+                body.parts.flags.lose_power();
                 AnyTag::Unpowered(Tag {
                     state: Unpowered,
                     body,
@@ -66,7 +66,7 @@ impl AnyTag {
     {
         match self {
             AnyTag::Unpowered(Tag { state: _, mut body }) => {
-                body.memory.power_on();
+                body.parts.memory.power_on();
                 AnyTag::Ready(Tag { state: Ready, body })
             }
             other => other,

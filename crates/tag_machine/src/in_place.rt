@@ -57,7 +57,7 @@ impl Tag<Ready> {
                 session,
                 target,
                 ..
-            } => !self.body.flags.matches(*sel, *session, *target),
+            } => !self.body.parts.flags.matches(*sel, *session, *target),
             Command::Select {
                 target,
                 action,
@@ -100,7 +100,7 @@ impl Tag<Arbitrate> {
                 q,
                 ..
             } => {
-                if !self.body.flags.matches(*sel, *session, *target) {
+                if !self.body.parts.flags.matches(*sel, *session, *target) {
                     return false;
                 }
                 self.draw_slot(*session, *q).is_some()

@@ -78,7 +78,7 @@ impl Body {
         ensures { GivesOutcome (close session self) result out.old out.new }
     {
         let mut body = self;
-        body.flags.invert(session);
+        body.parts.flags.invert(session);
         unanswered(AnyTag::Ready(Tag { state: Ready, body }), out)
     }
 

@@ -67,6 +67,11 @@ legal-set [] at tag legal here = tt
 legal-set (first ∷ tags) zero tag legal here = (here, legal.1)
 legal-set (first ∷ tags) (suc at) tag legal here = (legal.0, legal-set tags at tag legal.1 here)
 
+pub legal_at : (tags : List TagValue) (at : ℕ) (d : TagValue) → AreLegalTags tags → at < length tags → IsLegalTag (get_or tags at d)
+legal_at [] at d legal within = absurd (omega (arith, within))
+legal_at (first ∷ tags) zero d legal within = legal.0
+legal_at (first ∷ tags) (suc at) d legal within = legal_at tags at d legal.1 (omega (arith, within))
+
 pub legal-append : (tags : List TagValue) (tag : TagValue) → AreLegalTags tags → IsLegalTag tag → AreLegalTags (tags ++ tag ∷ [])
 legal-append [] tag legal here = (here, tt)
 legal-append (first ∷ tags) tag legal here = (legal.0, legal-append tags tag legal.1 here)

@@ -1,5 +1,6 @@
 pub mod EventsOnTags
 pub mod WheelLinks
+pub mod KeptPlaces
 pub mod TagSetBits
 pub mod SlotPlaces
 pub mod SeatedTags

@@ -1,16 +1,19 @@
 -- Places and slot counters.
-use Rattle.std.proofs.Common.{◌≡◌, ◌≢◌, ℕ, zero, suc, ◌+◌, ◌/◌, ◌%◌, ◌<◌, ◌≤◌, inl, inr, Bool, List, [], ◌∷◌, length, map, Option, Some, None, get_or, set, replicate, refl, sym, ap, ◌∙◌, subst, arith, if◌then◌else◌}
+use Rattle.std.proofs.Common.{◌≡◌, ◌≢◌, ℕ, zero, suc, ◌+◌, ◌/◌, ◌%◌, ◌<◌, ◌≤◌, ◌==◌, inl, inr, Bool, List, [], ◌∷◌, length, map, Option, Some, None, get_or, set, replicate, refl, sym, ap, ◌∙◌, subst, arith, if◌then◌else◌}
 use Rattle.std.proofs.lemmas.Bool.Decides.{eqb_tells}
 use Rattle.std.proofs.lemmas.Bool.{ne_eqb}
-use Rattle.std.proofs.lemmas.List.{get_or-set_same, get_or-set_other, length-map, length-set}
+use Rattle.std.proofs.lemmas.List.{get_or-set_same, get_or-set_other, set-get_or, length-map, length-replicate, length-set}
 use Rattle.std.proofs.lemmas.Option.{same_Some}
+use Rattle.air_events.specs.TagNumbers.{most_tags}
 use Rattle.tag_machine.specs.Inventory.{slot_below}
 use Rattle.tag_population.specs.declared.waiting.Participation.{Participation}
 use Rattle.tag_population.specs.declared.waiting.Participation.TheVariants.{Waits, Called}
-use Rattle.tag_population.specs.TagSets.{bit_of, IsIn, IsNextIn}
-use Rattle.tag_population.specs.Wheel.{place_of, IsTagOn}
-use Rattle.tag_population.proofs.WheelLinks.{stands_inside}
-use Rattle.tag_population.specs.Waiting.{participation_at, IsNextCalled, IsDue, counted_down, called_place, slot_place, slot_behind, slot_in, participation_there, participation_on, participations_on, AreBases, AreCalled, AreSlots}
+use Rattle.tag_population.specs.TagSets.{bit_of, HasNone, IsIn, IsNextIn}
+use Rattle.tag_population.specs.KeptPlaces.{stand_of}
+use Rattle.tag_population.specs.Wheel.{most_places, place_of, IsTagOn}
+use Rattle.tag_population.proofs.KeptPlaces.{stands_none, stands_some}
+use Rattle.tag_population.proofs.WheelLinks.{stands_inside, stands_nowhere}
+use Rattle.tag_population.specs.Waiting.{participation_at, waits_in, IsNextCalled, IsDue, counted_down, called_place, slot_place, slot_behind, slot_in, participation_there, participation_on, participations_on, AreBases, AreCalled, AreSlots}
 
 -- the participation of the tag on a place
 pub participation_of_place : (bases : List ℕ) (places : List (Option ℕ)) (number : ℕ) → participation_at (participations_on bases places) number ≡ participation_on bases (place_of places number)
@@ -46,6 +49,32 @@ waits_there bases base session slot are is few range =
     ∙ ap (λ n. slot_behind n (slot_place base session slot)) (sym is)
     ∙ slot_of_place base session slot (rw is (are.each session)) range in
     rw (ne_eqb (slot_place base session slot) called_place apart, counter, own) refl
+
+-- a tag waits in a session where its place is one of those of the session
+waits_by : (bases : List ℕ) (session place : ℕ) → session ≤ 3 → (place / 32768 == session) ≡ waits_in session (participation_on bases (stand_of place))
+waits_by bases session place few =
+    elim (eqb_tells place most_places) [
+      | inl nowhere ↦
+          ne_eqb (place / 32768) session (λ same. omega (arith, same, few, nowhere.1))
+          ∙ ap (λ (s : Option ℕ). waits_in session (participation_on bases s)) (sym (stands_none place nowhere.1))
+      | inr somewhere ↦
+          elim (eqb_tells place called_place) [
+            | inl w ↦
+                ne_eqb (place / 32768) session (λ same. omega (arith, same, few, w.1))
+                ∙ ap (λ (b : Bool). waits_in session (Some (if b then Called else Waits (place / 32768) (slot_behind (get_or bases (place / 32768) 0) place)))) (sym w.0)
+                ∙ ap (λ (s : Option ℕ). waits_in session (participation_on bases s)) (sym (stands_some place somewhere.1))
+            | inr w ↦
+                ap (λ (b : Bool). waits_in session (Some (if b then Called else Waits (place / 32768) (slot_behind (get_or bases (place / 32768) 0) place)))) (sym w.0)
+                ∙ ap (λ (s : Option ℕ). waits_in session (participation_on bases s)) (sym (stands_some place somewhere.1))
+          ]
+    ]
+
+pub waits_there_in : (bases : List ℕ) (places : List (Option ℕ)) (number session place : ℕ) → session ≤ 3 → stand_of place ≡ place_of places number
+    → (place / 32768 == session) ≡ waits_in session (participation_at (participations_on bases places) number)
+waits_there_in bases places number session place few stands =
+    waits_by bases session place few
+    ∙ ap (λ (s : Option ℕ). waits_in session (participation_on bases s)) stands
+    ∙ ap (λ (s : Option Participation). waits_in session s) (sym (participation_of_place bases places number))
 
 -- the counter falls by 1 where the base rises by 1
 counter_falls : (base place : ℕ) → base < 32768 → slot_behind ((base + 1) % 32768) place ≡ slot_below (slot_behind base place)
@@ -164,6 +193,15 @@ due_there bases places session place (Some due) are few there next =
 called_there : (bases : List ℕ) (places : List (Option ℕ)) (number : ℕ) → place_of places number ≡ Some called_place → participation_at (participations_on bases places) number ≡ Some Called
 called_there bases places number is = participation_of_place bases places number ∙ ap (λ p. participation_on bases p) is
 
+-- one that is called already
+pub called_again : (participations : List (Option Participation)) (on : OnPlaces participations) (number place : ℕ) → stand_of place ≡ place_of on.places number → place ≡ called_place
+    → participations ≡ set participations number (Some Called)
+called_again participations on number place stands is =
+    let there : place_of on.places number ≡ Some called_place = sym stands ∙ ap (λ n. stand_of n) is ∙ stands_some called_place (λ same. omega (arith, same)) in
+    sym (set-get_or participations number None)
+    ∙ ap (λ (s : Option Participation). set participations number s)
+    (ap (λ (l : List (Option Participation)). participation_at l number) (sym on.same) ∙ called_there on.bases on.places number there)
+
 not_there : (bases : List ℕ) (places : List (Option ℕ)) (number : ℕ) (stands : Option ℕ) → place_of places number ≡ stands → place_of places number ≢ Some called_place
     → participation_on bases stands ≢ Some Called
 not_there bases places number None is apart = λ same. cc
@@ -184,6 +222,14 @@ not_in bit out = λ one. omega (arith, out, one)
 
 not_called_in : (numbers : List ℕ) (places : List (Option ℕ)) (number : ℕ) → AreCalled numbers places → bit_of numbers number ≡ 0 → place_of places number ≢ Some called_place
 not_called_in numbers places number are out = λ is. not_in (bit_of numbers number) out (are.called number is)
+
+-- where no tag stands on a place, none is called
+pub none_called : (count : ℕ) (numbers : List ℕ) (places : List (Option ℕ)) → count ≤ most_tags → places ≡ replicate count None → HasNone numbers → AreCalled numbers places
+none_called count numbers places few nowhere none = record {
+  few = rw (nowhere, length-replicate {A = Option ℕ} count None) few;
+  called = λ number stands. absurd (stands_nowhere count number called_place (sym (ap (λ (l : List (Option ℕ)). place_of l number) nowhere) ∙ stands));
+  only = λ number one. absurd (not_in (bit_of numbers number) (none number) one);
+}
 
 pub next_called : (bases numbers : List ℕ) (places : List (Option ℕ)) (from : ℕ) (found : Option ℕ) → AreCalled numbers places → IsNextIn numbers from found
     → IsNextCalled (participations_on bases places) from found

@@ -8,7 +8,7 @@ use Rattle.std.proofs.lemmas.Grind.{get_or_default_zero}
 use Rattle.air_events.specs.TagNumbers.{most_tags}
 use Rattle.tag_population.specs.Wheel.{most_places, place_of, IsTagOn, LeadNowhere, IsLinkOf, IsLinked}
 
-none_some : (place : ℕ) → None ≡ Some place → ⊥
+pub none_some : (place : ℕ) → None ≡ Some place → ⊥
 none_some place e = cc
 
 -- a tag that stands somewhere is there

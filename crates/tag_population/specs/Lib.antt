@@ -3,6 +3,7 @@ pub mod Seats
 pub mod Hearing
 pub mod Lent
 pub mod Wheel
+pub mod KeptPlaces
 pub mod TagSets
 pub mod Waiting
 pub mod Seated

@@ -4,12 +4,15 @@ use Rattle.std.specs.Prelude.{slice_set}
 use Rattle.air_events.specs.TagNumbers.{most_tags}
 use Rattle.air_events.specs.declared.Entry.{Entry}
 use Rattle.command_grammar.specs.declared.commands.Command.{Command}
+use Rattle.command_grammar.specs.declared.commands.Command.TheVariants as commands
 use Rattle.tag_machine.specs.TagValue.{StateValue, ReadyState, ArbitrateState, ReplyState, AcknowledgedState, OpenState, SecuredState, KilledState, UnpoweredState, TagValue, IsLegalTag}
 use Rattle.tag_machine.specs.Answers.{Outcome, silent}
 use Rattle.tag_machine.specs.Exchange.{AreLegalTags, outcome_unless, is_missed, tags_after}
 use Rattle.tag_population.specs.Hearing.{hearing_from}
 use Rattle.tag_population.specs.Seats.{no_tag}
 use Rattle.tag_population.specs.Waiting.{participation_at, is_called, waits_in, AreSlots}
+use Rattle.tag_population.specs.declared.population.Adjustment.{Adjustment}
+use Rattle.tag_population.specs.declared.population.Adjustment.TheVariants.{Adjusts, Other}
 use Rattle.tag_population.specs.declared.waiting.Participation.{Participation}
 use Rattle.tag_population.specs.declared.waiting.Participation.TheVariants.{Waits, Called}
 
@@ -80,6 +83,11 @@ pub record HearsSeated (command : Command) (misses : Bool) (number : ℕ) (parti
   pub seats_are : seated ≡ slice_set seats number (outcome_seated misses command number participations seats).tag
   pub participations_are : after ≡ slice_set participations number (participation_in (outcome_seated misses command number participations seats).tag.state)
   pub legal : IsLegalTag (outcome_seated misses command number participations seats).tag
+
+-- a command is this QueryAdjust, where one is given
+abbrev pub IsAdjustmentOf : Adjustment → Command → Type 0
+IsAdjustmentOf (Adjusts session updn) command = command ≡ commands.QueryAdjust session updn
+IsAdjustmentOf Other command = Unit {0}
 
 -- how many steps it takes to write the slot counter of a tag back
 abbrev pub steps_back : Option Participation → ℕ

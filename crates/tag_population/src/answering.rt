@@ -55,6 +55,34 @@ pub(crate) fn hear<A: AnswerTaker, L: Ledger>(
     hear_moved(seat, number, command, room, answers, steps);
 }
 
+/// Lets a tag that is called hear a command, unless it misses it, and has its answer taken.
+// What is heard in its place isn't tried: it moves nearly each tag that is called.
+#[inline]
+pub(crate) fn hear_when_called<A: AnswerTaker, L: Ledger>(
+    seat: &mut Seat,
+    number: TagNumber,
+    misses: bool,
+    command: &Command,
+    room: &mut Bits,
+    answers: &mut A,
+    steps: &mut Steps<L>,
+)
+    requires legal { IsLegalTag seat.old }
+    requires room { reply_room ≤ room.old.capacity }
+    requires few { TookFew A.took answers.old }
+    ensures room { reply_room ≤ room.new.capacity }
+    ensures took { (first : A) (replies : List Replied) → A.took first replies answers.old
+        → A.took first (replies ++ reply_of number (outcome_unless misses command.now seat.old).answer) answers.new }
+    ensures tag { seat.new ≡ (outcome_unless misses command.now seat.old).tag }
+    ensures legal { IsLegalTag seat.new }
+    ensures counted { steps.new ≡ steps.old + (if misses then 0 else 1) }
+{
+    if misses {
+        return;
+    }
+    hear_moved(seat, number, command, room, answers, steps);
+}
+
 /// Lets a tag hear a command by which its state may change its kind, and has its answer taken.
 // Its room for a moved tag is filled at each call, and most tags only wait, so it stands apart.
 #[inline(never)]

@@ -4,6 +4,7 @@
 mod answering;
 mod population;
 mod seat;
+mod tag_places;
 mod tag_set;
 mod waiting;
 mod wheel;

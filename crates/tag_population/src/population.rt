@@ -3,25 +3,23 @@ ghost use Rattle.std.specs.Prelude.{◌≡◌, ℕ, ◌+◌, ◌*◌, ◌<◌, �
 ghost use Rattle.std.specs.Borrow.{sem};
 ghost use Rattle.air_events.specs.TagNumbers.{most_tags};
 ghost use Rattle.reply_grammar.specs.Table.{reply_room};
-ghost use Rattle.tag_machine.specs.Answers.{silent};
 ghost use Rattle.tag_machine.specs.Hearing.{tag_value_of};
-ghost use Rattle.tag_machine.specs.Step.{step};
-ghost use Rattle.tag_machine.specs.TagValue.{BodyValue, IsLegalTag, StateValue};
+ghost use Rattle.tag_machine.specs.TagValue.{IsLegalTag};
 ghost use Rattle.tag_machine.specs.Exchange.{AreLegalTags, IsQueryRep, Replied, busy_from, is_missed, replies_from, reply_of, tags_after, tags_after_event};
 ghost use Rattle.tag_population.specs.AnswersTaken.{TookFew};
 ghost use Rattle.tag_population.specs.Hearing.{hearing_from, tags_after_events};
 ghost use Rattle.tag_population.specs.Lent.{KeepsPopulation};
-ghost use Rattle.tag_population.specs.Seated.{AreAtRest, AreCalledFor, AreUncalledSettled, CallsTags, HearsAtRest, HearsSeated, IsDueCalled, IsIdleSettled, IsMissedCalled, called_in, outcome_seated, outcomes_called, seats_written_back, participation_in, participations_of, steps_back, tags_of};
+ghost use Rattle.tag_population.specs.Seated.{AreAtRest, AreCalledFor, AreUncalledSettled, CallsTags, HearsAtRest, HearsSeated, IsDueCalled, IsIdleSettled, IsMissedCalled, called_in, IsAdjustmentOf, outcome_seated, outcomes_called, seats_written_back, participations_of, steps_back, tags_of};
 ghost use Rattle.tag_population.specs.TagSets.{IsSetOf};
 ghost use Rattle.tag_population.specs.Waiting.{participation_at};
 
-use crate::answering::{AnswerTaker, hear};
+use crate::answering::{AnswerTaker, hear, hear_when_called};
 use crate::seat::Seat;
 use crate::tag_set::TagSet;
 use crate::waiting::{Participation, Waiting};
 use air_events::TagNumber;
 use bit_strings::{Bits, OutOfMemory, Session};
-use command_grammar::Command;
+use command_grammar::{Command, UpDn};
 use std::alloc::Global;
 use std::marker::Model;
 use std::sync::ledger::Ledger;
@@ -249,6 +247,7 @@ fn hear_at_rest<A: AnswerTaker, L: Ledger>(
         call_hearers(seats, waiting, *session, entry, steps);
         hear_called(seats, waiting, command, entry, missed, room, answers, steps);
     } else if reaches_waiting(command) {
+        waiting.unlink();
         hear_all(seats, waiting, command, entry, missed, room, answers, steps);
     } else {
         hear_called(seats, waiting, command, entry, missed, room, answers, steps);
@@ -314,6 +313,8 @@ fn call_due<L: Ledger>(
 
 /// Lets each tag hear a command, unless it misses it, in the order of their numbers. Each takes part afterwards as its state
 /// says.
+// Its loop over all tags stands apart, and what few of them need stands apart from it, so that the registers are its own.
+#[inline(never)]
 fn hear_all<A: AnswerTaker, L: Ledger>(
     seats: &mut [Seat],
     waiting: &mut Waiting,
@@ -332,18 +333,61 @@ fn hear_all<A: AnswerTaker, L: Ledger>(
     ensures replies { A.took answers.old (replies_from 0 (hearing_from 0 command.now entry.now (tags_of waiting.old seats.old))) answers.new }
     ensures room { reply_room ≤ room.new.capacity }
 {
+    let adjustment = adjustment_of(command);
     for at in 0..seats.len() {
         let number = TagNumber::from_index(at);
         let misses = is_missed(number, entry, missed);
         hear_seated(
-            seats, waiting, number, misses, command, room, answers, steps,
+            seats,
+            waiting,
+            number,
+            misses,
+            command,
+            &adjustment,
+            room,
+            answers,
+            steps,
         );
     }
 }
 
-/// Lets a tag hear a command, unless it misses it. It takes part afterwards as its state says. A QueryAdjust passes by the tags that take no
-/// part.
+/// Lets a tag hear a command, unless it misses it. It takes part afterwards as its state says.
 fn hear_seated<A: AnswerTaker, L: Ledger>(
+    seats: &mut [Seat],
+    waiting: &mut Waiting,
+    number: TagNumber,
+    misses: bool,
+    command: &Command,
+    adjustment: &Adjustment,
+    room: &mut Bits,
+    answers: &mut A,
+    steps: &mut Steps<L>,
+)
+    requires whole { length waiting.old ≡ length seats.old }
+    requires number { number < length seats.old }
+    requires legal { AreLegalTags seats.old }
+    requires idle { IsIdleSettled number waiting.old seats.old }
+    requires adjusts { IsAdjustmentOf adjustment.now command.now }
+    requires room { reply_room ≤ room.old.capacity }
+    requires few { TookFew A.took answers.old }
+    ensures heard { HearsSeated command.now misses number waiting.old seats.old waiting.new seats.new }
+    ensures took { (first : A) (replies : List Replied) → A.took first replies answers.old
+        → A.took first (replies ++ reply_of number (outcome_seated misses command.now number waiting.old seats.old).answer) answers.new }
+    ensures counted { steps.new ≤ steps.old + 2 }
+    ensures room { reply_room ≤ room.new.capacity }
+{
+    // At a QueryAdjust most tags take no part, or draw another slot and wait for it.
+    if adjust_in_place(seats, waiting, number, misses, adjustment, steps) {
+        return;
+    }
+    hear_written_back(
+        seats, waiting, number, misses, command, room, answers, steps,
+    );
+}
+
+/// Lets a tag hear a command, unless it misses it, once its slot counter is written back. It takes part afterwards as its state says.
+#[inline(never)]
+fn hear_written_back<A: AnswerTaker, L: Ledger>(
     seats: &mut [Seat],
     waiting: &mut Waiting,
     number: TagNumber,
@@ -356,7 +400,6 @@ fn hear_seated<A: AnswerTaker, L: Ledger>(
     requires whole { length waiting.old ≡ length seats.old }
     requires number { number < length seats.old }
     requires legal { AreLegalTags seats.old }
-    requires idle { IsIdleSettled number waiting.old seats.old }
     requires room { reply_room ≤ room.old.capacity }
     requires few { TookFew A.took answers.old }
     ensures heard { HearsSeated command.now misses number waiting.old seats.old waiting.new seats.new }
@@ -365,13 +408,6 @@ fn hear_seated<A: AnswerTaker, L: Ledger>(
     ensures counted { steps.new ≤ steps.old + 2 }
     ensures room { reply_room ≤ room.new.capacity }
 {
-    // At a QueryAdjust most tags draw another slot, and wait for it.
-    if draw_again(seats, waiting, number, misses, command, steps) {
-        return;
-    }
-    if is_passed(waiting, number, command) {
-        return;
-    }
     write_back(seats, waiting, number, steps);
     let at = number.index();
     let seat = &mut seats[at];
@@ -379,45 +415,62 @@ fn hear_seated<A: AnswerTaker, L: Ledger>(
     waiting.put(number, seat.participation());
 }
 
-/// Lets a tag that waits hear a QueryAdjust of its session in its place, where it doesn't miss it and draws another slot than 0, and
-/// answers whether it did. Else all is as it was.
+/// Whether a command is a QueryAdjust, and which.
+// A loop over all tags keeps this at hand: a command would be read again for each tag.
+#[derive(Clone, Copy)]
+enum Adjustment {
+    /// It is that of a session, and Q changes so.
+    Adjusts(Session, UpDn),
+    /// It is another command.
+    Other,
+}
+
+/// Whether a command is a QueryAdjust, and which.
+fn adjustment_of(command: &Command) -> Adjustment
+    ensures { IsAdjustmentOf result command.now }
+{
+    if let Command::QueryAdjust { session, updn } = command {
+        Adjustment::Adjusts(*session, *updn)
+    } else {
+        Adjustment::Other
+    }
+}
+
+/// Lets a tag hear a QueryAdjust where it takes no part, so that it stays as it is, or where it waits in this session, doesn't miss the command and
+/// draws another slot than 0. Answers whether it did; else all is as it was.
 #[inline(always)]
-fn draw_again<L: Ledger>(
+fn adjust_in_place<L: Ledger>(
     seats: &mut [Seat],
     waiting: &mut Waiting,
     number: TagNumber,
     misses: bool,
-    command: &Command,
+    adjustment: &Adjustment,
     steps: &mut Steps<L>,
 ) -> bool
     requires whole { length waiting.old ≡ length seats.old }
     requires number { number < length seats.old }
-    ensures heard { result ≡ true → HearsSeated command.now misses number waiting.old seats.old waiting.new seats.new }
-    ensures silent { result ≡ true → (outcome_seated misses command.now number waiting.old seats.old).answer ≡ None }
+    requires legal { AreLegalTags seats.old }
+    requires idle { IsIdleSettled number waiting.old seats.old }
+    ensures heard { result ≡ true → (command : Command) → IsAdjustmentOf adjustment.now command → HearsSeated command misses number waiting.old seats.old waiting.new seats.new }
+    ensures silent { result ≡ true → (command : Command) → IsAdjustmentOf adjustment.now command → (outcome_seated misses command number waiting.old seats.old).answer ≡ None }
     ensures left { result ≡ false → (waiting.new ≡ waiting.old) × (seats.new ≡ seats.old) }
-    ensures counted { steps.new ≡ steps.old + (if result then 1 else 0) }
+    ensures counted { steps.new ≤ steps.old + (if result then 1 else 0) }
 {
-    let Command::QueryAdjust { session, updn } = command else {
+    let Adjustment::Adjusts(session, updn) = *adjustment else {
         return false;
     };
-    if misses || !waiting.waits_in(number, *session) {
+    if !waiting.waits_in(number, session) {
+        return !waiting.takes_part(number);
+    }
+    if misses {
         return false;
     }
     let at = number.index();
-    let Some(slot) = seats[at].draw_again(*session, *updn, steps) else {
+    let Some(slot) = seats[at].draw_again(session, updn, steps) else {
         return false;
     };
-    waiting.wait_for(number, *session, slot);
+    waiting.wait_for(number, session, slot);
     true
-}
-
-/// Whether a tag stays as it is at a command since it takes no part in a round.
-fn is_passed(waiting: &Waiting, number: TagNumber, command: &Command) -> bool
-    requires { number < length waiting.now }
-    ensures idle { result ≡ true → participation_at waiting.now number ≡ None }
-    ensures stays { result ≡ true → (state : StateValue) (body : BodyValue) → participation_in state ≡ None → step command.now state body ≡ silent state body }
-{
-    matches!(command, Command::QueryAdjust { .. }) && !waiting.takes_part(number)
 }
 
 /// Lets each tag that is called hear a command, unless it misses it, in the order of their numbers. Each takes part
@@ -451,7 +504,7 @@ fn hear_called<A: AnswerTaker, L: Ledger>(
         let misses = is_missed(number, entry, missed);
         let at = number.index();
         let seat = &mut seats[at];
-        hear(seat, number, misses, command, room, answers, steps);
+        hear_when_called(seat, number, misses, command, room, answers, steps);
         waiting.put(number, seat.participation());
     }
 }

@@ -3,8 +3,8 @@ ghost use Rattle.std.specs.Prelude.{◌≡◌, ◌↔◌, ℕ, ◌+◌, ◌<◌,
 ghost use Rattle.air_events.specs.TagNumbers.{most_tags};
 ghost use Rattle.tag_population.specs.Waiting.{AreSlots, IsDue, IsLegalParticipation, IsNextCalled, counted_down, slot_in, slot_place, participation_at, waits_in};
 
+use crate::tag_places::TagPlaces;
 use crate::tag_set::TagSet;
-use crate::wheel::Wheel;
 use air_events::TagNumber;
 use bit_strings::{OutOfMemory, Session};
 use std::alloc::Global;
@@ -34,7 +34,7 @@ pub(crate) enum Participation {
 #[derive(Drop)]
 pub(crate) struct Waiting {
     bases: [u16; 4],
-    wheel: Wheel,
+    tags: TagPlaces,
     called: TagSet,
 }
 
@@ -45,9 +45,9 @@ impl Model for Waiting {
 
     ghost Value = { List (Option Participation) };
 
-    ghost view = { λ a. participations_on a.bases a.wheel };
+    ghost view = { λ a. participations_on a.bases a.tags };
 
-    ghost invariant = { λ a. AreBases a.bases × AreCalled a.called a.wheel };
+    ghost invariant = { λ a. AreBases a.bases × AreCalled a.called a.tags };
 }
 
 impl Waiting {
@@ -56,11 +56,11 @@ impl Waiting {
         requires { count ≤ most_tags }
         ensures { IfOk result (λ waiting. waiting ≡ replicate count None) }
     {
-        let wheel = Wheel::new(alloc, count)?;
+        let tags = TagPlaces::new(alloc, count)?;
         let called = TagSet::new(alloc)?;
         Ok(Waiting {
             bases: [0; 4],
-            wheel,
+            tags,
             called,
         })
     }
@@ -71,7 +71,7 @@ impl Waiting {
         ensures value { result ≡ slot_in (participation_at self.now number) }
         ensures range { (slot : ℕ) → result ≡ Some slot → slot < 32768 }
     {
-        let place = self.wheel.place(number)?;
+        let place = self.tags.place(number)?;
         if place == CALLED {
             return None;
         }
@@ -84,10 +84,7 @@ impl Waiting {
         requires { number < length self.now }
         ensures { result ≡ waits_in session (participation_at self.now number) }
     {
-        match self.wheel.place(number) {
-            Some(place) => place / SLOTS == usize::from(session.get()),
-            None => false,
-        }
+        self.tags.place_number(number) / SLOTS == usize::from(session.get())
     }
 
     /// Whether a tag takes part in a round.
@@ -95,7 +92,7 @@ impl Waiting {
         requires { number < length self.now }
         ensures { (result ≡ false) ↔ (participation_at self.now number ≡ None) }
     {
-        self.wheel.place(number).is_some()
+        self.tags.place(number).is_some()
     }
 
     /// Lets a tag take part as is said.
@@ -108,7 +105,7 @@ impl Waiting {
         match participation {
             Some(participation) => self.put_on_place(number, participation),
             None => {
-                self.wheel.take(number);
+                self.tags.take(number);
                 self.called.remove(number);
             }
         }
@@ -124,11 +121,16 @@ impl Waiting {
         match participation {
             Participation::Waits(session, slot) => {
                 let place = slot_place(self.bases[usize::from(session)], session, slot);
-                self.wheel.put(number, place);
+                self.tags.put(number, place);
                 self.called.remove(number);
             }
             Participation::Called => {
-                self.wheel.put(number, CALLED);
+                // A tag beyond arbitrate is called to each command.
+                let place = self.tags.place_number(number);
+                if place == CALLED {
+                    return;
+                }
+                self.tags.put(number, CALLED);
                 self.called.insert(number);
             }
         }
@@ -144,7 +146,7 @@ impl Waiting {
     {
         let session = session.get();
         let place = slot_place(self.bases[usize::from(session)], session, slot);
-        self.wheel.put(number, place);
+        self.tags.put(number, place);
     }
 
     /// The first tag that is called, in the order of their numbers.
@@ -164,12 +166,20 @@ impl Waiting {
     }
 
     /// A tag whose slot comes next in a session; none exactly where there is no such tag.
-    pub(crate) fn due(&self, session: Session) -> Option<TagNumber>
-        ensures { IsDue self.now session result }
+    pub(crate) fn due(&mut self, session: Session) -> Option<TagNumber>
+        ensures same { self.new ≡ self.old }
+        ensures due { IsDue self.old session result }
     {
         let session = session.get();
         let base = self.bases[usize::from(session)];
-        self.wheel.tag_on(slot_place(base, session, 1))
+        self.tags.tag_on(slot_place(base, session, 1))
+    }
+
+    /// Lets tags go to other places at less cost, until one is asked for whose slot comes next.
+    pub(crate) fn unlink(&mut self)
+        ensures { self.new ≡ self.old }
+    {
+        self.tags.unlink();
     }
 
     /// Counts the slot counters of all tags down that wait in a session.

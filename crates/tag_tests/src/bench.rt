@@ -54,7 +54,7 @@ fn draw_words(alloc: Global, words: &[u16]) -> Option<DrawWords> {
 pub fn made(alloc: Global, given: &Given) -> Option<AnyTag> {
     let locks = Locks::from_bits(given.locks)?;
     let words = draw_words(alloc, given.draws)?;
-    Some(AnyTag::new(memory(alloc, given).ok()?, locks, words))
+    AnyTag::new(alloc, memory(alloc, given).ok()?, locks, words).ok()
 }
 
 fn hear_counted<L: Ledger>(blank: Blank, tag: AnyTag, command: &Command, out: &mut Bits) -> Heard

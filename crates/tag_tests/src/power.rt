@@ -24,7 +24,7 @@ fn changed_memory(alloc: Global) -> Option<Memory> {
 fn changed_tag(alloc: Global) -> Option<AnyTag> {
     let locks = Locks::from_bits(0x2A5)?;
     let words = DrawWords::new(alloc, &[0x0001]).ok()?;
-    Some(AnyTag::new(changed_memory(alloc)?, locks, words))
+    AnyTag::new(alloc, changed_memory(alloc)?, locks, words).ok()
 }
 
 /// Whether the tag has power or not, its locks, and an EPC bank with this StoredCRC.

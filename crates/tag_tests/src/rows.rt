@@ -74,6 +74,12 @@ pub const UNGUARDED_RN: Given = Given {
     ..GUARDED_RN
 };
 
+/// The same, where the words 3, 15h and 0 are drawn in turn.
+pub const GUARDED_THREE: Given = Given {
+    draws: &[3, 0x15, 0],
+    ..GUARDED_RN
+};
+
 /// Both passwords are 0, and there are no User words; each draw is A1B2.
 pub const PLAIN: Given = Given {
     kill: 0,

@@ -32,7 +32,7 @@ fn no_locks() -> Result<Locks, Fail> {
 /// A tag that draws the word A1B2 again and again.
 fn new_tag(alloc: Global) -> Result<AnyTag, Fail> {
     let words = DrawWords::new(alloc, &[0xA1B2])?;
-    Ok(AnyTag::new(memory(alloc)?, no_locks()?, words))
+    Ok(AnyTag::new(alloc, memory(alloc)?, no_locks()?, words)?)
 }
 
 /// The Query of session S0 to all tags with flag A, with one slot.

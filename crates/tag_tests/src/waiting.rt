@@ -2,8 +2,9 @@
 ghost use Rattle.std.specs.Prelude.{◌≡◌, ◌<◌};
 
 use crate::bench::{after, made};
-use crate::rows::GUARDED_RN;
+use crate::rows::{GUARDED_RN, GUARDED_THREE};
 use crate::says::Says;
+use bit_strings::Session;
 use command_grammar::{Command, FlagName, Side, UpDn};
 use std::alloc::Global;
 use std::marker::Brand;
@@ -111,4 +112,67 @@ fn waiting_tags_hear_in_place(rt: HostRuntime) {
     for &(name, says, wanted) in WAITS {
         assert!(rt; waits(rt.alloc(), says) == Some(wanted), "{name}");
     }
+}
+
+fn drawn_counted<L: Ledger>(
+    blank: Blank,
+    tag: &mut AnyTag,
+    session: Session,
+    updn: UpDn,
+) -> Option<u16>
+    requires name { blank.name ≡ L.name }
+    requires parts { blank.parts ≡ L.parts }
+    requires one { blank.parts ≡ 1 }
+{
+    let mut steps = Steps::<L>::new(blank);
+    tag.draw_again(session, updn, &mut steps)
+}
+
+/// The slot that the tag draws again, and the slot that it has then.
+fn drawn_again(tag: &mut AnyTag, session: u8, updn: UpDn) -> Option<(Option<u16>, Option<u16>)> {
+    let session = Session::new(session)?;
+    let drawn = drawn_counted::<Brand>(Blank::new(1), tag, session, updn);
+    Some((drawn, slot_of(tag)))
+}
+
+/// How many of the QueryAdjusts, one after another, a tag takes as it should that has drawn slot 3 with Q 4. Its next words
+/// are 15h, 0 and 3.
+fn right_draws(alloc: Global) -> Option<usize> {
+    let (heard, _) = after(
+        alloc,
+        made(alloc, &GUARDED_THREE)?,
+        Says::Query(1, Side::A, 4),
+    )?;
+    let mut tag = heard.tag;
+    for (number, &(session, updn, drawn, slot)) in DRAWS.iter().enumerate() {
+        if drawn_again(&mut tag, session, updn)? != (drawn, Some(slot)) {
+            return Some(number);
+        }
+    }
+    Some(DRAWS.len())
+}
+
+/// The session of a QueryAdjust, its UpDn, the slot that the tag draws again, or none, and the slot that it has then. Where it
+/// draws none, it keeps the word too: at the word 0 it draws none twice.
+const DRAWS: &[(u8, UpDn, Option<u16>, u16)] = &[
+    (0, UpDn::Same, None, 3),
+    (1, UpDn::Same, Some(5), 5),
+    (1, UpDn::Same, None, 5),
+    (1, UpDn::Up, None, 5),
+];
+
+#[test]
+fn waiting_tags_draw_again(rt: HostRuntime) {
+    assert!(rt; right_draws(rt.alloc()) == Some(DRAWS.len()));
+}
+
+/// A tag in ready draws no slot.
+#[test]
+fn a_ready_tag_draws_nothing_again(rt: HostRuntime) {
+    let mut tag = made(rt.alloc(), &GUARDED_THREE);
+    let drawn = match &mut tag {
+        Some(tag) => drawn_again(tag, 1, UpDn::Same),
+        None => None,
+    };
+    assert!(rt; drawn == Some((None, None)));
 }

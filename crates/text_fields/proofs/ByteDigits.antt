@@ -1,7 +1,7 @@
 -- The digits of bytes, as the kit's `hex` reads and writes them.
 use Rattle.std.proofs.Common.{◌≡◌, ◌<◌, ◌^◌, ◌/◌, ◌%◌, ◌==◌, ◌&&◌, ℕ, zero, suc, Bool, true, List, [], ◌∷◌, length, slice_index, map, Result, Ok, inl, inr, arith, ap, sym, ◌∙◌, refl}
 use Rattle.std.specs.Char.{to_ascii_uppercase}
-use Rattle.std.specs.Int.{from_be_bytes, to_be_bytes, w16}
+use Rattle.std.specs.Int.{to_be_bytes, w16}
 use Rattle.std.specs.List.{AllPass, flat_map}
 use Rattle.std.specs.Result.{result_unwrap_or}
 use Rattle.std.proofs.lemmas.Bool.{and_parts, cases_lt, eqb-true}
@@ -11,7 +11,7 @@ use Rattle.hex.specs.declared.error.FromHexError.{FromHexError}
 use Rattle.hex.proofs.HexLemmas.{decode_of-encode_upper, decode_sized-ok, decode_sized-twice, length-encode_with}
 use Rattle.text_fields.specs.Hexadecimal.{hex_byte, hex_digit, hex_word}
 use Rattle.text_fields.specs.WordLists.{is_upper_hex_digit}
-use Rattle.text_fields.proofs.WordDigits.{one_byte, one_word}
+use Rattle.text_fields.proofs.WordDigits.{one_byte}
 
 -- whether two functions agree on the numbers below one
 abbrev agree_below : (ℕ → ℕ) → (ℕ → ℕ) → ℕ → Bool
@@ -70,16 +70,8 @@ one_fits : (byte : ℕ) → byte < 2 ^ 8 → IsBytes (byte ∷ [])
 one_fits byte small zero = small
 one_fits byte small (suc i) = omega arith
 
-two_fit : (word : ℕ) → word < 2 ^ 16 → IsBytes (word / 256 ∷ word % 256 ∷ [])
-two_fit word small zero = omega (arith, small)
-two_fit word small (suc zero) = omega arith
-two_fit word small (suc (suc i)) = omega arith
-
 pub byte_read : (byte : ℕ) → byte < 2 ^ 8 → decode_sized (hex_byte byte) 1 ≡ Ok (byte ∷ [])
 byte_read byte small = bytes_read (byte ∷ []) (one_fits byte small)
-
-pub word_read : (word : ℕ) → word < 2 ^ 16 → decode_sized (hex_word word) 2 ≡ Ok (word / 256 ∷ word % 256 ∷ [])
-word_read word small = bytes_read (word / 256 ∷ word % 256 ∷ []) (two_fit word small)
 
 same_bytes : (a b : List ℕ) → (◌≡◌ {A = Result (List ℕ) FromHexError} (Ok a) (Ok b)) → a ≡ b
 same_bytes a b same = ap (λ (r : Result (List ℕ) FromHexError). result_unwrap_or r []) same
@@ -88,21 +80,8 @@ same_bytes a b same = ap (λ (r : Result (List ℕ) FromHexError). result_unwrap
 pub byte_back : (field bytes : List ℕ) (byte : ℕ) → byte < 2 ^ 8 → field ≡ hex_byte byte → decode_sized field 1 ≡ Ok bytes → bytes ≡ byte ∷ []
 byte_back field bytes byte small is read = same_bytes bytes (byte ∷ []) (sym read ∙ rw is (byte_read byte small))
 
--- what is read from the digits of a word
-pub word_back : (field bytes : List ℕ) (word : ℕ) → word < 2 ^ 16 → field ≡ hex_word word → decode_sized field 2 ≡ Ok bytes
-    → from_be_bytes w16 bytes ≡ word
-word_back field bytes word small is read =
-    let two = same_bytes bytes (word / 256 ∷ word % 256 ∷ []) (sym read ∙ rw is (word_read word small)) in
-    rw two (omega arith)
-
 -- upper-case digits that are read as a byte spell it
 pub byte_is : (field bytes : List ℕ) → AllPass is_upper_hex_digit field → decode_sized field 1 ≡ Ok bytes → field ≡ hex_byte (slice_index bytes 0)
 byte_is field bytes are read =
     let one = one_byte field are (decode_sized-ok field 1 bytes read) in
     one.2 ∙ ap (λ n. hex_byte n) (sym (ap (λ list. slice_index list 0) (byte_back field bytes one.0 one.1 one.2 read)))
-
--- upper-case digits that are read as a word spell it
-pub word_is : (field bytes : List ℕ) → AllPass is_upper_hex_digit field → decode_sized field 2 ≡ Ok bytes → field ≡ hex_word (from_be_bytes w16 bytes)
-word_is field bytes are read =
-    let one = one_word field are (decode_sized-ok field 2 bytes read) in
-    one.2 ∙ ap (λ n. hex_word n) (sym (word_back field bytes one.0 one.1 one.2 read))

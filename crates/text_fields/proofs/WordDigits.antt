@@ -1,11 +1,14 @@
 -- Lists of words and their digits.
-use Rattle.std.proofs.Common.{◌≡◌, ◌≢◌, ◌<◌, ◌^◌, ◌/◌, ◌%◌, ◌+◌, ◌*◌, ℕ, true, List, [], ◌∷◌, ◌++◌, length, take, drop, arith, ap, sym, ◌∙◌, refl}
-use Rattle.std.specs.Prelude.{All}
-use Rattle.std.specs.List.{AllPass, IsSplitAt, flat_map}
+use Rattle.std.proofs.Common.{◌≡◌, ◌≢◌, ◌<◌, ◌≤◌, ◌^◌, ◌/◌, ◌%◌, ◌+◌, ◌*◌, ℕ, zero, suc, true, List, [], ◌∷◌, ◌++◌, length, take, drop, get_or, slice_index, slice_set, Some, arith, ap, sym, ◌∙◌, refl, subst}
+use Rattle.std.specs.Prelude.{All, IfSome, None, Option, slice_get}
+use Rattle.std.specs.List.{AllPass, flat_map}
+use Rattle.std.specs.Simd.{first_chunks}
 use Rattle.std.proofs.lemmas.Bool.Decides.{nat_tests}
-use Rattle.std.proofs.lemmas.List.Elements.{All-append, All-head, All-tail, All-cons, All-nil}
+use Rattle.std.proofs.lemmas.List.{append_assoc, append-nil, drop-drop, drop_all, get_or-take, take_all, take_more_set}
+use Rattle.std.proofs.lemmas.List.Elements.{All-append, All-cons, All-drop, All-head, All-nil, All-tail, All-take}
+use Rattle.hex.specs.Hex.{hex_digit_value, is_hex_digit}
 use Rattle.text_fields.specs.Binary.{hyphen}
-use Rattle.text_fields.specs.Hexadecimal.{hex_byte, hex_digit, hex_word}
+use Rattle.text_fields.specs.Hexadecimal.{hex_byte, hex_digit, hex_word, hex_words}
 use Rattle.text_fields.specs.WordLists.{AreWordDigits, digit_number, is_upper_hex_digit, word_number, words_of_digits}
 
 -- the fact of `AllPass is_upper_hex_digit`
@@ -73,22 +76,6 @@ one_byte (a ∷ b ∷ []) are two =
     (byte, omega arith, rw (first, second, digit_back a (All-head IsDigit a (b ∷ []) are), digit_back b b_is) refl)
 one_byte (a ∷ b ∷ c ∷ digits) are two = absurd (omega arith)
 
--- four digits are the digits of a word
-pub one_word : (digits : List ℕ) → AllPass is_upper_hex_digit digits → length digits ≡ 4 → (word : ℕ) × (word < 2 ^ 16) × (digits ≡ hex_word word)
-one_word [] are four = absurd (omega arith)
-one_word (a ∷ []) are four = absurd (omega arith)
-one_word (a ∷ b ∷ []) are four = absurd (omega arith)
-one_word (a ∷ b ∷ c ∷ []) are four = absurd (omega arith)
-one_word (a ∷ b ∷ c ∷ d ∷ []) are four =
-    let bs = All-tail IsDigit a (b ∷ c ∷ d ∷ []) are in
-    let cs = All-tail IsDigit b (c ∷ d ∷ []) bs in
-    let ds = All-tail IsDigit c (d ∷ []) cs in (
-      word_number a b c d,
-      word_small a b c d,
-      sym (word_spelled a b c d (All-head IsDigit a (b ∷ c ∷ d ∷ []) are) (All-head IsDigit b (c ∷ d ∷ []) bs) (All-head IsDigit c (d ∷ []) cs) (All-head IsDigit d [] ds)),
-    )
-one_word (a ∷ b ∷ c ∷ d ∷ e ∷ digits) are four = absurd (omega arith)
-
 pub words_spelled : (digits : List ℕ) → AllPass is_upper_hex_digit digits → length digits % 4 ≡ 0 → digits ≡ flat_map hex_word (words_of_digits digits)
 words_spelled [] are four = refl
 words_spelled (a ∷ []) are four = absurd (omega arith)
@@ -122,23 +109,6 @@ words_back [] small = refl
 words_back (word ∷ words) small =
     rw (word_back word (All-head IsSmall word words small), words_back words (All-tail IsSmall word words small)) refl
 
--- digits that spell words begin with those of the first word, and the others spell the others
-pub first_word : (digits front behind : List ℕ) → IsSplitAt digits 4 front behind → AreWordDigits digits
-    → (word : ℕ) × (word < 2 ^ 16) × (front ≡ hex_word word) × (words_of_digits digits ≡ word ∷ words_of_digits behind) × AreWordDigits behind
-first_word [] front behind cut are = absurd (omega (arith, cut.0))
-first_word (a ∷ []) front behind cut are = absurd (omega (arith, cut.0))
-first_word (a ∷ b ∷ []) front behind cut are = absurd (omega (arith, cut.0))
-first_word (a ∷ b ∷ c ∷ []) front behind cut are = absurd (omega (arith, cut.0))
-first_word (a ∷ b ∷ c ∷ d ∷ digits) front behind cut are =
-    let others : AreWordDigits digits =
-    record { spelling = ap (λ (list : List ℕ). drop 4 list) are.spelling; countable = omega (arith, are.countable) } in (
-      word_number a b c d,
-      word_small a b c d,
-      cut.1 ∙ ap (λ (list : List ℕ). take 4 list) are.spelling,
-      rw cut.2 refl,
-      rw cut.2 others,
-    )
-
 pub digits_length : (words : List ℕ) → length (flat_map hex_word words) ≡ 4 * length words
 digits_length [] = refl
 digits_length (word ∷ words) = omega (arith, digits_length words)
@@ -163,3 +133,129 @@ digits_pass (word ∷ words) small =
 -- the digits of words are not the hyphen
 pub digits_no_hyphen : (words : List ℕ) → flat_map hex_word words ≢ hyphen ∷ []
 digits_no_hyphen words same = omega (arith, digits_length words, ap length same)
+
+-- digits that spell words are upper-case hexadecimal digits
+pub digits_upper : (digits : List ℕ) → AreWordDigits digits → AllPass is_upper_hex_digit digits
+digits_upper digits are = subst (λ list. AllPass is_upper_hex_digit list) (sym are.spelling) (digits_pass (words_of_digits digits) (words_small digits))
+
+-- an upper-case digit is a digit of either case, of the same number
+pub upper_is_hex : (digit : ℕ) → IsDigit digit → is_hex_digit digit ≡ true
+upper_is_hex digit is = grind (arith, nat_tests)
+
+number_is : (digit number : ℕ) → IsDigit digit → hex_digit_value digit ≡ Some number → number ≡ digit_number digit
+number_is digit number is value = grind (arith, nat_tests)
+
+-- the numbers of four digits
+pub record FourNumbers (digits : List ℕ) : Type 0 where
+  pub a : ℕ
+  pub b : ℕ
+  pub c : ℕ
+  pub d : ℕ
+  pub first : hex_digit_value (slice_index digits 0) ≡ Some a
+  pub second : hex_digit_value (slice_index digits 1) ≡ Some b
+  pub third : hex_digit_value (slice_index digits 2) ≡ Some c
+  pub fourth : hex_digit_value (slice_index digits 3) ≡ Some d
+
+-- the word of four digits, by their numbers
+pub word_numbers : (digits : List ℕ) → length digits ≡ 4 → AllPass is_upper_hex_digit digits → (are : FourNumbers digits)
+    → words_of_digits digits ≡ ((are.a * 16 + are.b) * 256 + (are.c * 16 + are.d)) ∷ []
+word_numbers [] four upper are = absurd (omega arith)
+word_numbers (a ∷ []) four upper are = absurd (omega arith)
+word_numbers (a ∷ b ∷ []) four upper are = absurd (omega arith)
+word_numbers (a ∷ b ∷ c ∷ []) four upper are = absurd (omega arith)
+word_numbers (a ∷ b ∷ c ∷ d ∷ []) four upper are =
+    let bs = All-tail IsDigit a (b ∷ c ∷ d ∷ []) upper in
+    let cs = All-tail IsDigit b (c ∷ d ∷ []) bs in
+    let ds = All-tail IsDigit c (d ∷ []) cs in
+    let first = number_is a are.a (All-head IsDigit a (b ∷ c ∷ d ∷ []) upper) are.first in
+    let second = number_is b are.b (All-head IsDigit b (c ∷ d ∷ []) bs) are.second in
+    let third = number_is c are.c (All-head IsDigit c (d ∷ []) cs) are.third in
+    let fourth = number_is d are.d (All-head IsDigit d [] ds) are.fourth in
+    ap (λ (word : ℕ). word ∷ []) (omega (arith, first, second, third, fourth))
+word_numbers (a ∷ b ∷ c ∷ d ∷ e ∷ digits) four upper are = absurd (omega arith)
+
+-- digits in groups of four: the group at a place
+group_at : (digits : List ℕ) (count at : ℕ) (default : List ℕ) → at < count → get_or (first_chunks 4 count digits) at default ≡ take 4 (drop (4 * at) digits)
+group_at digits zero at default within = absurd (omega arith)
+group_at digits (suc count) zero default within = refl
+group_at digits (suc count) (suc at) default within =
+    let place : 4 + 4 * at ≡ 4 * suc at = omega arith in
+    group_at (drop 4 digits) count at default (omega arith)
+    ∙ ap (λ (list : List ℕ). take 4 list) (drop-drop (4 * at) 4 digits ∙ ap (λ (n : ℕ). drop n digits) place)
+
+pub group_upper : (digits : List ℕ) (count at : ℕ) (default : List ℕ) → at < count → AllPass is_upper_hex_digit digits
+    → AllPass is_upper_hex_digit (get_or (first_chunks 4 count digits) at default)
+group_upper digits count at default within upper =
+    subst (λ list. AllPass is_upper_hex_digit list) (sym (group_at digits count at default within))
+    (All-take IsDigit 4 (drop (4 * at) digits) (All-drop IsDigit (4 * at) digits upper))
+
+-- the first word of digits is that of the first four
+front_word : (digits : List ℕ) (word : ℕ) → words_of_digits (take 4 digits) ≡ word ∷ [] → words_of_digits digits ≡ word ∷ words_of_digits (drop 4 digits)
+front_word [] word is = cc
+front_word (a ∷ []) word is = cc
+front_word (a ∷ b ∷ []) word is = cc
+front_word (a ∷ b ∷ c ∷ []) word is = cc
+front_word (a ∷ b ∷ c ∷ d ∷ digits) word is = ap (λ (list : List ℕ). list ++ words_of_digits digits) is
+
+-- the words from a place on begin with that of the group there
+pub group_word : (digits : List ℕ) (count at word : ℕ) (default : List ℕ) → at < count → words_of_digits (get_or (first_chunks 4 count digits) at default) ≡ word ∷ []
+    → words_of_digits (drop (4 * at) digits) ≡ word ∷ words_of_digits (drop (4 * (at + 1)) digits)
+group_word digits count at word default within is =
+    let place : 4 * at + 4 ≡ 4 * (at + 1) = omega arith in
+    let here : words_of_digits (take 4 (drop (4 * at) digits)) ≡ word ∷ [] = sym (ap words_of_digits (group_at digits count at default within)) ∙ is in
+    front_word (drop (4 * at) digits) word here
+    ∙ ap (λ (list : List ℕ). word ∷ words_of_digits list) (drop-drop 4 (4 * at) digits ∙ ap (λ (n : ℕ). drop n digits) place)
+
+-- the group that stands at a place of as many groups as there is room for
+pub group_of : (digits : List ℕ) (groups : List (List ℕ)) (room at : ℕ) (default : List ℕ) → groups ≡ first_chunks 4 (length digits / 4) digits → at < room
+    → get_or (take room groups) at default ≡ get_or (first_chunks 4 (length digits / 4) digits) at default
+group_of digits groups room at default are within =
+    get_or-take room groups at default within ∙ ap (λ (list : List (List ℕ)). get_or list at default) are
+
+-- four digits less are a word less
+words_dropped : (digits : List ℕ) (at : ℕ) → words_of_digits (drop (4 * at) digits) ≡ drop at (words_of_digits digits)
+words_dropped digits zero = refl
+words_dropped [] (suc at) = ap words_of_digits (drop_all (4 * suc at) [] (omega arith))
+words_dropped (a ∷ []) (suc at) = ap words_of_digits (drop_all (4 * suc at) (a ∷ []) (omega arith))
+words_dropped (a ∷ b ∷ []) (suc at) = ap words_of_digits (drop_all (4 * suc at) (a ∷ b ∷ []) (omega arith))
+words_dropped (a ∷ b ∷ c ∷ []) (suc at) = ap words_of_digits (drop_all (4 * suc at) (a ∷ b ∷ c ∷ []) (omega arith))
+words_dropped (a ∷ b ∷ c ∷ d ∷ digits) (suc at) =
+    let place : 4 * suc at ≡ suc (suc (suc (suc (4 * at)))) = omega arith in
+    ap (λ (n : ℕ). words_of_digits (drop n (a ∷ b ∷ c ∷ d ∷ digits))) place ∙ words_dropped digits at
+
+-- one word more is written
+pub word_step : (digits words out : List ℕ) (at word : ℕ) → at < length out → words_of_digits digits ≡ words
+    → words_of_digits (drop (4 * at) digits) ≡ word ∷ words_of_digits (drop (4 * (at + 1)) digits)
+    → words ≡ take at out ++ drop at words → words ≡ take (at + 1) (slice_set out at word) ++ drop (at + 1) words
+word_step digits words out at word room are is so_far =
+    let before : words_of_digits (drop (4 * at) digits) ≡ drop at words = words_dropped digits at ∙ ap (λ (list : List ℕ). drop at list) are in
+    let behind : words_of_digits (drop (4 * (at + 1)) digits) ≡ drop (at + 1) words = words_dropped digits (at + 1) ∙ ap (λ (list : List ℕ). drop (at + 1) list) are in
+    so_far
+    ∙ ap (λ (list : List ℕ). take at out ++ list) (sym before ∙ is ∙ ap (λ (list : List ℕ). word ∷ list) behind)
+    ∙ sym (append_assoc (take at out) (word ∷ []) (drop (at + 1) words))
+    ∙ ap (λ (front : List ℕ). front ++ drop (at + 1) words) (sym (take_more_set out at word room))
+
+-- all words are written
+pub words_done : (words out : List ℕ) (at : ℕ) → length out ≡ length words → length out ≤ at → words ≡ take at out ++ drop at words → out ≡ words
+words_done words out at count behind so_far =
+    sym (so_far ∙ rw (drop_all at words (omega (arith, count, behind)), take_all at out behind) (append-nil out))
+
+pub one_small : (word : ℕ) → IsSmall word → All (λ word. word < 2 ^ 16) (word ∷ [])
+one_small word small = All-cons IsSmall word [] small (All-nil IsSmall)
+
+-- a list of at most one word is spelled as its word
+pub one_spelled : (field words : List ℕ) (first : Option ℕ) → field ≡ hex_words words → length words ≤ 1 → first ≡ slice_get words 0
+    → IfSome first (λ word. field ≡ hex_word word)
+one_spelled field [] first is few there = rw there tt
+one_spelled field (word ∷ []) first is few there = rw there is
+one_spelled field (word ∷ second ∷ words) first is few there = absurd (omega arith)
+
+-- the first word is that of the first group
+pub first_group : (digits : List ℕ) (word : ℕ) (default : List ℕ) → 0 < length digits / 4 → words_of_digits (get_or (first_chunks 4 (length digits / 4) digits) 0 default) ≡ word ∷ []
+    → slice_get (words_of_digits digits) 0 ≡ Some word
+first_group digits word default some is = ap (λ (words : List ℕ). slice_get words 0) (group_word digits (length digits / 4) 0 word default some is)
+
+-- and without a group there is none
+pub no_group : (words : List ℕ) → length words ≡ 0 → slice_get words 0 ≡ None
+no_group [] none = refl
+no_group (word ∷ words) none = absurd (omega arith)

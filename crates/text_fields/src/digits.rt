@@ -4,6 +4,7 @@ ghost use Rattle.std.specs.List.{AllPass};
 ghost use Rattle.std.specs.String.{string_bytes};
 ghost use Rattle.text_fields.specs.Binary.{binary, binary_digit, hyphen, is_binary_digit, or_hyphen};
 
+use crate::ascii::push_ascii;
 use bit_strings::{Bits, List, OutOfMemory};
 use std::alloc::Global;
 use std::marker::Model;
@@ -109,8 +110,12 @@ impl<'a> Digits<'a> {
     }
 }
 
-/// How many digits are written at once.
-const PART: usize = 64;
+/// How many digits of a long list are written at once. `simdutf8` looks at 64 bytes in a step, and each call of it costs some
+/// steps more.
+const PART: usize = 1024;
+
+/// How many digits a short list has at most. Less room is filled for it.
+const SHORT: usize = 64;
 
 /// Writes bits in binary digits, or a hyphen for none, at the end of the text. After an error the
 /// text may hold a part of them.
@@ -120,35 +125,35 @@ pub fn push_bits(text: &mut String, bits: &[bool]) -> Result<(), OutOfMemory>
     if bits.is_empty() {
         return text.push('-');
     }
-    push_digits(text, bits)
+    if bits.len() <= SHORT {
+        return push_part::<SHORT>(text, bits);
+    }
+    push_parts(text, bits)
 }
 
 /// Writes bits in binary digits at the end of the text.
-fn push_digits(text: &mut String, bits: &[bool]) -> Result<(), OutOfMemory>
+fn push_parts(text: &mut String, bits: &[bool]) -> Result<(), OutOfMemory>
     ensures { OnOk result (string_bytes text.new ≡ string_bytes text.old ++ map binary_digit bits.now) }
 {
     let mut rest = bits;
     while !rest.is_empty() {
         let (part, behind) = rest.split_at(rest.len().min(PART));
-        push_part(text, part)?;
+        push_part::<PART>(text, part)?;
         rest = behind;
     }
     Ok(())
 }
 
-/// Writes at most [`PART`] bits in binary digits at the end of the text.
-fn push_part(text: &mut String, bits: &[bool]) -> Result<(), OutOfMemory>
-    requires { length bits.now ≤ PART }
+/// Writes at most `MOST` bits in binary digits at the end of the text.
+fn push_part<const MOST: usize>(text: &mut String, bits: &[bool]) -> Result<(), OutOfMemory>
+    requires count { length bits.now ≤ MOST }
+    requires room { MOST ≤ PART }
     ensures { OnOk result (string_bytes text.new ≡ string_bytes text.old ++ map binary_digit bits.now) }
 {
-    let mut room = [b'0'; PART];
+    let mut room = [b'0'; MOST];
     let digits = &mut room[..bits.len()];
     write_digits(bits, digits);
-    match simdutf8::basic::from_utf8(digits) {
-        Ok(digits) => text.push_str(digits),
-        // Digits are ASCII.
-        Err(_) => unreachable!(),
-    }
+    push_ascii(text, digits)
 }
 
 /// Writes the digit of each bit.

@@ -35,7 +35,7 @@ impl<'a> Fields<'a> {
     }
 
     /// The same fields once more.
-    pub(crate) fn again(&self) -> Fields<'a>
+    pub fn again(&self) -> Fields<'a>
         ensures { result ≡ self.now }
     {
         Fields { rest: self.rest }

@@ -43,7 +43,7 @@ fn is_hexadecimal(digits: &[u8]) -> bool
 }
 
 /// The number that a hexadecimal digit of either case stands for.
-fn digit_number(digit: u8) -> u8
+pub(crate) fn digit_number(digit: u8) -> u8
     requires { is_hex_digit digit ≡ true }
     ensures number { hex_digit_value digit ≡ Some result }
     ensures small { result < 16 }

@@ -5,7 +5,8 @@ ghost use Rattle.std.specs.String.{string_bytes};
 ghost use Rattle.text_fields.specs.Hexadecimal.{hex_byte, hex_digit, hex_word, hex_words};
 ghost use Rattle.text_fields.specs.WordLists.{is_upper_hex_digit};
 
-use crate::word_lists::is_upper_hexadecimal;
+use crate::ascii::push_ascii;
+use crate::word_lists::{Words, is_upper_hexadecimal};
 use bit_strings::OutOfMemory;
 use hex::FromHex;
 
@@ -22,26 +23,14 @@ pub fn byte(field: &[u8]) -> Option<u8>
     Some(byte)
 }
 
-/// The word that upper-case hexadecimal digits spell; none exactly where they aren't four.
-pub(crate) fn read_word(digits: &[u8]) -> Option<u16>
-    requires { AllPass is_upper_hex_digit digits.now }
-    ensures value { IfSome result (λ n. digits.now ≡ hex_word n) }
-    ensures only { (n : ℕ) → n < 2 ^ 16 → digits.now ≡ hex_word n → result ≡ Some n }
-{
-    let bytes = <[u8; 2] as FromHex>::from_hex(digits).ok()?;
-    Some(u16::from_be_bytes(bytes))
-}
-
 /// The word that a field spells in four upper-case hexadecimal digits; none exactly where the field
 /// isn't the spelling of a word.
 pub fn word(field: &[u8]) -> Option<u16>
     ensures value { IfSome result (λ n. field.now ≡ hex_word n) }
     ensures only { (n : ℕ) → n < 2 ^ 16 → field.now ≡ hex_word n → result ≡ Some n }
 {
-    if !is_upper_hexadecimal(field) {
-        return None;
-    }
-    read_word(field)
+    let words = Words::new(field, 1)?;
+    words.first()
 }
 
 /// How many words are written at once.
@@ -77,11 +66,7 @@ fn push_upper_hexadecimal(text: &mut String, digits: &[u8]) -> Result<(), OutOfM
     requires { AllPass is_upper_hex_digit digits.now }
     ensures { OnOk result (string_bytes text.new ≡ string_bytes text.old ++ digits.now) }
 {
-    match simdutf8::basic::from_utf8(digits) {
-        Ok(digits) => text.push_str(digits),
-        // Digits are ASCII.
-        Err(_) => unreachable!(),
-    }
+    push_ascii(text, digits)
 }
 
 /// Writes at most [`PART`] words in hexadecimal digits at the end of the text.

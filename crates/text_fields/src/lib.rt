@@ -6,6 +6,7 @@
 //! of its own.
 #![tactic(auto)]
 
+mod ascii;
 mod code_names;
 mod digits;
 mod exact;
@@ -24,6 +25,7 @@ mod short_text;
 mod single_bits;
 mod word_lists;
 
+pub use ascii::push_ascii;
 pub use code_names::{code_named, name_of};
 pub use digits::{Digits, list_digits, push_bits};
 pub use exact::{are_filled, four_fields, is_at_end, one_field, three_fields, two_fields};

@@ -1,12 +1,12 @@
 //! Lists of words as fields.
-ghost use Rattle.std.specs.Prelude.{◌≡◌, ◌≢◌, ◌≤◌, ◌<◌, ◌^◌, ◌%◌, ℕ, ◌↔◌, List, [], ◌∷◌, ◌++◌, length, slice_get, All, IsTrue, IfOk, OnOk, IfSome, IfNone, IsSomeAnd};
+ghost use Rattle.std.specs.Prelude.{◌≡◌, ◌≢◌, ◌≤◌, ◌<◌, ◌^◌, ◌%◌, ℕ, ◌↔◌, List, [], ◌∷◌, length, slice_get, All, IsTrue, IfOk, OnOk, IfSome, IsSomeAnd};
 ghost use Rattle.std.specs.List.{AllPass};
 ghost use Rattle.text_fields.specs.Binary.{hyphen};
-ghost use Rattle.text_fields.specs.Hexadecimal.{hex_word, hex_words};
+ghost use Rattle.text_fields.specs.Hexadecimal.{hex_words};
 ghost use Rattle.text_fields.specs.WordLists.{AreWordDigits, is_upper_hex_digit, words_of_digits};
 
 use crate::digits::list_digits;
-use crate::hex_words::read_word;
+use crate::hex_bytes::digit_number;
 use bit_strings::OutOfMemory;
 use std::alloc::Global;
 use std::marker::Model;
@@ -48,17 +48,16 @@ pub(crate) fn is_upper_hexadecimal(digits: &[u8]) -> bool
     hexadecimal
 }
 
-/// The first word of digits that spell words, and the digits behind it; none exactly where there are no
-/// words.
-fn split_word(digits: &[u8]) -> Option<(u16, &[u8])>
-    requires { AreWordDigits digits.now }
-    ensures cut { IfSome result (λ it. digits.now ≡ hex_word it.0 ++ it.1.now) }
-    ensures words { IfSome result (λ it. words_of_digits digits.now ≡ it.0 ∷ words_of_digits it.1.now) }
-    ensures left { IfSome result (λ it. AreWordDigits it.1.now) }
-    ensures none { IfNone result (words_of_digits digits.now ≡ []) }
+/// The word of four digits.
+fn word_of(digits: &[u8; 4]) -> u16
+    requires { AllPass is_upper_hex_digit digits.now }
+    ensures { words_of_digits digits.now ≡ result ∷ [] }
 {
-    let (first, behind) = digits.split_at_checked(4)?;
-    Some((read_word(first)?, behind))
+    let first = digit_number(digits[0]);
+    let second = digit_number(digits[1]);
+    let third = digit_number(digits[2]);
+    let fourth = digit_number(digits[3]);
+    u16::from(first * 16 + second) * 256 + u16::from(third * 16 + fourth)
 }
 
 impl<'a> Words<'a> {
@@ -95,30 +94,33 @@ impl<'a> Words<'a> {
     pub fn first(&self) -> Option<u16>
         ensures { result ≡ slice_get self.now 0 }
     {
-        let (word, _) = split_word(self.digits)?;
-        Some(word)
+        let (words, _) = self.digits.as_chunks::<4>();
+        if words.is_empty() {
+            None
+        } else {
+            Some(word_of(&words[0]))
+        }
     }
 
-    /// Takes the first word off; none exactly where there are no words.
-    pub fn take_first(&mut self) -> Option<u16>
-        ensures some { IfSome result (λ word. self.old ≡ word ∷ self.new) }
-        ensures none { IfNone result (self.old ≡ []) }
+    /// Writes the words over `out`, which has room for exactly these.
+    pub fn write_to(&self, out: &mut [u16])
+        requires { length out.old ≡ length self.now }
+        ensures { out.new ≡ self.now }
     {
-        let (word, behind) = split_word(self.digits)?;
-        self.digits = behind;
-        Some(word)
+        let (words, _) = self.digits.as_chunks::<4>();
+        // With as many words as places no index is looked at, and the compiler takes many words at once.
+        let words = &words[..out.len()];
+        for at in 0..out.len() {
+            out[at] = word_of(&words[at]);
+        }
     }
 
-    /// Writes the words into a list in place of what it holds. After an error it holds some of them.
+    /// Writes the words into a list in place of what it holds. After an error it may hold others.
     pub fn copy_to(&self, out: &mut Vec<u16>) -> Result<(), OutOfMemory>
         ensures { OnOk result (out.new.items ≡ self.now) }
     {
-        out.clear();
-        let mut rest = self.digits;
-        while let Some((word, behind)) = split_word(rest) {
-            out.push(word)?;
-            rest = behind;
-        }
+        out.resize(self.len() as usize, 0)?;
+        self.write_to(out);
         Ok(())
     }
 

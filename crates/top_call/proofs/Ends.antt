@@ -1,9 +1,9 @@
 -- How a run ends: what a failed write left, and which status an input that the grammar allows has.
-use Rattle.std.proofs.Common.{◌≡◌, ◌⊎◌, ℕ, ◌+◌, ◌≤◌, ◌<◌, Bool, List, ◌++◌, length, take, drop, Option, Some, None, Result, Err, true, false, [], refl, sym, ◌∙◌, ap, subst, arith, inl, inr, length-append}
+use Rattle.std.proofs.Common.{◌≡◌, ◌≢◌, ◌⊎◌, ℕ, ◌+◌, ◌≤◌, ◌<◌, Bool, List, ◌++◌, length, take, drop, Option, Some, None, Result, Err, true, false, [], refl, sym, ◌∙◌, ap, subst, arith, inl, inr, length-append}
 use Rattle.std.proofs.lemmas.List.{take-append-drop, append-nil}
 use Rattle.air_io.specs.Flow.{Reads, Adds, AtEnd, FaultsRose}
 use Rattle.top_call.specs.Job.{Job, Defines, IsLawful}
-use Rattle.top_call.specs.Outcome.{input_limit, ReadsWithin, TakesInput, AddsFront, EndsSo, SinkChange, Tells, WritesWhole}
+use Rattle.top_call.specs.Outcome.{input_limit, ReadsWithin, TakesInput, AddsFront, EndsSo, SinkChange, SourceChange, Tells, WritesWhole}
 use Rattle.top_call.specs.declared.ending.Wrote.{Wrote}
 use Rattle.top_call.specs.declared.ending.WriteEnd.{WriteEnd}
 use Rattle.top_call.specs.declared.ending.WriteEnd.TheVariants.{Fault}
@@ -100,9 +100,9 @@ completes job lawful of Done tells few allowed none = inl refl
 completes job lawful of OutOfMemory tells few allowed none = inr refl
 completes job lawful of BadWords tells few allowed none = absurd tells
 completes job lawful of ReadFault tells few allowed none = absurd (none.read tells.0)
-completes job lawful of WriteFault tells few allowed none = absurd (none.write tells.0)
-completes job lawful of TooLong tells few allowed none = absurd (not_over of.told of.left' tells.0.bytes tells.0.reads tells.0.over few)
-completes job lawful of BadInput tells few allowed none = absurd (not_bad job lawful of.told of.left' tells.bytes tells.adds.text tells.taken allowed tells.adds.named)
+completes job lawful of WriteFault tells few allowed none = absurd (none.write tells.1)
+completes job lawful of TooLong tells few allowed none = absurd (not_over of.told of.left' tells.1.bytes tells.1.reads tells.1.over few)
+completes job lawful of BadInput tells few allowed none = absurd (not_bad job lawful of.told of.left' tells.1.bytes tells.1.adds.text tells.1.taken allowed tells.1.adds.named)
 
 -- an input within the limit that has a fault line ends so, or memory ran out
 pub refuses : (job : Job) → IsLawful job → (of : Devices) (text : List ℕ) (status : Status) → TellsOf job of status → length of.told ≤ input_limit → job.refuses of.told text
@@ -111,10 +111,10 @@ refuses job lawful of text BadInput tells few refused none = inl refl
 refuses job lawful of text OutOfMemory tells few refused none = inr refl
 refuses job lawful of text BadWords tells few refused none = absurd tells
 refuses job lawful of text ReadFault tells few refused none = absurd (none.read tells.0)
-refuses job lawful of text WriteFault tells few refused none = absurd (none.write tells.0)
-refuses job lawful of text TooLong tells few refused none = absurd (not_over of.told of.left' tells.0.bytes tells.0.reads tells.0.over few)
+refuses job lawful of text WriteFault tells few refused none = absurd (none.write tells.1)
+refuses job lawful of text TooLong tells few refused none = absurd (not_over of.told of.left' tells.1.bytes tells.1.reads tells.1.over few)
 refuses job lawful of text Done tells few refused none =
-    absurd (not_told_bad job lawful of.told of.left' tells.bytes text tells.taken (lawful.allowed tells.bytes tells.adds.text tells.adds.named) refused)
+    absurd (not_told_bad job lawful of.told of.left' tells.1.bytes text tells.1.taken (lawful.allowed tells.1.bytes tells.1.adds.text tells.1.adds.named) refused)
 
 -- an input over the limit ends so, or memory ran out
 pub passes_limit : (job : Job) → job.input ≡ true → (of : Devices) (status : Status) → TellsOf job of status → input_limit < length of.told → ¬ FaultsRose of.reads of.reads'
@@ -123,9 +123,31 @@ passes_limit job has of TooLong tells many no_read = inl refl
 passes_limit job has of OutOfMemory tells many no_read = inr refl
 passes_limit job has of BadWords tells many no_read = absurd tells
 passes_limit job has of ReadFault tells many no_read = absurd (no_read tells.0)
-passes_limit job has of WriteFault tells many no_read = absurd (omega (arith, many, taken_within job.input has of.told of.left' tells.1.bytes tells.1.taken))
-passes_limit job has of Done tells many no_read = absurd (omega (arith, many, taken_within job.input has of.told of.left' tells.bytes tells.taken))
-passes_limit job has of BadInput tells many no_read = absurd (omega (arith, many, taken_within job.input has of.told of.left' tells.bytes tells.taken))
+passes_limit job has of WriteFault tells many no_read = absurd (omega (arith, many, taken_within job.input has of.told of.left' tells.2.bytes tells.2.taken))
+passes_limit job has of Done tells many no_read = absurd (omega (arith, many, taken_within job.input has of.told of.left' tells.1.bytes tells.1.taken))
+passes_limit job has of BadInput tells many no_read = absurd (omega (arith, many, taken_within job.input has of.told of.left' tells.1.bytes tells.1.taken))
+
+-- each read that failed is told,
+pub reads_told : (job : Job) (source : SourceChange) (sink : SinkChange) (untouched : Type 0) (status : Status) → Tells job source sink untouched status → status ≢ ReadFault
+    → source.reads' ≡ source.reads
+reads_told job source sink untouched Done tells other = tells.0.0
+reads_told job source sink untouched BadInput tells other = tells.0.0
+reads_told job source sink untouched ReadFault tells other = absurd (other refl)
+reads_told job source sink untouched WriteFault tells other = tells.0
+reads_told job source sink untouched TooLong tells other = tells.0
+reads_told job source sink untouched OutOfMemory tells other = tells.0.0
+reads_told job source sink untouched BadWords tells other = absurd tells
+
+-- and each write that failed, where no write fails of a sink that is untouched
+pub writes_told : (job : Job) (source : SourceChange) (sink : SinkChange) (untouched : Type 0) (status : Status) → Tells job source sink untouched status
+    → (untouched → sink.writes' ≡ sink.writes) → status ≢ WriteFault → sink.writes' ≡ sink.writes
+writes_told job source sink untouched Done tells same other = tells.0.1
+writes_told job source sink untouched BadInput tells same other = tells.0.1
+writes_told job source sink untouched ReadFault tells same other = same tells.2
+writes_told job source sink untouched WriteFault tells same other = absurd (other refl)
+writes_told job source sink untouched TooLong tells same other = same tells.2
+writes_told job source sink untouched OutOfMemory tells same other = tells.0.1
+writes_told job source sink untouched BadWords tells same other = absurd tells
 
 -- a count that stands at 0 did not rise
 pub none_rose : FaultsRose 0 0 → ⊥

@@ -6,7 +6,7 @@ use Rattle.report_lines.specs.declared.mode.PlayFault.TheVariants as plays
 use Rattle.tag_machine.specs.TagValue.{TagValue}
 use Rattle.text_fields.specs.FaultLine.{fault_line}
 use Rattle.probe_lines.specs.declared.fault.Fault.{Fault}
-use Rattle.probe_lines.specs.declared.line.Stimulus.{Stimulus}
+use Rattle.probe_lines.specs.Said.{Stimulus}
 use Rattle.probe_lines.specs.Answers.{Tells, tag_of}
 use Rattle.probe_lines.specs.FaultWords.{fault_word}
 use Rattle.probe_lines.specs.Played.{HasPlayed, WritesPart}
@@ -75,4 +75,4 @@ play_failed bytes tag said sink plays.OutOfMemory end ends is played =
 pub played_whole : (bytes : List ℕ) (tag : TagSpec) (said : List Stimulus) (sink : SinkChange) (done : Unit {0})
     → IsProbe bytes tag said → HasPlayed (tag_of tag) said sink.written sink.written' sink.writes sink.writes' (Ok done) → EndsSo probe_job bytes sink (Ok Text)
 played_whole bytes tag said sink done is played =
-    record { text = played.text; named = record { tag = tag; said = said; is = is; tells = played.tells }; added = played.added }
+    (played.0, record { text = played.1.text; named = record { tag = tag; said = said; is = is; tells = played.1.tells }; added = played.1.added })

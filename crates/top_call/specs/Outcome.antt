@@ -91,23 +91,27 @@ source_change left faults old new = record { left = left old; left' = left new; 
 abbrev pub sink_change : {A : Type 0} → (written : A → Option (List ℕ)) → (faults : A → ℕ) → (old new : A) → SinkChange
 sink_change written faults old new = record { written = written old; written' = written new; writes = faults old; writes' = faults new }
 
--- What the end of a word's writing for these bytes says of the sink. Where there was no memory, no write failed.
+-- What the end of a word's writing for these bytes says of the sink. A write failed exactly where that is told.
 abbrev pub EndsSo : Job → (bytes : List ℕ) → SinkChange → Result Wrote WriteEnd → Type 0
-EndsSo job bytes sink (Ok Text) = AddsWhole (job.writes bytes) sink.written sink.written'
-EndsSo job bytes sink (Ok FaultLine) = AddsWhole (job.refuses bytes) sink.written sink.written'
+EndsSo job bytes sink (Ok Text) = (sink.writes' ≡ sink.writes) × AddsWhole (job.writes bytes) sink.written sink.written'
+EndsSo job bytes sink (Ok FaultLine) = (sink.writes' ≡ sink.writes) × AddsWhole (job.refuses bytes) sink.written sink.written'
 EndsSo job bytes sink (Err ends.Fault) = FaultsRose sink.writes sink.writes' × AddsFront (Defines job bytes) sink.written sink.written'
 EndsSo job bytes sink (Err ends.OutOfMemory) = (sink.writes' ≡ sink.writes) × ((sink.written' ≡ sink.written) ⊎ AddsFront (Defines job bytes) sink.written sink.written')
 
--- What a status says of a word: of its source, of its sink, and of the fact that the sink is untouched. Where there was no
--- memory, no read and no write failed.
+-- no read and no write failed
+abbrev pub NothingFailed : SourceChange → SinkChange → Type 0
+NothingFailed source sink = (source.reads' ≡ source.reads) × (sink.writes' ≡ sink.writes)
+
+-- What a status says of a word: of its source, of its sink, and of the fact that the sink is untouched. A read or a write failed
+-- exactly where that is told.
 abbrev pub Tells : Job → SourceChange → SinkChange → (untouched : Type 0) → Status → Type 0
-Tells job source sink untouched Done = WritesWhole job job.writes source.left source.left' sink.written sink.written'
-Tells job source sink untouched BadInput = WritesWhole job job.refuses source.left source.left' sink.written sink.written'
+Tells job source sink untouched Done = NothingFailed source sink × WritesWhole job job.writes source.left source.left' sink.written sink.written'
+Tells job source sink untouched BadInput = NothingFailed source sink × WritesWhole job job.refuses source.left source.left' sink.written sink.written'
 Tells job source sink untouched ReadFault = FaultsRose source.reads source.reads' × ReadsWithin source.left source.left' × untouched
-Tells job source sink untouched WriteFault = FaultsRose sink.writes sink.writes' × WritesFront job source.left source.left' sink.written sink.written'
-Tells job source sink untouched TooLong = ReadsTooMuch source.left source.left' × untouched
+Tells job source sink untouched WriteFault = (source.reads' ≡ source.reads) × FaultsRose sink.writes sink.writes' × WritesFront job source.left source.left' sink.written sink.written'
+Tells job source sink untouched TooLong = (source.reads' ≡ source.reads) × ReadsTooMuch source.left source.left' × untouched
 Tells job source sink untouched OutOfMemory =
-    (source.reads' ≡ source.reads) × (sink.writes' ≡ sink.writes)
+    NothingFailed source sink
     × ((ReadsWithin source.left source.left' × (sink.written' ≡ sink.written)) ⊎ WritesFront job source.left source.left' sink.written sink.written')
 Tells job source sink untouched BadWords = ⊥
 

@@ -76,9 +76,9 @@ pub fn gen2run<I: Source, O: Sink>(
     ensures out_of_memory { (form : Form) → AskFor (texts words.now) form → result ≡ Status.OutOfMemory
         → (ReadsWithin (I.left input.old) (I.left input.new) × (O.written output.new ≡ O.written output.old))
         ⊎ WritesFront (job_of form) (I.left input.old) (I.left input.new) (O.written output.old) (O.written output.new) }
-    // OutOfMemory comes only where no device failed.
-    ensures memory_alone { result ≡ Status.OutOfMemory
-        → (I.faults input.new ≡ I.faults input.old) × (O.faults output.new ≡ O.faults output.old) }
+    // Each failure of a read or a write is told: under every other status the count of faults stands.
+    ensures read_told { result ≢ Status.ReadFault → I.faults input.new ≡ I.faults input.old }
+    ensures write_told { result ≢ Status.WriteFault → O.faults output.new ≡ O.faults output.old }
     // Under `names` memory is taken for the input alone, so that OutOfMemory leaves the sink as it was.
     ensures names_memory { AskFor (texts words.now) Form.Names → result ≡ Status.OutOfMemory → output.new ≡ output.old }
 

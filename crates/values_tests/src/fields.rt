@@ -225,6 +225,22 @@ fn are_hexadecimals(alloc: Global) -> bool {
         && text.as_str() == "0A9F0B-300000EF"
 }
 
+/// The two words of a field.
+fn two_words() -> Option<[u16; 2]> {
+    let words = Words::new(b"A1B2003C", 2)?;
+    if words.len() != 2 {
+        return None;
+    }
+    let mut out = [0_u16; 2];
+    words.write_to(&mut out);
+    Some(out)
+}
+
+#[test]
+fn words_are_read_over_others(rt: HostRuntime) {
+    assert_eq!(rt; two_words(), Some([0xA1B2, 0x003C]));
+}
+
 #[test]
 fn words_are_written(rt: HostRuntime) {
     assert!(rt; are_hexadecimals(rt.alloc()));

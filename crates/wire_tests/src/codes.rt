@@ -68,11 +68,13 @@ fn has_block<C: LineCode>(mark: C::Mark, bit: bool, text: &str) -> bool {
         && C::block_bit(mark, block) == Some(bit)
 }
 
-/// Whether the two blocks of 1 and 0 behind a mark are these levels.
-fn has_two_blocks<C: LineCode>(mark: C::Mark, one: &str, zero: &str) -> bool {
-    let levels = C::two_blocks(mark, true, false);
+/// Whether the blocks of 1, 0, 1 and 0 behind a mark begin with these levels.
+fn has_four_blocks<C: LineCode>(mark: C::Mark, one: &str, zero: &str) -> bool {
+    let (levels, _) = C::four_blocks(mark, &[true, false, true, false]);
     let chips = C::CHIPS as usize;
-    levels.len() == 2 * chips && shows(one, &levels[..chips]) && shows(zero, &levels[chips..])
+    levels.len() == 4 * chips
+        && shows(one, &levels[..chips])
+        && shows(zero, &levels[chips..2 * chips])
 }
 
 /// Whether the 1 behind the lead and the 0 behind that have these blocks.
@@ -80,7 +82,7 @@ fn has_blocks<C: LineCode>(one: &str, zero: &str) -> bool {
     let first = C::after_lead();
     has_block::<C>(first, true, one)
         && has_block::<C>(C::after(first, true), false, zero)
-        && has_two_blocks::<C>(first, one, zero)
+        && has_four_blocks::<C>(first, one, zero)
 }
 
 #[test]

@@ -51,6 +51,12 @@ fn an_rn16_and_an_epc_are_written_alone(rt: HostRuntime) {
     assert_eq!(rt; are_written_alone(rt.alloc()), Some(true));
 }
 
+#[test]
+fn lists_of_words_are_made_of_their_words(rt: HostRuntime) {
+    assert!(rt; EpcWords::of(&[0xA1B2, 0x1234]).as_slice() == [0xA1B2, 0x1234].as_slice());
+    assert!(rt; ReadWords::of(&[0xA1B2, 0x1234]).as_slice() == [0xA1B2, 0x1234].as_slice());
+}
+
 /// The words 5, 511 and 512 of a list of those from 0 on, and whether it has no room for more.
 fn full_read_words() -> Option<([Option<u16>; 3], bool)> {
     let mut words = ReadWords::new();

@@ -43,7 +43,7 @@ fn memory(alloc: Global) -> Option<Memory> {
 /// A tag of this memory and these locks, without power.
 fn tag_without_power(alloc: Global) -> Option<AnyTag> {
     let words = DrawWords::new(alloc, &[0xA1B2]).ok()?;
-    let tag = AnyTag::new(memory(alloc)?, LOCKS, words);
+    let tag = AnyTag::new(alloc, memory(alloc)?, LOCKS, words).ok()?;
     Some(tag.event(Event::Off))
 }
 

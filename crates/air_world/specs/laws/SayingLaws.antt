@@ -1,5 +1,5 @@
 -- What is said of answers, one after another.
-use Rattle.std.proofs.Common.{◌≡◌, ◌≢◌, ◌⊎◌, inl, inr, ℕ, zero, suc, ◌+◌, ◌-◌, ◌^◌, ◌<◌, Bool, true, false, List, [], ◌∷◌, ◌++◌, length, map, take, get_or, Option, Some, None, refl, sym, ◌∙◌, ap, subst, arith, length-append, eq-eqb, append-nil, append_assoc}
+use Rattle.std.proofs.Common.{◌≡◌, ◌≢◌, ◌⊎◌, inl, inr, ℕ, zero, ◌+◌, ◌-◌, ◌^◌, ◌<◌, Bool, true, false, List, [], ◌∷◌, ◌++◌, length, map, take, get_or, Option, Some, None, refl, sym, ◌∙◌, ap, subst, arith, length-append, eq-eqb, append-nil, append_assoc}
 use Rattle.std.specs.Prelude.{◌==◌, ◌%◌, min, slice_get, if◌then◌else◌}
 use Rattle.std.specs.Option.{option_map}
 use Rattle.std.specs.List.{AllByRecursion}
@@ -8,6 +8,7 @@ use Rattle.std.proofs.lemmas.List.{map-append, take_more}
 use Rattle.air_channel.specs.Giving.{Means}
 use Rattle.air_channel.specs.declared.replies.Giving.{Giving}
 use Rattle.air_channel.specs.declared.replies.Giving.TheVariants as givings
+use Rattle.air_model.specs.laws.LastItem.{slice_get-last, slice_get-other}
 use Rattle.air_model.specs.Channel.{Given, broken, heard_levels, levels_of}
 use Rattle.line_code.specs.laws.Flips.{length-with_level_flipped}
 use Rattle.pie_line.specs.Link.{LinkValue}
@@ -29,17 +30,6 @@ said-nothing hears asked now fresh none = record {
   kept_is = none;
 }
 
--- the item at the end of a list, and any other
-get-last : {A : Type 0} (items : List A) (last : A) → slice_get (items ++ last ∷ []) (length items) ≡ Some last
-get-last [] last = refl
-get-last (item ∷ items) last = get-last items last
-
-get-other : {A : Type 0} (items : List A) (last : A) (at : ℕ) → at ≢ length items → slice_get (items ++ last ∷ []) at ≡ slice_get items at
-get-other [] last zero other = absurd (other refl)
-get-other [] last (suc at) other = refl
-get-other (item ∷ items) last zero other = refl
-get-other (item ∷ items) last (suc at) other = get-other items last at (λ same. other (ap (λ n. suc n) same))
-
 counted-more : (before : List Replied) (reply : Replied) → min (counted_of before + 1) (2 ^ 64 - 1) ≡ counted_of (before ++ reply ∷ [])
 counted-more before reply = omega (arith, length-append before (reply ∷ []))
 
@@ -54,13 +44,13 @@ kept-more wanted before reply small = elim (split (counted_of before == wanted))
   | inl is ↦
       let same : counted_of before ≡ wanted = eqb-true (counted_of before) wanted is in
       let here : wanted ≡ length before = omega (arith, same, small) in
-      let found : slice_get (before ++ reply ∷ []) wanted ≡ Some reply = ap (λ n. slice_get (before ++ reply ∷ []) n) here ∙ get-last before reply in
+      let found : slice_get (before ++ reply ∷ []) wanted ≡ Some reply = ap (λ n. slice_get (before ++ reply ∷ []) n) here ∙ slice_get-last before reply in
       rw (is, found) refl
   | inr is ↦
       let other : wanted ≢ length before = λ same.
       let count : counted_of before ≡ wanted = omega (arith, same, small) in
       let yes : (counted_of before == wanted) ≡ true = eq-eqb (counted_of before) wanted count in absurd (cc) in
-      rw (is, get-other before reply wanted other) refl
+      rw (is, slice_get-other before reply wanted other) refl
 ]
 
 -- behind these answers one more is told, counted, and kept if the channel may give it

@@ -1,5 +1,5 @@
 //! The operations of a round with a tag that was listed.
-ghost use Rattle.std.specs.Prelude.{◌≡◌, ◌++◌, ◌||◌, ◌≤◌, ℕ, List, [], ◌∷◌, length};
+ghost use Rattle.std.specs.Prelude.{◌≡◌, ◌++◌, ◌||◌, ◌≤◌, ℕ, List, [], ◌∷◌, None, Some, length, if◌then◌else◌, option_copied};
 ghost use Rattle.access_ops.specs.Operations.{IsAnswerFor, dialogue_of, reception_in};
 ghost use Rattle.access_ops.specs.laws.OperationLaws.{Expects};
 ghost use Rattle.air_model.specs.Past.{Item, Start, next_record, past_behind_command};
@@ -37,18 +37,24 @@ impl<'a, L: Ledger> Run<'a, L> {
             → StandsAt (Passes R.hears (lines_behind start past) report.old report.new) start (past_behind_dialogue start round slot 1 (dialogue_of operations.now epc.now rn) past) air.new self.new }
     {
         let mut run = OpRun::start(operations, epc, rn);
-        let mut answer = None;
+        let mut next = OpNext::End;
+        let mut answer = Answer::Silence;
+        let mut is_answered = false;
         let mut index = 1;
         'moves: loop {
-            match run.next(operations, answer.as_ref()) {
+            run.next_to(operations, given(is_answered, &answer), &mut next);
+            match &next {
                 OpNext::Send {
                     command,
                     expect,
                     extended,
-                } => answer = Some(self.converse(air, &command, &expect, extended, report)),
+                } => {
+                    self.converse(air, command, expect, *extended, &mut answer, report);
+                    is_answered = true;
+                }
                 OpNext::Result(ended) => {
-                    tell_result(round, slot, index, &ended, report);
-                    answer = None;
+                    tell_result(round, slot, index, ended, report);
+                    is_answered = false;
                     index += 1;
                 }
                 OpNext::End => return,
@@ -56,33 +62,41 @@ impl<'a, L: Ledger> Run<'a, L> {
         }
     }
 
-    /// Sends a command of an operation, in one exchange, and gives what is heard.
+    /// Sends a command of an operation, in one exchange, and gives what is heard in place of what was heard before.
     fn converse<R: Listener>(
         &mut self,
         air: &mut Air,
         command: &Command,
         expect: &Expect,
         extended: bool,
+        answer: &mut Answer,
         report: &mut R,
-    ) -> Answer
+    )
         requires underway { IsUnderway 1 air.old self.old }
         requires expects { Expects command.now expect.now extended }
         ensures plays { (start : Start) (past : List Item) (round slot : ℕ) → IsAt start past air.old self.old
             → IsAt start (past_behind_command start round slot command.now past) air.new self.new }
         ensures rest { self.new ≡ record self.old { entries = self.new.entries } }
-        ensures expected { IsAnswerFor expect.now result }
+        ensures expected { IsAnswerFor expect.now answer.new }
         ensures heard { (start : Start) (past : List Item) (round slot : ℕ) → IsAt start past air.old self.old
-            → reception_in result ≡ operation_reception start round slot command.now expect.now extended past }
+            → reception_in answer.new ≡ operation_reception start round slot command.now expect.now extended past }
         ensures told { (start : Start) (past : List Item) (round slot : ℕ) (before : List ReportLine) → IsAt start past air.old self.old
             → Passes R.hears before report.old report.new (before ++ exchange_lines start.link (next_record start round slot command.now past)) }
     {
         answers_are_replies();
         steps_keep_tags_legal();
         match self.send(air, command, report) {
-            Got::Silence => Answer::Silence,
-            Got::Stream => Answer::Got(self.hear(air, expect, extended)),
+            Got::Silence => *answer = Answer::Silence,
+            Got::Stream => self.hear(air, expect, extended, answer),
         }
     }
+}
+
+/// The answer, where there is one to what was done last.
+fn given(is_answered: bool, answer: &Answer) -> Option<&Answer>
+    ensures { option_copied result ≡ if is_answered then Some answer.now else None }
+{
+    if is_answered { Some(answer) } else { None }
 }
 
 /// Tells the result of the operation with this number, counted from 1.

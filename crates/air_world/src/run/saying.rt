@@ -215,6 +215,33 @@ fn tell_over<R: Listener>(
     }));
 }
 
+/// Sends a command, as `Air::exchange` does, and tells who said what. It isn't put into its caller, since the room for the answer
+/// that the channel may give is filled with zeros first.
+#[inline(never)]
+fn say_all<L: Ledger, R: Listener>(
+    air: &mut Air,
+    command: &Command,
+    entry: &Entry,
+    steps: &mut Steps<L>,
+    report: &mut R,
+) -> Got
+    requires named { NamesTags (length air.old.tags) entry.now }
+    requires few { HasFewLevels entry.now.choice }
+    requires legal { AreLegalTags air.old.tags }
+    requires room { air.old.exchanges + 1 ≤ 18446744073709551615 }
+    ensures air { air.new ≡ air_after air.old command.now entry.now }
+    ensures got { result ≡ got_of (given_in air.old.link air.old.several command.now entry.now air.old.tags) }
+    ensures legal { AreLegalTags air.new.tags }
+    ensures told { (before : List ReportLine) → Passes R.hears before report.old report.new (before ++ said_of air.old command.now entry.now) }
+{
+    let exchange = air.exchanges() + 1;
+    tell_command(exchange, command, entry, report);
+    let mut kept = None;
+    let got = hear_answers(air, exchange, command, entry, steps, report, &mut kept);
+    tell_over(air, exchange, command, entry, kept, report);
+    got
+}
+
 /// Sends a command, as `Air::exchange` does, and tells who said what to a listener that wants it.
 pub(crate) fn say<L: Ledger, R: Listener>(
     air: &mut Air,
@@ -235,10 +262,5 @@ pub(crate) fn say<L: Ledger, R: Listener>(
     if !report.wants_exchanges() {
         return air.exchange(command, entry, &mut Unheard, steps);
     }
-    let exchange = air.exchanges() + 1;
-    tell_command(exchange, command, entry, report);
-    let mut kept = None;
-    let got = hear_answers(air, exchange, command, entry, steps, report, &mut kept);
-    tell_over(air, exchange, command, entry, kept, report);
-    got
+    say_all(air, command, entry, steps, report)
 }

@@ -4,6 +4,8 @@ ghost use Rattle.command_grammar.specs.Commands.{IsFinishAnswer, SpellsCommand};
 ghost use Rattle.command_grammar.specs.declared.commands.Command.{Command};
 
 use crate::commands::Command;
+use crate::reader::access::decode_access_to;
+use crate::reader::short::decode_short_to;
 use crate::reader::state::State;
 use crate::refusal::CommandRefusal;
 
@@ -14,6 +16,12 @@ pub fn decode_command_to(bits: &[bool], answer: &mut Result<Command, CommandRefu
     ensures answer { IsFinishAnswer answer.new bits.now }
     ensures only { (command : Command) → SpellsCommand command bits.now → answer.new ≡ Ok command }
 {
+    if decode_short_to(bits, answer) {
+        return;
+    }
+    if decode_access_to(bits, answer) {
+        return;
+    }
     let mut state = State::new();
     let refused = state.take_all(bits);
     state.finish(refused, answer);

@@ -1,5 +1,6 @@
 //! The fields that stand behind the codes of commands (6.3.2.11), and what was read of them.
 ghost use Rattle.std.specs.Prelude.{◌≡◌, ◌≢◌, ◌^◌, ◌<◌, ◌≤◌, Ok};
+ghost use Rattle.command_grammar.specs.declared.kinds.CommandKind.TheVariants as kinds;
 ghost use Rattle.command_grammar.specs.reading.CommandFields.{command_of, fields_of};
 
 use crate::commands::Command;
@@ -181,8 +182,7 @@ impl Fields {
     }
 
     /// Answers with the command whose fields were all read. Each command is written where the answer stands,
-    /// since a command has room for the longest mask and the longest list of words, and takes its list out of
-    /// the fields.
+    /// since a command has room for the longest mask and the longest list of words.
     #[inline(always)]
     pub(crate) fn answer(&mut self, kind: CommandKind, answer: &mut Result<Command, CommandRefusal>)
         ensures { answer.new ≡ Ok (command_of kind self.old) }
@@ -213,15 +213,7 @@ impl Fields {
                     updn: self.updn,
                 });
             }
-            CommandKind::Select => {
-                *answer = Ok(Command::Select {
-                    target: self.select_target,
-                    action: self.action,
-                    bank: self.mask_bank,
-                    pointer: self.pointer,
-                    mask: mem::replace(&mut self.mask, Mask::new()),
-                });
-            }
+            CommandKind::Select => self.answer_select(answer),
             CommandKind::Nak => *answer = Ok(Command::Nak),
             CommandKind::ReqRn => {
                 *answer = Ok(Command::ReqRn { rn: self.rn });
@@ -260,14 +252,7 @@ impl Fields {
                     rn: self.rn,
                 });
             }
-            CommandKind::BlockWrite => {
-                *answer = Ok(Command::BlockWrite {
-                    bank: self.bank,
-                    pointer: self.pointer,
-                    words: mem::replace(&mut self.words, BlockWords::first(0)),
-                    rn: self.rn,
-                });
-            }
+            CommandKind::BlockWrite => self.answer_block_write(answer),
             CommandKind::BlockErase => {
                 *answer = Ok(Command::BlockErase {
                     bank: self.bank,
@@ -277,6 +262,35 @@ impl Fields {
                 });
             }
         }
+    }
+
+    /// Answers with the Select whose fields were all read, and takes the mask out of them. It is a function of its
+    /// own, so that no other command sets up the list that takes the mask's place.
+    #[inline(never)]
+    fn answer_select(&mut self, answer: &mut Result<Command, CommandRefusal>)
+        ensures { answer.new ≡ Ok (command_of kinds.Select self.old) }
+    {
+        *answer = Ok(Command::Select {
+            target: self.select_target,
+            action: self.action,
+            bank: self.mask_bank,
+            pointer: self.pointer,
+            mask: mem::replace(&mut self.mask, Mask::new()),
+        });
+    }
+
+    /// Answers with the BlockWrite whose fields were all read, and takes the words out of them, as `answer_select`
+    /// does with a mask.
+    #[inline(never)]
+    fn answer_block_write(&mut self, answer: &mut Result<Command, CommandRefusal>)
+        ensures { answer.new ≡ Ok (command_of kinds.BlockWrite self.old) }
+    {
+        *answer = Ok(Command::BlockWrite {
+            bank: self.bank,
+            pointer: self.pointer,
+            words: mem::replace(&mut self.words, BlockWords::first(0)),
+            rn: self.rn,
+        });
     }
 }
 

@@ -1,5 +1,5 @@
 //! The commands of an inventory round, read.
-ghost use Rattle.std.specs.Prelude.{◌≡◌, ◌≢◌, ◌≤◌, ℕ, Bool, [], ◌∷◌, IfSome, IfNone};
+ghost use Rattle.std.specs.Prelude.{◌≡◌, ◌≢◌, ◌≤◌, ℕ, Bool, [], ◌∷◌, IsSome, IfSome, IfNone};
 ghost use Rattle.std.specs.Fmt.{decimal};
 ghost use Rattle.text_fields.specs.Hexadecimal.{hex_word};
 ghost use Rattle.text_fields.specs.NamedFields.{AreFilled};
@@ -15,31 +15,28 @@ use text_fields::{
 
 /// The session that the one field behind a name spells.
 pub(crate) fn read_session(fields: Fields) -> Option<Session>
-    requires { AreFilled 1 fields }
     ensures value { IfSome result (λ session. (fields.entry ≡ decimal session ∷ []) × (session ≤ 3)) }
-    ensures none { IfNone result ((session : ℕ) → session ≤ 3 → fields.entry ≢ decimal session ∷ []) }
+    ensures none { IfNone result (AreFilled 1 fields.entry → (session : ℕ) → session ≤ 3 → fields.entry ≢ decimal session ∷ []) }
 {
     session_of(one_field(fields)?)
 }
 
 /// The word that the one field behind a name spells.
 pub(crate) fn read_word(fields: Fields) -> Option<u16>
-    requires { AreFilled 1 fields }
     ensures value { IfSome result (λ rn. fields.entry ≡ hex_word rn ∷ []) }
-    ensures none { IfNone result ((rn : ℕ) → IsWord rn → fields.entry ≢ hex_word rn ∷ []) }
+    ensures none { IfNone result (AreFilled 1 fields.entry → (rn : ℕ) → IsWord rn → fields.entry ≢ hex_word rn ∷ []) }
 {
     word(one_field(fields)?)
 }
 
-/// The Query that the fields behind `query` spell (6.3.2.11.2.1 Query).
-pub(crate) fn read_query(fields: Fields) -> Option<Command>
-    requires { AreFilled 7 fields }
-    ensures value { IfSome result (IsCommandBehind CommandKind.Query fields.entry) }
-    ensures none { IfNone result ((dr : Bool) (code : Code) (trext : Bool) (sel : Sel) (session : ℕ) (target : Side) (q : ℕ)
+/// Puts in place of another command the Query that the fields behind `query` spell (6.3.2.11.2.1 Query).
+pub(crate) fn read_query_to(fields: Fields, command: &mut Command) -> Option<()>
+    ensures value { IsSome result → IsCommandBehind CommandKind.Query fields.entry command.new }
+    ensures none { IfNone result (AreFilled 7 fields.entry → (dr : Bool) (code : Code) (trext : Bool) (sel : Sel) (session : ℕ) (target : Side) (q : ℕ)
         → session ≤ 3 → q ≤ 15 → fields.entry ≢ other_command_fields (Command.Query dr code trext sel session target q)) }
 {
     let (dr, code, trext, sel, session, target, q) = seven_fields(fields)?;
-    Some(Command::Query {
+    *command = Command::Query {
         dr: one_bit(dr)?,
         code: code_named(code)?,
         trext: one_bit(trext)?,
@@ -47,19 +44,20 @@ pub(crate) fn read_query(fields: Fields) -> Option<Command>
         session: session_of(session)?,
         target: side_named(target)?,
         q: q_of(q)?,
-    })
+    };
+    Some(())
 }
 
-/// The QueryAdjust that the fields behind `queryadjust` spell (6.3.2.11.2.2 QueryAdjust).
-pub(crate) fn read_query_adjust(fields: Fields) -> Option<Command>
-    requires { AreFilled 2 fields }
-    ensures value { IfSome result (IsCommandBehind CommandKind.QueryAdjust fields.entry) }
-    ensures none { IfNone result ((session : ℕ) (updn : UpDn) → session ≤ 3
+/// Puts in place of another command the QueryAdjust that the fields behind `queryadjust` spell (6.3.2.11.2.2 QueryAdjust).
+pub(crate) fn read_query_adjust_to(fields: Fields, command: &mut Command) -> Option<()>
+    ensures value { IsSome result → IsCommandBehind CommandKind.QueryAdjust fields.entry command.new }
+    ensures none { IfNone result (AreFilled 2 fields.entry → (session : ℕ) (updn : UpDn) → session ≤ 3
         → fields.entry ≢ other_command_fields (Command.QueryAdjust session updn)) }
 {
     let (session, updn) = two_fields(fields)?;
-    Some(Command::QueryAdjust {
+    *command = Command::QueryAdjust {
         session: session_of(session)?,
         updn: updn_named(updn)?,
-    })
+    };
+    Some(())
 }

@@ -20,6 +20,7 @@ use Rattle.q_round.specs.SpecValue.{SpecValue, IsLegalSpec}
 use Rattle.q_round.specs.Rounds.{Turn, query, adjust, rep, quiet, limit, ends, turn_of, is_over, AreOutcomes, slots_of, answer_of, next_command}
 use Rattle.q_round.specs.laws.SlotLaws.{slots-underway, slots-over}
 use Rattle.q_round.specs.declared.frame.Outcome.{Outcome}
+use Rattle.q_round.specs.declared.frame.Outcome.TheVariants.{Whole}
 use Rattle.q_round.specs.declared.round.Next.{Next}
 use Rattle.q_round.specs.declared.round.Next.TheVariants as nexts
 use Rattle.q_round.specs.declared.round.RoundEnd.{RoundEnd}
@@ -113,20 +114,28 @@ pub listing-holds : (Holds : List Item → Type 0) (at : SlotOfRun) (operations 
 listing-holds Holds at operations rn reception past holds whole =
     begun-holds (λ dialogue. Holds (past_behind_dialogue at.start at.round at.slot 1 dialogue past)) operations rn reception holds whole
 
--- What holds where no RN16 came, and behind each ACK with what follows it, holds behind the rest of a slot whose slot command
--- brought this.
+-- What holds of the outcome of a slot and the past where no RN16 came, and behind each ACK with what follows it, holds behind the
+-- rest of a slot whose slot command brought this.
+pub outcome-cases : (Holds : Outcome → List Item → Type 0) (at : SlotOfRun) (operations : OpList) (reception : Reception) (past : List Item)
+    → (rn_of reception ≡ None → Holds (outcome_of reception) past)
+    → ((rn : ℕ) → reception ≡ whole_reply (replies.Rn16 rn) → Holds Whole (past_behind_ack at.start operations at.round at.slot rn past))
+    → Holds (outcome_of reception) (past_behind_answer at.start operations at.round at.slot reception past)
+outcome-cases Holds at operations no_stream past none whole = none refl
+outcome-cases Holds at operations no_such_reply past none whole = none refl
+outcome-cases Holds at operations (whole_reply (replies.Rn16 rn)) past none whole = whole rn refl
+outcome-cases Holds at operations (whole_reply (replies.Epc pc epc)) past none whole = none refl
+outcome-cases Holds at operations (whole_reply (replies.Handle rn)) past none whole = none refl
+outcome-cases Holds at operations (whole_reply (replies.Words words)) past none whole = none refl
+outcome-cases Holds at operations (whole_reply replies.Header) past none whole = none refl
+outcome-cases Holds at operations (whole_reply (replies.Error code)) past none whole = none refl
+
+-- ... also what says nothing of the outcome
 pub answer-cases : (Holds : List Item → Type 0) (at : SlotOfRun) (operations : OpList) (reception : Reception) (past : List Item)
     → (rn_of reception ≡ None → Holds past)
     → ((rn : ℕ) → reception ≡ whole_reply (replies.Rn16 rn) → Holds (past_behind_ack at.start operations at.round at.slot rn past))
     → Holds (past_behind_answer at.start operations at.round at.slot reception past)
-answer-cases Holds at operations no_stream past none whole = none refl
-answer-cases Holds at operations no_such_reply past none whole = none refl
-answer-cases Holds at operations (whole_reply (replies.Rn16 rn)) past none whole = whole rn refl
-answer-cases Holds at operations (whole_reply (replies.Epc pc epc)) past none whole = none refl
-answer-cases Holds at operations (whole_reply (replies.Handle rn)) past none whole = none refl
-answer-cases Holds at operations (whole_reply (replies.Words words)) past none whole = none refl
-answer-cases Holds at operations (whole_reply replies.Header) past none whole = none refl
-answer-cases Holds at operations (whole_reply (replies.Error code)) past none whole = none refl
+answer-cases Holds at operations reception past none whole =
+    outcome-cases (λ outcome now. Holds now) at operations reception past none whole
 
 -- ... also of what holds behind the slot command whatever came
 pub answer-holds : (Holds : List Item → Type 0) (at : SlotOfRun) (operations : OpList) (reception : Reception) (past : List Item) → Holds past

@@ -45,7 +45,7 @@ impl TagWithHandle {
         ensures { GivesOutcome (kill_whole self.level password self.held self.body) result out.old out.new }
     {
         let TagWithHandle { level, held, body } = self;
-        let own = body.memory.kill_word();
+        let own = body.parts.memory.kill_word();
         let handle = held.handle;
         if own == 0 {
             let held = Held { half: None, ..held };
@@ -72,7 +72,7 @@ impl TagWithHandle {
             held,
             body,
         } = self;
-        if body.memory.access_word() != password {
+        if body.parts.memory.access_word() != password {
             return body.go_back(held.session, held.q, out);
         }
         let handle = held.handle;

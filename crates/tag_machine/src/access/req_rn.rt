@@ -24,7 +24,7 @@ impl Body {
         ensures { GivesOutcome (give_handle session q self) result out.old out.new }
     {
         let mut body = self;
-        let level = if body.memory.access_word() == 0 {
+        let level = if body.parts.memory.access_word() == 0 {
             Level::Secured
         } else {
             Level::Opened

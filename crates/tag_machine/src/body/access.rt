@@ -20,9 +20,10 @@ impl Body {
         ensures few { HasFewWords result }
     {
         let mut words = ReadWords::new();
-        match self
+        let parts = &*self.parts;
+        match parts
             .memory
-            .read(bank, pointer, count, level, &self.locks, &mut words)
+            .read(bank, pointer, count, level, &parts.locks, &mut words)
         {
             Ok(()) => Reply::Words(words),
             Err(code) => Reply::Error(code.code()),
@@ -36,7 +37,8 @@ impl Body {
         ensures sendable { CanBeSent result }
         ensures few { HasFewWords result }
     {
-        match self.memory.write(bank, pointer, word, level, &self.locks) {
+        let parts = &mut *self.parts;
+        match parts.memory.write(bank, pointer, word, level, &parts.locks) {
             Ok(()) => Reply::Header,
             Err(code) => Reply::Error(code.code()),
         }
@@ -55,9 +57,10 @@ impl Body {
         ensures sendable { CanBeSent result }
         ensures few { HasFewWords result }
     {
-        match self
+        let parts = &mut *self.parts;
+        match parts
             .memory
-            .block_write(bank, pointer, words, level, &self.locks)
+            .block_write(bank, pointer, words, level, &parts.locks)
         {
             Ok(()) => Reply::Header,
             Err(code) => Reply::Error(code.code()),
@@ -77,9 +80,10 @@ impl Body {
         ensures sendable { CanBeSent result }
         ensures few { HasFewWords result }
     {
-        match self
+        let parts = &mut *self.parts;
+        match parts
             .memory
-            .block_erase(bank, pointer, count, level, &self.locks)
+            .block_erase(bank, pointer, count, level, &parts.locks)
         {
             Ok(()) => Reply::Header,
             Err(code) => Reply::Error(code.code()),
@@ -93,10 +97,11 @@ impl Body {
         ensures sendable { CanBeSent result }
         ensures few { HasFewWords result }
     {
-        let has_user = self.memory.size(Bank::User) > 0;
-        match self.locks.apply(payload, has_user) {
+        let parts = &mut *self.parts;
+        let has_user = parts.memory.size(Bank::User) > 0;
+        match parts.locks.apply(payload, has_user) {
             Ok(locks) => {
-                self.locks = locks;
+                parts.locks = locks;
                 Reply::Header
             }
             Err(code) => Reply::Error(code.code()),

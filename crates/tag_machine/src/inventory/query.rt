@@ -22,7 +22,7 @@ impl Body {
         requires room { reply_room ≤ out.old.capacity }
         ensures { GivesOutcome (take_part sel session target q self) result out.old out.new }
     {
-        if !self.flags.matches(sel, session, target) {
+        if !self.parts.flags.matches(sel, session, target) {
             let tag = Tag {
                 state: Ready,
                 body: self,
@@ -41,7 +41,7 @@ impl Body {
             return self;
         }
         let mut body = self;
-        body.flags.invert(session);
+        body.parts.flags.invert(session);
         body
     }
 }

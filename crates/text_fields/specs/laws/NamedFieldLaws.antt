@@ -13,11 +13,6 @@ pub record IsVocabulary {K V : Type 0} (words : Vocabulary K V) (IsInRange : V �
   pub told : (one other : K) → words.name one ≡ words.name other → one ≡ other
   pub filled : (value : V) → IsInRange value → AreFilled (words.count (words.kind value)) (words.others value)
 
--- a first field that is no name
-pub no_name : {K V : Type 0} (words : Vocabulary K V) (fields : List (List ℕ)) (first : List ℕ) (others : List (List ℕ)) → fields ≡ first ∷ others
-    → ((kind : K) → first ≢ words.name kind) → NameNothing words fields
-no_name words fields first others is none = rw is none
-
 -- a first field that is a name, and none
 named_or_none : {K V : Type 0} (words : Vocabulary K V) (fields : List (List ℕ)) (kind : K) (others : List (List ℕ)) → fields ≡ words.name kind ∷ others
     → ¬ NameNothing words fields

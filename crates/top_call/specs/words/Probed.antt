@@ -3,7 +3,7 @@ use Rattle.std.specs.Prelude.{◌≡◌, ℕ, true, List}
 use Rattle.text_fields.specs.FaultLine.{fault_line}
 use Rattle.scenario_lines.specs.declared.tag.TagSpec.{TagSpec}
 use Rattle.probe_lines.specs.declared.fault.Fault.{Fault}
-use Rattle.probe_lines.specs.declared.line.Stimulus.{Stimulus}
+use Rattle.probe_lines.specs.Said.{Stimulus}
 use Rattle.probe_lines.specs.Answers.{Tells, tag_of}
 use Rattle.probe_lines.specs.FaultWords.{fault_word}
 use Rattle.probe_lines.specs.ProbeText.{IsFirstFault, IsProbe, IsProbeText}

@@ -57,6 +57,7 @@ fn write_lines<O: Sink>(alloc: Global, input: &[u8], output: &mut O) -> Result<(
     ensures ok { OnOk result (AddsWhole (Encodes input.now) (O.written output.old) (O.written output.new)) }
     ensures failed { IsErrOf result WriteEnd.Fault → FaultsRose (O.faults output.old) (O.faults output.new) }
     ensures memory { IsErrOf result WriteEnd.OutOfMemory → O.faults output.new ≡ O.faults output.old }
+    ensures steady { OnOk result (O.faults output.new ≡ O.faults output.old) }
     ensures front { OnErr result (AddsFront (Encodes input.now) (O.written output.old) (O.written output.new)) }
 {
     // By this law a line is written for each line that is left, so that there is a whole text.

@@ -71,6 +71,7 @@ fn write_named<O: Sink>(input: &[u8], output: &mut O) -> Result<(), WriteFailed>
     requires { IsOfLines input.now }
     ensures ok { OnOk result (AddsWhole (AddsNames input.now) (O.written output.old) (O.written output.new)) }
     ensures failed { OnErr result (FaultsRose (O.faults output.old) (O.faults output.new)) }
+    ensures steady { OnOk result (O.faults output.new ≡ O.faults output.old) }
     ensures front { OnErr result (AddsFront (AddsNames input.now) (O.written output.old) (O.written output.new)) }
 {
     // By this law each line that is left has a name or has none, so that there is a whole text.
@@ -91,7 +92,7 @@ fn put_named<O: Sink>(line: &[u8], page: &mut Page, output: &mut O) -> Result<()
     ensures failed { OnErr result (FaultsRose (O.faults output.old) (O.faults output.new)) }
     ensures lost { OnErr result ((lines : List (List ℕ)) × BecomesLines line.now lines
         × Loses (page.old ++ text_with lines) (O.written output.old) (O.written output.new)) }
-    ensures count { O.faults output.old ≤ O.faults output.new }
+    ensures steady { OnOk result (O.faults output.new ≡ O.faults output.old) }
 {
     match named(line) {
         Some(sgtin) => {

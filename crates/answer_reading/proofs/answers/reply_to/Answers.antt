@@ -1,4 +1,4 @@
-use Rattle.std.proofs.Common.{◌≡◌, Option, None, Some, subst}
+use Rattle.std.proofs.Common.{Option, subst}
 use Rattle.std.specs.Option.{IsSomeAnd}
 use Rattle.reply_grammar.specs.Table.{AnswersExpected}
 use Rattle.reply_grammar.specs.declared.expected.Expect.{Expect}

@@ -1,10 +1,8 @@
 -- Where the levels are four blocks, the bits read from their halves are those of the blocks.
-use Rattle.std.proofs.Common.{◌≡◌, ◌∙◌, ◌*◌, ◌-◌, ◌++◌, ◌∷◌, [], ℕ, Bool, List, inl, inr, length, take, drop, ap, sym, refl}
+use Rattle.std.proofs.Common.{◌≡◌, ◌∙◌, ◌*◌, ◌-◌, ◌∷◌, [], ℕ, Bool, List, inl, inr, length, take, drop, ap, sym, refl}
 use Rattle.std.proofs.lemmas.Bool.{false≢true}
-use Rattle.line_code.specs.Table.{Context, Table}
+use Rattle.line_code.specs.Table.{Context}
 use Rattle.line_code.specs.Stream.{blocks}
-use Rattle.line_code.specs.States.{context_after}
-use Rattle.line_code.specs.laws.Splits.{blocks-append}
 use Rattle.miller_line.specs.Miller.{miller, IsOneOfThree, start_phase, miller_block, miller_next}
 use Rattle.miller_line.specs.SymbolContext.{context}
 use Rattle.miller_line.proofs.subcarrier.four_bits.Goals as goal
@@ -25,14 +23,8 @@ parts m c first second third fourth levels (inr (inl four)) e =
 parts m c first second third fourth levels (inr (inr eight)) e =
     record { first_is = rw (e, eight) refl; second_is = rw (e, eight) refl; third_is = rw (e, eight) refl; fourth_is = rw (e, eight) refl }
 
--- blocks, and more blocks behind them
-joined : (t : Table) (c : Context) (bits more front back : List Bool)
-    → front ≡ blocks t c bits → back ≡ blocks t (context_after t c bits) more → front ++ back ≡ blocks t c (bits ++ more)
-joined t c bits more front back front_is back_is =
-    ap (λ ls. ls ++ back) front_is ∙ ap (λ ls. blocks t c bits ++ ls) back_is ∙ sym (blocks-append t bits more c)
-
-pub returns-else-are_both-clause-none : goal.returns-else-are_both-clause-none
-returns-else-are_both-clause-none c = λ first second third fourth e.
+pub returns-else-is_block-clause-none : goal.returns-else-is_block-clause-none
+returns-else-is_block-clause-none c = λ first second third fourth e.
     let m = c.args.m in
     let start = context c.args.before in
     let one = c.bit_of_symbol-first.result in
@@ -53,9 +45,4 @@ returns-else-are_both-clause-none c = λ first second third fourth e.
     ∙ ap (λ b. blocks (miller m) start (one ∷ b ∷ third ∷ fourth ∷ [])) (sym two_is)
     ∙ ap (λ b. blocks (miller m) start (one ∷ two ∷ b ∷ fourth ∷ [])) (sym three_is)
     ∙ ap (λ b. blocks (miller m) start (one ∷ two ∷ three ∷ b ∷ [])) (sym four_is) in
-    let middle_is = c.after-middle.ensures ∙ ap (λ k. miller_next k two) c.after.ensures in
-    let front : List Bool = one ∷ two ∷ [] in
-    let rest : List Bool = three ∷ four ∷ [] in
-    let rest_is = c.two_blocks-2.ensures ∙ ap (λ k. blocks (miller m) k rest) middle_is in
-    let same = all ∙ sym (joined (miller m) start front rest c.two_blocks.result.now c.two_blocks-2.result.now c.two_blocks.ensures rest_is) in
-    false≢true (c.if-are_both.ensures.1 same)
+    false≢true (c.if-is_block.ensures.1 (all ∙ sym c.four_blocks.ensures.levels))

@@ -1,10 +1,17 @@
 -- The decoder is given an interval more, and goes over the data symbols behind it.
-use Rattle.std.proofs.Common.{◌≡◌, ◌∙◌, ◌-◌, ◌≤◌, ◌∷◌, ◌++◌, [], length, take, drop, refl, arith, length-append}
+use Rattle.std.proofs.Common.{rules, ◌≡◌, ◌∙◌, ◌-◌, ◌≤◌, ◌∷◌, ◌++◌, [], length, take, drop, refl, arith, length-append}
 use Rattle.pie_line.specs.Pie.{longest_interval}
 use Rattle.pie_line.specs.laws.IntervalsLeft.{left_all}
+use Rattle.pie_line.proofs.GoneOver.{room_for_left, count_of_left}
 use Rattle.pie_line.proofs.Decoding.{IsDecoding, given_more, gone_over, walk_refused, walk_ended, all_taken}
 use Rattle.pie_line.proofs.decoder.decode_intervals.Goals as goal
 use Rattle.pie_line.proofs.decoder.decode_intervals.Goals.{in-More, in-Bit}
+
+pub take_symbols-left-requires-clause-room : goal.take_symbols-left-requires-clause-room
+take_symbols-left-requires-clause-room c = room_for_left _ _ _ _ c.args.intervals.now _ _ c.take_frame_sync-behind_sync.ensures.taken (search rules)
+
+pub take_symbols-left-requires-clause-count : goal.take_symbols-left-requires-clause-count
+take_symbols-left-requires-clause-count c = count_of_left _ _ _ _ c.args.intervals.now _ _ c.take_frame_sync-behind_sync.ensures.taken (search rules)
 
 pub returns-in-Refused-clause-refused : goal.returns-in-Refused-clause-refused
 returns-in-Refused-clause-refused c =

@@ -1,13 +1,17 @@
-use Rattle.std.proofs.Common.{arith, refl, ◌∙◌}
+use Rattle.std.proofs.Common.{arith, ◌+◌, refl, ◌∙◌}
+use Rattle.std.specs.String.{string_bytes}
 use Rattle.tag_machine.specs.Hearing.{tag_value_of}
+use Rattle.report_lines.specs.declared.mode.PlayFault.TheVariants.{OutOfMemory}
+use Rattle.probe_lines.specs.Said.{stimulus_with}
 use Rattle.probe_lines.specs.Played.{HasPlayed}
-use Rattle.probe_lines.proofs.PlayedParts.{Beginning, Next, Place, handed_on, last_told, none_played, one_played, stop_played}
+use Rattle.probe_lines.proofs.PlayedParts.{Beginning, Next, Place, all_told, handed_on, last_told, no_memory, none_played, one_played, some_sent, stop_played}
 use Rattle.probe_lines.proofs.playing.play_on.Goals as goal
 
 pub loop-stimulus-init : goal.loop-stimulus-init
 loop-stimulus-init g c = record {
   played = λ said are.
-      none_played (record { first = tag_value_of c.args.first; said = said; written = g.O.Sink.written c.args.out.now; faults = g.O.Sink.faults c.args.out.now }) c.args.stimuli are.say;
+      none_played (record { first = tag_value_of c.args.first; said = said; written = g.O.Sink.written c.args.out.now; faults = g.O.Sink.faults c.args.out.now }) c.args.stimuli
+      (string_bytes c.args.rooms.now.text) are.say c.requires.nothing;
   steady = refl;
 }
 
@@ -15,13 +19,41 @@ pub returns-in_err-tag : goal.returns-in_err-tag
 returns-in_err-tag g c = λ said are.
     let begun : Beginning =
     record { first = tag_value_of c.args.first; said = said; written = g.O.Sink.written c.args.out.now; faults = g.O.Sink.faults c.args.out.now } in
-    let from : Place =
-    record { number = c.loop-stimulus.number; tag = tag_value_of c.loop-stimulus.tag; left = c.loop-stimulus.left; written = g.O.Sink.written c.loop-stimulus.out } in
+    let from : Place = record {
+      number = c.loop-stimulus.number;
+      tag = tag_value_of c.loop-stimulus.tag;
+      left = c.loop-stimulus.left;
+      waiting = string_bytes c.loop-stimulus.rooms.text;
+      written = g.O.Sink.written c.loop-stimulus.out;
+    } in
+    let so_far = c.loop-stimulus.invariant.played said are in
+    handed_on c.from_residual.result OutOfMemory (HasPlayed begun.first said begun.written _ begun.faults _) c.from_residual.ensures.1
+    (stop_played c.stimuli_have_one_effect.ensures.some begun from from.written _ OutOfMemory so_far
+    (no_memory from.waiting from.written begun.faults _ c.loop-stimulus.invariant.steady))
+
+pub returns-in_err-write_page : goal.returns-in_err-write_page
+returns-in_err-write_page g c = λ said are.
+    let begun : Beginning =
+    record { first = tag_value_of c.args.first; said = said; written = g.O.Sink.written c.args.out.now; faults = g.O.Sink.faults c.args.out.now } in
+    let from : Place = record {
+      number = c.loop-stimulus.number;
+      tag = tag_value_of c.loop-stimulus.tag;
+      left = c.loop-stimulus.left;
+      waiting = string_bytes c.loop-stimulus.rooms.text;
+      written = g.O.Sink.written c.loop-stimulus.out;
+    } in
     let so_far = c.loop-stimulus.invariant.played said are in
     let some = c.in-Some.ensures.some.1 so_far.left so_far.say in
-    let next : Next so_far.left = record { stimulus = c.in-Some.stimulus; behind = c.next.new.self; others = some.0; is = some.1; say = some.2 } in
-    handed_on c.from_residual.result c.in_err-tag.field-0.0 (HasPlayed begun.first said begun.written _ begun.faults _) c.from_residual.ensures.1
-    (stop_played c.stimuli_have_one_effect.ensures.some begun from _ _ c.in_err-tag.field-0.0 so_far next (rw c.loop-stimulus.invariant.steady at c.in_err-tag.ensures.failed))
+    let next : Next so_far.left =
+    record { stimulus = stimulus_with c.in-Some.stimulus c.next_to.new.command; behind = c.next_to.new.self; others = some.0; is = some.1; say = some.2 } in
+    let waiting = string_bytes c.play_next.new.self.text in
+    let played = one_played begun from (tag_value_of c.in_ok-tag.tag) waiting so_far next c.in_ok-tag.ensures in
+    let behind : Place =
+    record { number = from.number + 1; tag = tag_value_of c.in_ok-tag.tag; left = next.behind; waiting = waiting; written = from.written } in
+    let cause = c.from_residual-in_err-write_page in
+    handed_on cause.result c.in_err-write_page.field-0.0 (HasPlayed begun.first said begun.written _ begun.faults _) cause.ensures.1
+    (stop_played c.stimuli_have_one_effect.ensures.some begun behind _ _ c.in_err-write_page.field-0.0 played
+    (rw c.loop-stimulus.invariant.steady at c.in_err-write_page.ensures.failed))
 
 pub overflow_add-number : goal.overflow_add-number
 overflow_add-number g c =
@@ -34,21 +66,53 @@ loop-stimulus-preserved g c = record {
   played = λ said are.
       let begun : Beginning =
       record { first = tag_value_of c.args.first; said = said; written = g.O.Sink.written c.args.out.now; faults = g.O.Sink.faults c.args.out.now } in
-      let from : Place =
-      record { number = c.loop-stimulus.number; tag = tag_value_of c.loop-stimulus.tag; left = c.loop-stimulus.left; written = g.O.Sink.written c.loop-stimulus.out } in
+      let from : Place = record {
+        number = c.loop-stimulus.number;
+        tag = tag_value_of c.loop-stimulus.tag;
+        left = c.loop-stimulus.left;
+        waiting = string_bytes c.loop-stimulus.rooms.text;
+        written = g.O.Sink.written c.loop-stimulus.out;
+      } in
       let so_far = c.loop-stimulus.invariant.played said are in
       let some = c.in-Some.ensures.some.1 so_far.left so_far.say in
-      let next : Next so_far.left = record { stimulus = c.in-Some.stimulus; behind = c.next.new.self; others = some.0; is = some.1; say = some.2 } in
-      one_played begun from (tag_value_of c.in_ok-tag.tag) _ so_far next c.in_ok-tag.ensures.ok;
-  steady = c.in_ok-tag.ensures.steady ∙ c.loop-stimulus.invariant.steady;
+      let next : Next so_far.left =
+      record { stimulus = stimulus_with c.in-Some.stimulus c.next_to.new.command; behind = c.next_to.new.self; others = some.0; is = some.1; say = some.2 } in
+      let waiting = string_bytes c.play_next.new.self.text in
+      let played = one_played begun from (tag_value_of c.in_ok-tag.tag) waiting so_far next c.in_ok-tag.ensures in
+      let behind : Place =
+      record { number = from.number + 1; tag = tag_value_of c.in_ok-tag.tag; left = next.behind; waiting = waiting; written = from.written } in
+      some_sent begun behind _ _ played c.in_ok-write_page.ensures.sent;
+  steady = c.in_ok-write_page.ensures.steady ∙ c.loop-stimulus.invariant.steady;
 }
+
+pub returns-in_err-tell_tag : goal.returns-in_err-tell_tag
+returns-in_err-tell_tag g c = λ said are.
+    let begun : Beginning =
+    record { first = tag_value_of c.args.first; said = said; written = g.O.Sink.written c.args.out.now; faults = g.O.Sink.faults c.args.out.now } in
+    let from : Place = record {
+      number = c.loop-stimulus.number;
+      tag = tag_value_of c.loop-stimulus.tag;
+      left = c.loop-stimulus.left;
+      waiting = string_bytes c.loop-stimulus.rooms.text;
+      written = g.O.Sink.written c.loop-stimulus.out;
+    } in
+    let so_far = c.loop-stimulus.invariant.played said are in
+    handed_on c.from_residual-in_err-tell_tag.result OutOfMemory (HasPlayed begun.first said begun.written _ begun.faults _) c.from_residual-in_err-tell_tag.ensures.1
+    (stop_played c.stimuli_have_one_effect.ensures.some begun from from.written _ OutOfMemory so_far
+    (no_memory from.waiting from.written begun.faults _ c.loop-stimulus.invariant.steady))
 
 pub returns : goal.returns
 returns g c = λ said are.
     let begun : Beginning =
     record { first = tag_value_of c.args.first; said = said; written = g.O.Sink.written c.args.out.now; faults = g.O.Sink.faults c.args.out.now } in
-    let from : Place =
-    record { number = c.loop-stimulus.number; tag = tag_value_of c.loop-stimulus.tag; left = c.loop-stimulus.left; written = g.O.Sink.written c.loop-stimulus.out } in
+    let from : Place = record {
+      number = c.loop-stimulus.number;
+      tag = tag_value_of c.loop-stimulus.tag;
+      left = c.loop-stimulus.left;
+      waiting = string_bytes c.loop-stimulus.rooms.text;
+      written = g.O.Sink.written c.loop-stimulus.out;
+    } in
     let so_far = c.loop-stimulus.invariant.played said are in
-    last_told c.tell_tag.result begun from _ _ so_far (c.in_default.ensures.none so_far.left so_far.say) c.tell_tag.ensures.ok
-    (rw c.loop-stimulus.invariant.steady at c.tell_tag.ensures.failed)
+    let told = all_told begun from _ so_far (c.in_default.ensures.none so_far.left so_far.say) c.in_ok-tell_tag.ensures in
+    last_told c.flush.result begun (record from { waiting = _ }) _ _ told c.flush.ensures.sent (rw c.loop-stimulus.invariant.steady at c.flush.ensures.steady)
+    (rw c.loop-stimulus.invariant.steady at c.flush.ensures.failed)

@@ -6,7 +6,7 @@ use Rattle.air_model.specs.laws.ReceptionLaws.{silent_reception}
 use Rattle.air_model.specs.declared.got.Got.TheVariants.{Silence}
 use Rattle.air_world.proofs.Passing.{listening, passes-then}
 use Rattle.air_world.proofs.Slots.{asked-reception, run-kept, room-behind, ack-with, ack-without, stands-unlisted, stands-listed, stands-same, stands-then, whole-listed, other-unlisted}
-use Rattle.air_world.specs.Heard.{pair_received}
+use Rattle.reply_wire.specs.Heard.{pair_received}
 use Rattle.air_world.specs.Playing.{IsAt, StandsAt}
 use Rattle.air_world.specs.Telling.{Passes, lines_behind}
 use Rattle.runs.specs.Report.{exchange_lines}

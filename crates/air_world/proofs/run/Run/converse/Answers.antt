@@ -1,4 +1,5 @@
-use Rattle.std.proofs.Common.{◌≡◌, sym, subst, ◌∙◌}
+use Rattle.std.proofs.Common.{◌≡◌, ap, sym, subst, ◌∙◌}
+use Rattle.access_ops.specs.Operations.{reception_in}
 use Rattle.air_model.specs.laws.AwaitedLaws.{silent_awaited}
 use Rattle.air_model.specs.Channel.{Given, IsReadBy, got_of}
 use Rattle.tag_machine.specs.Exchange.{AreLegalTags, replies_in}
@@ -22,7 +23,9 @@ returns-in-Stream-clause-plays g c = λ start past round slot plays.
     subst (λ (run : RunValue). IsAt start (past_behind_command start round slot c.args.command.now past) c.send.new.air run) (sym c.hear.ensures.same) (c.send.ensures.plays start past round slot plays)
 
 pub returns-in-Stream-clause-expected : goal.returns-in-Stream-clause-expected
-returns-in-Stream-clause-expected g c = received-answer _ _ c.args.expect.now _ c.hear.result c.hear.ensures.received
+returns-in-Stream-clause-expected g c =
+    let heard = c.hear.ensures.received in
+    rw (heard.1) (received-answer _ _ c.args.expect.now _ heard.0 heard.2)
 
 pub returns-in-Stream-clause-heard : goal.returns-in-Stream-clause-heard
 returns-in-Stream-clause-heard g c = λ start past round slot plays.
@@ -35,13 +38,14 @@ returns-in-Stream-clause-heard g c = λ start past round slot plays.
     start c.args.command.now c.args.expect.now c.args.extended (next_entry start past) (tags_behind start past) c.requires.expects legal in
     let read : IsReadBy start.link given =
     given_is_read start.link (replies_in c.args.command.now (next_entry start past) (tags_behind start past)) (next_entry start past).choice start.several in
-    heard-awaited start.link given c.args.expect.now c.args.extended
+    let heard = c.hear.ensures.received in
+    ap reception_in heard.1 ∙ heard-awaited start.link given c.args.expect.now c.args.extended
     (record {
       air = c.send.new.air;
-      received = c.hear.result;
+      received = heard.0;
       link_is = link;
       stream = c.send.ensures.stream start past round slot plays;
       came = came;
-      heard = c.hear.ensures.received;
+      heard = heard.2;
     })
     unmistakable read

@@ -1,4 +1,6 @@
-use Rattle.std.proofs.Common.{List, [], ◌∷◌, ◌++◌, ◌∙◌, sym, arith}
+use Rattle.std.proofs.Common.{List, [], ◌∷◌, ◌++◌, ◌+◌, ◌≤◌, ◌∙◌, sym, subst, arith}
+use Rattle.access_ops.specs.OpRunValue.{IsNextOperation, turns_in, turns_left}
+use Rattle.access_ops.specs.declared.op_next.OpNext.{OpNext}
 use Rattle.air_model.specs.Past.{Record, next_record}
 use Rattle.air_world.proofs.Operating.{Asked, operations-begin, operations-sent, operations-told, operations-end, operation-unlisted, stands-operated, sends-next, sent-expects, sent-one}
 use Rattle.air_world.proofs.Passing.{listening, passes-nothing, passes-then}
@@ -19,7 +21,7 @@ pub converse-requires-clause-underway : goal.converse-requires-clause-underway
 converse-requires-clause-underway g c =
     let r = c.requires.underway in
     let u = c.moves.invariant r.start r.past r.at in
-    let next = c.in-Send.ensures.next c.args.epc.now c.args.rn u.are.moves u.are.goes (c.as_ref.ensures.value ∙ u.are.last) in
+    let next = subst (λ (n : OpNext). IsNextOperation n c.next_to.new.self c.args.operations.now c.args.epc.now c.args.rn u.are.moves) c.in-Send.is (c.next_to.ensures.next c.args.epc.now c.args.rn u.are.moves u.are.goes (c.given.ensures ∙ u.are.last)) in
     let asked : Asked = record { command = c.in-Send.command; expect = c.in-Send.expect; extended = c.in-Send.extended } in
     let sent = sends-next (record { at = record { start = r.start; round = c.args.round; slot = c.args.slot }; list = c.args.operations.now; epc = c.args.epc.now; rn = c.args.rn; before = r.past })
     u.are.moves asked _ next in
@@ -30,7 +32,7 @@ pub converse-requires-clause-expects : goal.converse-requires-clause-expects
 converse-requires-clause-expects g c =
     let r = c.requires.underway in
     let u = c.moves.invariant r.start r.past r.at in
-    let next = c.in-Send.ensures.next c.args.epc.now c.args.rn u.are.moves u.are.goes (c.as_ref.ensures.value ∙ u.are.last) in
+    let next = subst (λ (n : OpNext). IsNextOperation n c.next_to.new.self c.args.operations.now c.args.epc.now c.args.rn u.are.moves) c.in-Send.is (c.next_to.ensures.next c.args.epc.now c.args.rn u.are.moves u.are.goes (c.given.ensures ∙ u.are.last)) in
     let asked : Asked = record { command = c.in-Send.command; expect = c.in-Send.expect; extended = c.in-Send.extended } in
     let sent = sends-next (record { at = record { start = r.start; round = c.args.round; slot = c.args.slot }; list = c.args.operations.now; epc = c.args.epc.now; rn = c.args.rn; before = r.past })
     u.are.moves asked _ next in
@@ -39,7 +41,7 @@ converse-requires-clause-expects g c =
 pub moves-preserved-in-Send : goal.moves-preserved-in-Send
 moves-preserved-in-Send g c = λ start past at.
     let u = c.moves.invariant start past at in
-    let next = c.in-Send.ensures.next c.args.epc.now c.args.rn u.are.moves u.are.goes (c.as_ref.ensures.value ∙ u.are.last) in
+    let next = subst (λ (n : OpNext). IsNextOperation n c.next_to.new.self c.args.operations.now c.args.epc.now c.args.rn u.are.moves) c.in-Send.is (c.next_to.ensures.next c.args.epc.now c.args.rn u.are.moves u.are.goes (c.given.ensures ∙ u.are.last)) in
     let asked : Asked = record { command = c.in-Send.command; expect = c.in-Send.expect; extended = c.in-Send.extended } in
     let sent = sends-next (record { at = record { start = start; round = c.args.round; slot = c.args.slot }; list = c.args.operations.now; epc = c.args.epc.now; rn = c.args.rn; before = past })
     u.are.moves asked _ next in
@@ -54,8 +56,8 @@ moves-preserved-in-Send g c = λ start past at.
           (c.converse.ensures.plays start u.past c.args.round c.args.slot u.stands.at) told
           (operation-unlisted made c.in-Send.expect c.in-Send.extended expects);
       are = operations-sent _ _ u.past u.are asked
-          (record { answer = c.converse.result; expected = c.converse.ensures.expected; heard = c.converse.ensures.heard start u.past c.args.round c.args.slot u.stands.at })
-          c.next.new.self next c.in-Send.ensures.turns;
+          (record { answer = c.converse.new.answer; expected = c.converse.ensures.expected; heard = c.converse.ensures.heard start u.past c.args.round c.args.slot u.stands.at })
+          c.next_to.new.self next (subst (λ (n : OpNext). turns_left c.args.operations.now c.next_to.new.self + turns_in n ≤ turns_left c.args.operations.now c.moves.run) c.in-Send.is c.next_to.ensures.turns);
     }
 
 pub overflow_add-index : goal.overflow_add-index
@@ -67,7 +69,7 @@ overflow_add-index g c =
 pub moves-preserved : goal.moves-preserved
 moves-preserved g c = λ start past at.
     let u = c.moves.invariant start past at in
-    let next = c.in-Result.ensures.next c.args.epc.now c.args.rn u.are.moves u.are.goes (c.as_ref.ensures.value ∙ u.are.last) in
+    let next = subst (λ (n : OpNext). IsNextOperation n c.next_to.new.self c.args.operations.now c.args.epc.now c.args.rn u.are.moves) c.in-Result.is (c.next_to.ensures.next c.args.epc.now c.args.rn u.are.moves u.are.goes (c.given.ensures ∙ u.are.last)) in
     let lines : List ReportLine = lines_behind start u.past in
     let told = passes-then (listening g.R.Listener.hears g.R.Listener.failed _ _) _ (lines_behind start past) lines (lines ++ OpLine c.args.round c.args.slot c.moves.index c.in-Result.ended ∷ [])
     u.stands.told (c.tell_result.ensures lines) in
@@ -75,11 +77,11 @@ moves-preserved g c = λ start past at.
       past = _;
       stands = stands-operated (Passes g.R.Listener.hears (lines_behind start past) c.args.report.now c.tell_result.new.report) (record { start = start; past = u.past; air = _; run = _ })
           c.args.round c.args.slot c.moves.index c.in-Result.ended (record { at = u.stands.at; told = told });
-      are = operations-told _ _ u.past u.are c.next.new.self c.in-Result.ended next c.in-Result.ensures.turns;
+      are = operations-told _ _ u.past u.are c.next_to.new.self c.in-Result.ended next (subst (λ (n : OpNext). turns_left c.args.operations.now c.next_to.new.self + turns_in n ≤ turns_left c.args.operations.now c.moves.run) c.in-Result.is c.next_to.ensures.turns);
     }
 
 pub returns-in-End : goal.returns-in-End
 returns-in-End g c = λ start past at.
     let u = c.moves.invariant start past at in
-    let next = c.in-End.ensures.next c.args.epc.now c.args.rn u.are.moves u.are.goes (c.as_ref.ensures.value ∙ u.are.last) in
-    stands-same _ start _ _ _ _ (sym (operations-end _ _ u.past u.are c.next.new.self next)) u.stands
+    let next = subst (λ (n : OpNext). IsNextOperation n c.next_to.new.self c.args.operations.now c.args.epc.now c.args.rn u.are.moves) c.in-End.is (c.next_to.ensures.next c.args.epc.now c.args.rn u.are.moves u.are.goes (c.given.ensures ∙ u.are.last)) in
+    stands-same _ start _ _ _ _ (sym (operations-end _ _ u.past u.are c.next_to.new.self next)) u.stands

@@ -1,4 +1,5 @@
-use Rattle.std.proofs.Common.{List}
+use Rattle.std.proofs.Common.{List, None, Some}
+use Rattle.std.specs.Prelude.{if◌then◌else◌}
 use Rattle.access_ops.specs.OpRunValue.{turns_left}
 use Rattle.air_model.specs.Past.{Start, Item}
 use Rattle.air_world.proofs.Operating.{OperationsUnderway}
@@ -11,7 +12,7 @@ invariant-moves g l =
     (start : Start) (past : List Item) → IsAt start past l.fn.air l.fn.self
     → OperationsUnderway (Passes g.R.Listener.hears (lines_behind start past) l.fn.report l.report)
     (record { at = record { start = start; round = l.round; slot = l.slot }; list = l.operations; epc = l.epc; rn = l.rn; before = past })
-    (record { run = l.run; answer = l.answer; index = l.index }) l.air l.self
+    (record { run = l.run; answer = if l.is_answered then Some l.answer else None; index = l.index }) l.air l.self
 
 abbrev pub decreases-moves : goal.decreases-moves
 decreases-moves g l = turns_left l.operations l.run

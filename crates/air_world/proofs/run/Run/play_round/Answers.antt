@@ -1,14 +1,15 @@
+use Rattle.std.specs.Prelude.{Option, Some}
 use Rattle.std.proofs.Common.{◌+◌, [], ◌∷◌, sym, ◌∙◌, ap, subst}
 use Rattle.air_world.proofs.Passing.{listening, cut-behind, cut-past, ends-cut, passes-nothing, passes-then}
-use Rattle.air_world.proofs.Rounds.{round-begins, slot_played, slot-leads, slot-number, round-goes-on, round-left, ended-slots, stands-ended, rounds-slot}
+use Rattle.air_world.proofs.Rounds.{round-begins, slot_played, slot-leads, slot-number, round-goes-on, round-ends, ended-slots, stands-ended, rounds-slot}
 use Rattle.air_world.proofs.Slots.{stands-same, stands-then}
 use Rattle.air_world.specs.Playing.{RunValue}
 use Rattle.air_world.specs.Telling.{lines_behind}
 use Rattle.q_round.specs.Rounds.{next_command}
+use Rattle.q_round.specs.NextAnswer.{next_of}
 use Rattle.q_round.specs.RoundValue.{IsNextAnswer}
-use Rattle.q_round.specs.declared.round.Next.{Next}
 use Rattle.q_round.specs.declared.round.Next.TheVariants as nexts
-use Rattle.q_round.specs.declared.round.RoundEnd.TheVariants as ends
+use Rattle.q_round.specs.declared.round.RoundEnd.{RoundEnd}
 use Rattle.air_world.proofs.run.Run.play_round.Goals as goal
 
 pub slots-init : goal.slots-init
@@ -40,44 +41,43 @@ slots-preserved g c = λ start past at.
     let played = slot_played _ _ _ u.is c.slots_sent-slot.result c.play_slot-outcome.result slot (c.play_slot-outcome.ensures.outcome start u.past u.stands.at) in
     let stands = stands-then (listening g.R.Listener.hears g.R.Listener.failed _ _) _ _ _ (record { start = start; past = _; air = _; run = _ })
     u.stands.told (c.play_slot-outcome.ensures.stands start u.past u.stands.at) in
-    let answers : IsNextAnswer (nexts.Send c.in-Send.next) c.next.new.self c.args.spec.now (c.play_slot-outcome.result ∷ u.is.outcomes) =
-    subst (λ (n : Next). IsNextAnswer n c.next.new.self c.args.spec.now (c.play_slot-outcome.result ∷ u.is.outcomes)) c.in-Send.is
-    (c.next.ensures.answer c.args.spec.now u.is.outcomes u.is.goes u.is.on) in
+    let answers : IsNextAnswer (nexts.Send c.next_to.new.command) c.next_to.new.self c.args.spec.now (c.play_slot-outcome.result ∷ u.is.outcomes) =
+    subst (λ (end : Option RoundEnd). IsNextAnswer (next_of end c.next_to.new.command) c.next_to.new.self c.args.spec.now (c.play_slot-outcome.result ∷ u.is.outcomes)) c.in_default.is
+    (c.next_to.ensures.answer c.args.spec.now u.is.outcomes u.is.goes u.is.on) in
     record {
       past = _;
       stands = stands;
-      is = round-goes-on _ _ _ u.is played c.next.new.self c.in-Send.next
+      is = round-goes-on _ _ _ u.is played c.next_to.new.self c.next_to.new.command
           (record { few_operations = c.requires.few; within = λ outcomes are. c.round_laws.ensures.limit c.args.spec.now outcomes c.limit.ensures.legal are }) answers;
     }
 
-pub returns-in-Quiet-clause-ends : goal.returns-in-Quiet-clause-ends
-returns-in-Quiet-clause-ends g c = λ start past at.
+pub returns-in-Some-clause-ends : goal.returns-in-Some-clause-ends
+returns-in-Some-clause-ends g c = λ start past at.
     let u = c.slots.invariant start past at in
     let slot = slot-number c.args.spec.now c.slots.round u.is.outcomes c.slots_sent-slot.result u.is.goes u.is.on c.slots_sent-slot.ensures.stands in
     let played = slot_played _ _ _ u.is c.slots_sent-slot.result c.play_slot-outcome.result slot (c.play_slot-outcome.ensures.outcome start u.past u.stands.at) in
     let stands = stands-then (listening g.R.Listener.hears g.R.Listener.failed _ _) _ _ _ (record { start = start; past = _; air = _; run = _ })
     u.stands.told (c.play_slot-outcome.ensures.stands start u.past u.stands.at) in
-    let answers : IsNextAnswer nexts.Quiet c.next.new.self c.args.spec.now (c.play_slot-outcome.result ∷ u.is.outcomes) =
-    subst (λ (n : Next). IsNextAnswer n c.next.new.self c.args.spec.now (c.play_slot-outcome.result ∷ u.is.outcomes)) c.in-Quiet.is
-    (c.next.ensures.answer c.args.spec.now u.is.outcomes u.is.goes u.is.on) in
-    let left = ended-slots _ ends.Quiet c.slots_sent-slot.result c.play_slot-outcome.result u.is.outcomes _ _ slot (round-left _ _ _ u.is played c.next.new.self nexts.Quiet answers) in
+    let answers : IsNextAnswer (next_of (Some c.in-Some.end) c.next_to.new.command) c.next_to.new.self c.args.spec.now (c.play_slot-outcome.result ∷ u.is.outcomes) =
+    subst (λ (end : Option RoundEnd). IsNextAnswer (next_of end c.next_to.new.command) c.next_to.new.self c.args.spec.now (c.play_slot-outcome.result ∷ u.is.outcomes)) c.in-Some.is
+    (c.next_to.ensures.answer c.args.spec.now u.is.outcomes u.is.goes u.is.on) in
+    let left = ended-slots _ c.in-Some.end c.slots_sent-slot.result c.play_slot-outcome.result u.is.outcomes _ _ slot (round-ends _ _ _ u.is played c.next_to.new.self c.in-Some.end c.next_to.new.command answers) in
     let told = passes-then (listening g.R.Listener.hears g.R.Listener.failed _ _) _ _ _ _ stands.told (c.end_round.ensures.told _) in
     stands-same _ start _ _ _ _ (sym left)
-    (stands-ended _ (record { start = start; past = _; air = _; run = _ }) _ ends.Quiet _ _
+    (stands-ended _ (record { start = start; past = _; air = _; run = _ }) _ c.in-Some.end _ _
     (u.is.rounds ∙ ap (λ n. n + 1) (sym (rounds-slot start c.args.operations.now _ _ _ u.past))) (record { at = stands.at; told = told }) c.end_round.ensures.rest)
 
-pub returns-in-Limit-clause-ends : goal.returns-in-Limit-clause-ends
-returns-in-Limit-clause-ends g c = λ start past at.
+pub returns-in-Some-clause-end : goal.returns-in-Some-clause-end
+returns-in-Some-clause-end g c = λ start past at.
     let u = c.slots.invariant start past at in
     let slot = slot-number c.args.spec.now c.slots.round u.is.outcomes c.slots_sent-slot.result u.is.goes u.is.on c.slots_sent-slot.ensures.stands in
     let played = slot_played _ _ _ u.is c.slots_sent-slot.result c.play_slot-outcome.result slot (c.play_slot-outcome.ensures.outcome start u.past u.stands.at) in
-    let stands = stands-then (listening g.R.Listener.hears g.R.Listener.failed _ _) _ _ _ (record { start = start; past = _; air = _; run = _ })
-    u.stands.told (c.play_slot-outcome.ensures.stands start u.past u.stands.at) in
-    let answers : IsNextAnswer nexts.Limit c.next.new.self c.args.spec.now (c.play_slot-outcome.result ∷ u.is.outcomes) =
-    subst (λ (n : Next). IsNextAnswer n c.next.new.self c.args.spec.now (c.play_slot-outcome.result ∷ u.is.outcomes)) c.in-Limit.is
-    (c.next.ensures.answer c.args.spec.now u.is.outcomes u.is.goes u.is.on) in
-    let left = ended-slots _ ends.Limit c.slots_sent-slot.result c.play_slot-outcome.result u.is.outcomes _ _ slot (round-left _ _ _ u.is played c.next.new.self nexts.Limit answers) in
-    let told = passes-then (listening g.R.Listener.hears g.R.Listener.failed _ _) _ _ _ _ stands.told (c.end_round-in-Limit.ensures.told _) in
-    stands-same _ start _ _ _ _ (sym left)
-    (stands-ended _ (record { start = start; past = _; air = _; run = _ }) _ ends.Limit _ _
-    (u.is.rounds ∙ ap (λ n. n + 1) (sym (rounds-slot start c.args.operations.now _ _ _ u.past))) (record { at = stands.at; told = told }) c.end_round-in-Limit.ensures.rest)
+    let answers : IsNextAnswer (next_of (Some c.in-Some.end) c.next_to.new.command) c.next_to.new.self c.args.spec.now (c.play_slot-outcome.result ∷ u.is.outcomes) =
+    subst (λ (end : Option RoundEnd). IsNextAnswer (next_of end c.next_to.new.command) c.next_to.new.self c.args.spec.now (c.play_slot-outcome.result ∷ u.is.outcomes)) c.in-Some.is
+    (c.next_to.ensures.answer c.args.spec.now u.is.outcomes u.is.goes u.is.on) in
+    record {
+      number = _;
+      slots = _;
+      before = _;
+      is = sym (round-ends _ _ _ u.is played c.next_to.new.self c.in-Some.end c.next_to.new.command answers);
+    }

@@ -1,8 +1,14 @@
+use Rattle.std.proofs.Common.{[]}
+use Rattle.std.specs.Prelude.{None}
+use Rattle.std.specs.String.{string_bytes}
 use Rattle.tag_machine.specs.Hearing.{tag_value_of}
-use Rattle.probe_lines.proofs.PlayedParts.{no_memory_next}
+use Rattle.probe_lines.specs.Said.{effect_with, stimulus_with}
+use Rattle.probe_lines.proofs.PlayedParts.{tells_next}
 use Rattle.probe_lines.proofs.playing.Rooms.play_next.Goals as goal
 
-pub returns-in_err-tag-clause-failed : goal.returns-in_err-tag-clause-failed
-returns-in_err-tag-clause-failed g c =
-    no_memory_next c.from_residual.result c.args.number (tag_value_of c.args.tag) c.args.stimulus (g.O.Sink.written c.args.out.now) (g.O.Sink.faults c.args.out.now)
-    c.from_residual.ensures.1 (c.effect_of-effect.result, c.effect_of-effect.ensures.effect)
+pub returns : goal.returns
+returns g c =
+    tells_next c.respond.result
+    (record { number = c.args.number; tag = tag_value_of c.args.tag; left = []; waiting = string_bytes c.args.self.now.text; written = None })
+    (stimulus_with c.args.stimulus c.args.self.now.command)
+    (effect_with c.effect_of-effect.result c.effect_of-effect.new.command, c.effect_of-effect.ensures.effect) _ c.respond.ensures.tag c.respond.ensures.text

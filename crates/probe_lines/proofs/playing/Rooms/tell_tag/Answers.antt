@@ -1,13 +1,15 @@
-use Rattle.probe_lines.specs.Answers.{last_text}
+use Rattle.std.proofs.Common.{ℕ, List, ◌++◌, ◌∙◌, ap}
+use Rattle.std.proofs.lemmas.Result.{on_ok_weaker}
+use Rattle.std.specs.String.{string_bytes}
+use Rattle.text_fields.specs.Lines.{line_with}
+use Rattle.report_lines.specs.ReportLine.{DoneLine, TagLine, report_fields, report_line_text}
 use Rattle.tag_machine.specs.Hearing.{tag_value_of}
-use Rattle.probe_lines.proofs.PlayedParts.{no_memory}
+use Rattle.probe_lines.proofs.HeardAnswers.{two_lines}
 use Rattle.probe_lines.proofs.playing.Rooms.tell_tag.Goals as goal
 
-pub returns-in_err-push_tag_line-clause-failed : goal.returns-in_err-push_tag_line-clause-failed
-returns-in_err-push_tag_line-clause-failed g c =
-    no_memory c.from_residual.result (last_text (tag_value_of c.args.tag.now)) (g.O.Sink.written c.args.out.now) (g.O.Sink.faults c.args.out.now) c.from_residual.ensures.1
-
-pub returns-in_err-push_done_line-clause-failed : goal.returns-in_err-push_done_line-clause-failed
-returns-in_err-push_done_line-clause-failed g c =
-    let cause = c.from_residual-in_err-push_done_line in
-    no_memory cause.result (last_text (tag_value_of c.args.tag.now)) (g.O.Sink.written c.args.out.now) (g.O.Sink.faults c.args.out.now) cause.ensures.1
+pub returns : goal.returns
+returns c =
+    on_ok_weaker c.push_done_line.result
+    (λ added. added ∙ ap (λ (t : List ℕ). t ++ report_line_text DoneLine) c.in_ok-push_tag_line.ensures
+    ∙ two_lines (string_bytes c.args.self.now.text) (line_with (report_fields (TagLine 0 (tag_value_of c.args.tag.now)))) (line_with (report_fields DoneLine)))
+    c.push_done_line.ensures

@@ -3,6 +3,7 @@ use Rattle.std.proofs.Common.{◌≢◌, [], ◌∙◌, ap, length, refl, sym}
 use Rattle.std.proofs.lemmas.Bool.{eqb-false, eqb-true}
 use Rattle.std.proofs.lemmas.List.{nil_from_length}
 use Rattle.text_fields.specs.Lines.{lines_of}
+use Rattle.probe_lines.specs.Said.{stimulus_with}
 use Rattle.probe_lines.proofs.Checking.{line_extra, line_faulty, line_last, line_wanted, one_read}
 use Rattle.probe_lines.proofs.stimuli.Stimuli.new.Goals as goal
 
@@ -19,7 +20,7 @@ loop-line-preserved c =
       line = c.in-Some.line.now;
       behind = lines_of c.in-Some.behind.now;
       cut = c.in-Some.ensures.lines;
-      stimulus = c.in-Ok-Stimulus.field-0-0;
+      stimulus = stimulus_with c.in-Ok-Stimulus.field-0-0 c.read_behind.new.command;
       spells = says.0;
     }) c.loop-line.invariant says.1
 

@@ -5,7 +5,7 @@ use Rattle.tag_population.proofs.waiting.Waiting.wait_for.Goals as goal
 
 pub returns : goal.returns
 returns c =
-    let on : OnPlaces c.args.self.now = record { bases = c.self.inside.bases; places = c.self.inside.wheel; are = c.self.invariant.0; same = c.self.view_is } in
+    let on : OnPlaces c.args.self.now = record { bases = c.self.inside.bases; places = c.self.inside.tags; are = c.self.invariant.0; same = c.self.view_is } in
     let there : c.slot_place-place.result ≡ slot_place (get_or c.self.inside.bases c.args.session 0) c.args.session c.args.slot =
     c.slot_place-place.ensures
     ∙ ap (λ n. slot_place (get_or c.self.inside.bases n 0) c.get-session.result c.args.slot) c.from.ensures

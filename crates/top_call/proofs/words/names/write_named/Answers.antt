@@ -1,5 +1,5 @@
 -- The lines wait on the page in turn, and the page is written at last.
-use Rattle.std.proofs.Common.{◌++◌, arith}
+use Rattle.std.proofs.Common.{◌++◌, ◌∙◌}
 use Rattle.std.proofs.lemmas.Result.{on_ok_weaker, on_err_weaker}
 use Rattle.text_fields.specs.Lines.{text_with}
 use Rattle.top_call.proofs.Waits.{on_failure, sends_more, sends_whole, loses_later, loses_last}
@@ -23,7 +23,7 @@ loop-line-preserved g c =
       text = so_far.text ++ text_with sent.0;
       so_far = names_more c.args.input.now c.loop-line.rest.now c.in-Some.line.now c.in-Some.behind.now so_far.text sent.0 so_far.so_far c.in-Some.ensures.lines sent.1;
       sends = sends_more so_far.text _ (text_with sent.0) _ _ _ _ so_far.sends sent.2;
-      count = omega (arith, so_far.count, c.put_named.ensures.count);
+      steady = c.in_ok-put_named.ensures.steady ∙ so_far.steady;
     }
 
 pub returns-clause-ok : goal.returns-clause-ok

@@ -1,4 +1,4 @@
-use Rattle.std.proofs.Common.{◌≤◌, List, ℕ, length}
+use Rattle.std.proofs.Common.{◌≡◌, List, ℕ, length}
 use Rattle.top_call.specs.UnwrittenBytes.{Sends}
 use Rattle.top_call.proofs.NamedLines.{NamesTo}
 use Rattle.top_call.proofs.words.names.write_named.Given as goal
@@ -9,7 +9,7 @@ invariant-loop-line g l = record {
   text : List ℕ;
   so_far : NamesTo l.input l.rest text;
   sends : Sends text l.page (g.O.Sink.written l.initial.output) (g.O.Sink.written l.output);
-  count : g.O.Sink.faults l.initial.output ≤ g.O.Sink.faults l.output;
+  steady : g.O.Sink.faults l.output ≡ g.O.Sink.faults l.initial.output;
 }
 
 abbrev pub decreases-loop-line : goal.decreases-loop-line

@@ -7,11 +7,14 @@ use Rattle.top_call.proofs.PortalEnds.{portal_refused, portals_written}
 use Rattle.top_call.proofs.words.portals.write_portals.Goals as goal
 
 pub returns-in-None : goal.returns-in-None
-returns-in-None g c = record {
-  text = c.as_bytes.result.now;
-  named = portals_written c.args.input.now c.as_bytes.result.now c.in-Ok.scenario c.in-Ok.ensures.ok (sym c.portal_fault.ensures ∙ c.in-None.is) (c.as_bytes.ensures.value ∙ c.in_ok-text-in-None.ensures);
-  added = c.in_ok-write_all-in-None.ensures.ok;
-}
+returns-in-None g c = (
+  c.in_ok-write_all-in-None.ensures.steady,
+  record {
+    text = c.as_bytes.result.now;
+    named = portals_written c.args.input.now c.as_bytes.result.now c.in-Ok.scenario c.in-Ok.ensures.ok (sym c.portal_fault.ensures ∙ c.in-None.is) (c.as_bytes.ensures.value ∙ c.in_ok-text-in-None.ensures);
+    added = c.in_ok-write_all-in-None.ensures.ok;
+  },
+)
 
 pub returns-in_err-write_all-in-None : goal.returns-in_err-write_all-in-None
 returns-in_err-write_all-in-None g c =

@@ -20,7 +20,7 @@ pub returns-in_ok-play-in-Ok : goal.returns-in_ok-play-in-Ok
 returns-in_ok-play-in-Ok g c =
     let read = c.in-Ok.ensures.ok in
     played_whole c.args.input.now c.in-Ok.probe.tag read.0
-    (record { written = _; written' = _; writes = g.O.Sink.faults c.args.output.now; writes' = g.O.Sink.faults c.args.output.now }) c.in_ok-play-in-Ok.field-0 read.1 (c.in_ok-play-in-Ok.ensures read.0 read.2)
+    (record { written = _; written' = _; writes = _; writes' = _ }) c.in_ok-play-in-Ok.field-0 read.1 (c.in_ok-play-in-Ok.ensures read.0 read.2)
 
 pub returns-in_err-write_all-in-Err : goal.returns-in_err-write_all-in-Err
 returns-in_err-write_all-in-Err g c =

@@ -8,12 +8,14 @@ use Rattle.top_call.proofs.words.upgrade.write_upgraded.Goals as goal
 
 pub returns-in_ok-write_all-in-Ok : goal.returns-in_ok-write_all-in-Ok
 returns-in_ok-write_all-in-Ok g c =
-    let printed : c.as_slice.result.now ≡ scenario_text c.upgrade-upgraded.result = let lent = c.as_slice.ensures in let text = c.in_ok-text-in-Ok.ensures in cc in
-    record {
-      text = c.as_slice.result.now;
-      named = upgraded_text c.args.input.now c.in-Ok.scenario c.upgrade-upgraded.result c.as_slice.result.now c.in-Ok.ensures.ok c.upgrade-upgraded.ensures.same printed;
-      added = c.in_ok-write_all-in-Ok.ensures.ok;
-    }
+    let printed : c.as_slice.result.now ≡ scenario_text c.upgrade-upgraded.result = let lent = c.as_slice.ensures in let text = c.in_ok-text-in-Ok.ensures in cc in (
+      c.in_ok-write_all-in-Ok.ensures.steady,
+      record {
+        text = c.as_slice.result.now;
+        named = upgraded_text c.args.input.now c.in-Ok.scenario c.upgrade-upgraded.result c.as_slice.result.now c.in-Ok.ensures.ok c.upgrade-upgraded.ensures.same printed;
+        added = c.in_ok-write_all-in-Ok.ensures.ok;
+      },
+    )
 
 pub returns-in_err-write_all-in-Ok : goal.returns-in_err-write_all-in-Ok
 returns-in_err-write_all-in-Ok g c =

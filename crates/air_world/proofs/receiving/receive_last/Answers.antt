@@ -1,0 +1,5 @@
+use Rattle.std.proofs.Common.{refl}
+use Rattle.air_world.proofs.receiving.receive_last.Goals as goal
+
+pub returns-clause-received : goal.returns-clause-received
+returns-clause-received c = (c.receive_stream.new.received, refl, c.receive_stream.ensures.received)

@@ -1,5 +1,0 @@
-use Rattle.command_text.proofs.NoSelect.{no_select_read}
-use Rattle.command_text.proofs.reading.read_behind.Goals as goal
-
-pub returns-in-Select-clause-none : goal.returns-in-Select-clause-none
-returns-in-Select-clause-none c = no_select_read c.read_select.result c.args.kind c.args.fields c.in-Select.is c.read_select.ensures.none
