@@ -1,5 +1,6 @@
 //! FM0 baseband and its preamble.
 ghost use Rattle.std.specs.Prelude.{◌≡◌, ◌<◌, Some, ◌∷◌, [], true};
+ghost use Rattle.bit_strings.specs.Numbers.{field_of};
 ghost use Rattle.line_code.specs.Stream.{blocks};
 ghost use Rattle.fm0_line.specs.Fm0.{fm0, fm0_second};
 ghost use Rattle.fm0_line.specs.laws.Fm0.{fm0_even, fm0_has_lead, fm0_tells_bits, fm0_refuses_flips, fm0_hides_lead};
@@ -80,22 +81,11 @@ fn second_level(first: bool, bit: bool) -> bool
     if bit { first } else { !first }
 }
 
-/// The levels of four symbols, one behind the other, by the level before them and by their bits.
-fn four_symbols(
-    before: bool,
-    first: bool,
-    second: bool,
-    third: bool,
-    fourth: bool,
-) -> &'static [bool; 8]
-    ensures { result.now ≡ blocks fm0 (record { before = true; phase = before }) (first ∷ second ∷ third ∷ fourth ∷ []) }
+/// The levels of four symbols, one behind the other, by the level before them and by their bits, which are the last four of a number.
+fn four_symbols(before: bool, number: u16) -> &'static [bool; 8]
+    ensures { result.now ≡ blocks fm0 (record { before = true; phase = before }) (field_of number 4) }
 {
-    let row = 16 * (before as usize)
-        + 8 * (first as usize)
-        + 4 * (second as usize)
-        + 2 * (third as usize)
-        + fourth as usize;
-    &FOUR_SYMBOLS[row]
+    &FOUR_SYMBOLS[16 * (before as usize) + (number % 16) as usize]
 }
 
 impl LineCode for Fm0 {
@@ -134,10 +124,10 @@ impl LineCode for Fm0 {
         }
     }
 
-    fn four_blocks(mark: SymbolBefore, bits: &[bool; 4]) -> (&'static [bool], SymbolBefore) {
-        let levels = four_symbols(mark.last_level, bits[0], bits[1], bits[2], bits[3]);
+    fn four_blocks(mark: SymbolBefore, number: u16) -> (&'static [bool], SymbolBefore) {
+        let levels = four_symbols(mark.last_level, number);
         let last = SymbolBefore {
-            bit: bits[3],
+            bit: number % 2 == 1,
             last_level: levels[7],
         };
         (levels, last)

@@ -1,5 +1,6 @@
 -- From one place of the levels to the whole list, and what a decoder may then answer.
-use Rattle.std.proofs.Common.{◌<◌, ◌≡◌, ℕ, ◌≤◌, Bool, true, List, [], ◌∷◌, ◌++◌, length, Result, Ok, Err, IsOk, IsErr, OnOk, IfErr, refl, sym, ap, ◌∙◌, subst, arith, length-append, mul-le-mul_right}
+use Rattle.std.proofs.Common.{◌<◌, ◌≡◌, ℕ, ◌≤◌, Bool, true, List, [], ◌∷◌, ◌++◌, length, take, Result, Ok, Err, IsOk, IsErr, OnOk, IfErr, refl, sym, ap, ◌∙◌, subst, arith, length-append, mul-le-mul_right}
+use Rattle.bit_strings.specs.BitString.{BitString}
 use Rattle.line_code.specs.Table.{Context, Table}
 use Rattle.line_code.specs.Stream.{blocks, IsStream, Streams}
 use Rattle.line_code.specs.States.{InsideValue, Reads, HasBlocks}
@@ -23,6 +24,14 @@ has_within t chips even trext context levels bits h =
     let outer = length-append (t.lead trext) (blocks t t.start bits) in
     let few : length bits ≤ length (blocks t t.start bits) = omega (arith, length-blocks t chips even bits t.start, mul-le-mul_right (length bits) even.least) in
     omega (arith, whole, outer, few)
+
+-- the decoder before whole blocks: the levels up to the place are the lead and the blocks of the bits that were put, and the room is as it was
+abbrev pub HasRead : (t : Table) (trext : Bool) (levels : List Bool) (at : ℕ) (context : Context) (before out : BitString) → Type 0
+HasRead t trext levels at context before out = record {
+  within : at ≤ length levels;
+  has : HasBlocks t trext context (take at levels) out.items;
+  same : out.capacity ≡ before.capacity;
+}
 
 -- where the levels are a stream, a true answer is its bits
 pub decided : (code : CodeTable) (trext : Bool) (result : Result (Unit {0}) LineRefusal) (levels out bits : List Bool)

@@ -101,6 +101,18 @@ pub record Written (t : Table) (lead bits : List Bool) (now : Progress) : Type 0
   pub levels_are : take now.at now.items ≡ lead ++ blocks t t.start (take now.bits bits)
   pub context_is : now.context ≡ context_after t t.start (take now.bits bits)
 
+-- the encoder before each step: there are as many levels as the stream has, up to the place stand those of the bits that went before, and the room is as
+-- it was
+abbrev pub Encodes : (t : Table) (chips : ℕ) (trext : Bool) (bits : List Bool) (now : Progress) (room_before room : ℕ) → Type 0
+Encodes t chips trext bits now room_before room = record {
+  written : take now.at now.items ≡ t.lead trext ++ blocks t t.start (take now.bits bits);
+  whole : length now.items ≡ length (t.lead trext) + chips * (length bits + 1);
+  place : now.at ≡ length (t.lead trext) + chips * now.bits;
+  marked : now.context ≡ context_after t t.start (take now.bits bits);
+  within : now.bits ≤ length bits;
+  same : room ≡ room_before;
+}
+
 -- the blocks of more bits were put over what stood there
 pub record PutOver (t : Table) (now : Progress) (more new : List Bool) : Type 0 where
   pub block : List Bool

@@ -4,5 +4,6 @@ pub mod Flips
 pub mod Lead
 pub mod LevelTests
 pub mod Reading
+pub mod Rows
 pub mod Splits
 pub mod Streams

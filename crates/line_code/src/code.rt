@@ -1,5 +1,6 @@
 //! What a line code is.
 ghost use Rattle.std.specs.Prelude.{◌≡◌, ◌≢◌, ℕ, ◌*◌, [], ◌∷◌, ◌<◌, ◌≤◌, length, Bool, Some, IfSome, IfNone, slice_get};
+ghost use Rattle.bit_strings.specs.Numbers.{field_of};
 ghost use Rattle.line_code.specs.Table.{Context, Table};
 ghost use Rattle.line_code.specs.Stream.{blocks};
 ghost use Rattle.line_code.specs.States.{context_after};
@@ -68,10 +69,10 @@ pub trait LineCode {
         ensures some { IfSome result (λ bit. levels.now ≡ table.block (context_of mark) bit) }
         ensures none { IfNone result ((bit : Bool) → levels.now ≢ table.block (context_of mark) bit) };
 
-    /// The levels of the blocks of four bits, one behind the other, and the mark of the bit that follows them.
-    fn four_blocks(mark: Self::Mark, bits: &[bool; 4]) -> (&'static [bool], Self::Mark)
-        ensures levels { result.0.now ≡ blocks table (context_of mark) bits.now }
-        ensures mark { context_of result.1 ≡ context_after table (context_of mark) bits.now };
+    /// The levels of the blocks of the last four bits of a number, one behind the other, and the mark of the bit that follows them.
+    fn four_blocks(mark: Self::Mark, number: u16) -> (&'static [bool], Self::Mark)
+        ensures levels { result.0.now ≡ blocks table (context_of mark) (field_of number 4) }
+        ensures mark { context_of result.1 ≡ context_after table (context_of mark) (field_of number 4) };
 
     /// The four bits whose blocks, one behind the other, the levels are, and the mark of the bit that follows them; none exactly where they
     /// are no such blocks.

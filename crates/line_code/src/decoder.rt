@@ -1,5 +1,5 @@
 //! The decoder of a whole list of levels.
-ghost use Rattle.std.specs.Prelude.{◌≡◌, ◌≤◌, ◌<◌, ◌+◌, ◌*◌, ◌++◌, ℕ, List, Bool, [], length, take, IfSome, IfOk, OnOk, IfErr, OnErr, IsOk, IsErr};
+ghost use Rattle.std.specs.Prelude.{◌≡◌, ◌≤◌, ◌<◌, ◌+◌, ◌*◌, ◌++◌, ℕ, List, Bool, [], length, take, IsTrue, ◌↔◌, IfSome, IfOk, OnOk, IfErr, OnErr, IsOk, IsErr};
 ghost use Rattle.line_code.specs.Table.{Context};
 ghost use Rattle.line_code.specs.Stream.{IsStream, Streams, blocks};
 ghost use Rattle.line_code.specs.TableFacts.{with_level_flipped};
@@ -94,11 +94,24 @@ fn whole_lead<C: LineCode>(trext: bool, levels: &[bool]) -> Option<usize>
     ensures { IfSome result (λ lead. (lead ≤ length levels.now) × (take lead levels.now ≡ C.table.lead trext)) }
 {
     let lead = C::lead_levels(trext);
-    if lead.len() <= levels.len() && lead == &levels[..lead.len()] {
+    if lead.len() <= levels.len() && same_levels(&levels[..lead.len()], lead) {
         Some(lead.len())
     } else {
         None
     }
+}
+
+/// Whether the levels are those of a block or of a lead that has as many.
+pub fn same_levels(levels: &[bool], others: &[bool]) -> bool
+    requires { length levels.now ≡ length others.now }
+    ensures { IsTrue result ↔ (levels.now ≡ others.now) }
+{
+    // The loop goes on to the end, so that the compiler can look at many levels at once.
+    let mut same = true;
+    for (at, level) in levels.iter().enumerate() {
+        same &= *level == others[at];
+    }
+    same
 }
 
 /// The four bits whose blocks, one behind the other, the first of these levels are, and the mark of the bit that follows them.

@@ -1,5 +1,5 @@
 //! The encoder.
-ghost use Rattle.std.specs.Prelude.{◌≡◌, ◌≤◌, ◌<◌, ◌+◌, ◌*◌, ◌∷◌, ◌++◌, ◌^◌, length, []};
+ghost use Rattle.std.specs.Prelude.{◌≡◌, ◌≤◌, ◌<◌, ◌+◌, ◌*◌, ◌^◌, length};
 ghost use Rattle.bit_strings.specs.Numbers.{field_of};
 ghost use Rattle.line_code.specs.Stream.{IsStream, blocks};
 ghost use Rattle.line_code.specs.Overwriting.{with_levels_at};
@@ -60,20 +60,7 @@ fn overwrite_four<C: LineCode>(mark: C::Mark, number: u16, at: usize, out: &mut 
     ensures levels { out.new ≡ with_levels_at out.old at (blocks C.table (C.context_of mark) (field_of number 4)) }
     ensures mark { C.context_of result ≡ context_after C.table (C.context_of mark) (field_of number 4) }
 {
-    let (levels, behind) = C::four_blocks(mark, &last_four(number));
+    let (levels, behind) = C::four_blocks(mark, number);
     out.overwrite(at, levels);
     behind
-}
-
-/// The last four bits of a number.
-#[inline]
-fn last_four(number: u16) -> [bool; 4]
-    ensures { result ≡ field_of number 4 }
-{
-    [
-        number / 8 % 2 == 1,
-        number / 4 % 2 == 1,
-        number / 2 % 2 == 1,
-        number % 2 == 1,
-    ]
 }

@@ -48,8 +48,8 @@ impl LineCode for Miller2 {
         subcarrier::block_bit(2, mark, levels)
     }
 
-    fn four_blocks(mark: SymbolBefore, bits: &[bool; 4]) -> (&'static [bool], SymbolBefore) {
-        subcarrier::four_blocks(2, mark, bits)
+    fn four_blocks(mark: SymbolBefore, number: u16) -> (&'static [bool], SymbolBefore) {
+        subcarrier::four_blocks(2, mark, number)
     }
 
     fn four_bits(mark: SymbolBefore, levels: &[bool]) -> Option<([bool; 4], SymbolBefore)> {
@@ -98,8 +98,8 @@ impl LineCode for Miller4 {
         subcarrier::block_bit(4, mark, levels)
     }
 
-    fn four_blocks(mark: SymbolBefore, bits: &[bool; 4]) -> (&'static [bool], SymbolBefore) {
-        subcarrier::four_blocks(4, mark, bits)
+    fn four_blocks(mark: SymbolBefore, number: u16) -> (&'static [bool], SymbolBefore) {
+        subcarrier::four_blocks(4, mark, number)
     }
 
     fn four_bits(mark: SymbolBefore, levels: &[bool]) -> Option<([bool; 4], SymbolBefore)> {
@@ -148,8 +148,8 @@ impl LineCode for Miller8 {
         subcarrier::block_bit(8, mark, levels)
     }
 
-    fn four_blocks(mark: SymbolBefore, bits: &[bool; 4]) -> (&'static [bool], SymbolBefore) {
-        subcarrier::four_blocks(8, mark, bits)
+    fn four_blocks(mark: SymbolBefore, number: u16) -> (&'static [bool], SymbolBefore) {
+        subcarrier::four_blocks(8, mark, number)
     }
 
     fn four_bits(mark: SymbolBefore, levels: &[bool]) -> Option<([bool; 4], SymbolBefore)> {

@@ -1,11 +1,14 @@
 //! What the three codes share. The number `m` is M of the standard: a symbol has `2 * m` levels, two
 //! halves of `m` levels each, and the subcarrier inverts at each level.
-ghost use Rattle.std.specs.Prelude.{◌≡◌, ◌≢◌, ◌↔◌, ◌*◌, ◌<◌, ◌≤◌, Bool, false, true, ◌++◌, [], ◌∷◌, Some, IfSome, IfNone, IsTrue, length};
+ghost use Rattle.std.specs.Prelude.{◌≡◌, ◌≢◌, ◌*◌, ◌<◌, ◌≤◌, Bool, false, true, [], ◌∷◌, Some, IfSome, IfNone, length};
+ghost use Rattle.bit_strings.specs.Numbers.{field_of};
 ghost use Rattle.line_code.specs.TableFacts.{longest_lead};
 ghost use Rattle.miller_line.specs.Miller.{miller, IsOneOfThree, symbol, start_phase, middle_phase, miller_lead, miller_block, miller_next};
 ghost use Rattle.line_code.specs.Stream.{blocks};
 ghost use Rattle.line_code.specs.States.{context_after};
 ghost use Rattle.miller_line.specs.SymbolContext.{context};
+
+use line_code::same_levels;
 
 /// The symbol before a bit's block.
 #[derive(Clone, Copy, Debug, PartialEq, Eq)]
@@ -255,19 +258,6 @@ fn bit_of_symbol(m: u32, levels: &[bool]) -> bool
     levels[0] != levels[m as usize]
 }
 
-/// Whether the levels are those of a block.
-fn is_block(levels: &[bool], block: &[bool]) -> bool
-    requires { length levels.now ≡ length block.now }
-    ensures { IsTrue result ↔ (levels.now ≡ block.now) }
-{
-    // The loop goes on to the end, so that the compiler can look at many levels at once.
-    let mut same = true;
-    for (at, level) in levels.iter().enumerate() {
-        same &= *level == block[at];
-    }
-    same
-}
-
 /// The bit whose block the levels are; none exactly where they are the block of neither bit.
 pub fn block_bit(m: u32, before: SymbolBefore, levels: &[bool]) -> Option<bool>
     requires factor { IsOneOfThree m }
@@ -276,30 +266,20 @@ pub fn block_bit(m: u32, before: SymbolBefore, levels: &[bool]) -> Option<bool>
     ensures none { IfNone result ((bit : Bool) → levels.now ≢ miller_block m (context before) bit) }
 {
     let bit = bit_of_symbol(m, levels);
-    if is_block(levels, block(m, before, bit)) {
+    if same_levels(levels, block(m, before, bit)) {
         Some(bit)
     } else {
         None
     }
 }
 
-/// The levels of four symbols, one behind the other, by the phase at the start of the first and by their bits.
-fn four_symbols(
-    m: u32,
-    start: bool,
-    first: bool,
-    second: bool,
-    third: bool,
-    fourth: bool,
-) -> &'static [bool]
+/// The levels of four symbols, one behind the other, by the phase at the start of the first and by their bits, which are the last four of a
+/// number.
+fn four_symbols(m: u32, start: bool, number: u16) -> &'static [bool]
     requires { IsOneOfThree m }
-    ensures { result.now ≡ symbol m start (middle_phase start first) ++ blocks (miller m) (record { before = first; phase = middle_phase start first }) (second ∷ third ∷ fourth ∷ []) }
+    ensures { result.now ≡ blocks (miller m) (record { before = true; phase = start }) (field_of number 4) }
 {
-    let row = 16 * (start as usize)
-        + 8 * (first as usize)
-        + 4 * (second as usize)
-        + 2 * (third as usize)
-        + fourth as usize;
+    let row = 16 * (start as usize) + (number % 16) as usize;
     match m {
         2 => FOUR_SYMBOLS_2[row].as_flattened(),
         4 => FOUR_SYMBOLS_4[row].as_flattened(),
@@ -307,24 +287,27 @@ fn four_symbols(
     }
 }
 
-/// The levels of the blocks of four bits, one behind the other, and what stands before the bit that follows them.
-pub fn four_blocks(
-    m: u32,
-    before: SymbolBefore,
-    bits: &[bool; 4],
-) -> (&'static [bool], SymbolBefore)
+/// The levels of the blocks of the last four bits of a number, one behind the other, and what stands before the bit that follows them.
+pub fn four_blocks(m: u32, before: SymbolBefore, number: u16) -> (&'static [bool], SymbolBefore)
     requires { IsOneOfThree m }
-    ensures levels { result.0.now ≡ blocks (miller m) (context before) bits.now }
-    ensures mark { context result.1 ≡ context_after (miller m) (context before) bits.now }
+    ensures levels { result.0.now ≡ blocks (miller m) (context before) (field_of number 4) }
+    ensures mark { context result.1 ≡ context_after (miller m) (context before) (field_of number 4) }
 {
-    let start = phase_at_start(before, bits[0]);
-    let levels = four_symbols(m, start, bits[0], bits[1], bits[2], bits[3]);
+    let start = phase_at_start(before, number / 8 % 2 == 1);
+    let levels = four_symbols(m, start, number);
     // The last level of a half tells its phase, since a half has an even number of levels.
     let last = SymbolBefore {
-        bit: bits[3],
+        bit: number % 2 == 1,
         phase: levels[(8 * m - 1) as usize],
     };
     (levels, last)
+}
+
+/// The number whose last four bits these are.
+fn number_of(first: bool, second: bool, third: bool, fourth: bool) -> u16
+    ensures { field_of result 4 ≡ first ∷ second ∷ third ∷ fourth ∷ [] }
+{
+    8 * (first as u16) + 4 * (second as u16) + 2 * (third as u16) + fourth as u16
 }
 
 /// The four bits whose blocks, one behind the other, the levels are, and what stands before the bit that follows them; none exactly where
@@ -340,10 +323,10 @@ pub fn four_bits(m: u32, before: SymbolBefore, levels: &[bool]) -> Option<([bool
     let second = bit_of_symbol(m, &levels[size..2 * size]);
     let third = bit_of_symbol(m, &levels[2 * size..3 * size]);
     let fourth = bit_of_symbol(m, &levels[3 * size..]);
-    let bits = [first, second, third, fourth];
-    let (blocks, behind) = four_blocks(m, before, &bits);
-    if is_block(levels, blocks) {
-        Some((bits, behind))
+    let number = number_of(first, second, third, fourth);
+    let (blocks, behind) = four_blocks(m, before, number);
+    if same_levels(levels, blocks) {
+        Some(([first, second, third, fourth], behind))
     } else {
         None
     }

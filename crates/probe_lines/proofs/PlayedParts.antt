@@ -1,5 +1,5 @@
 -- How far a probe is played.
-use Rattle.std.proofs.Common.{◌≡◌, ◌+◌, ℕ, List, [], ◌∷◌, ◌++◌, length, Option, Result, Ok, Err, refl, sym, ◌∙◌, ap, subst, arith, append_assoc}
+use Rattle.std.proofs.Common.{◌≡◌, ◌+◌, ◌<◌, ℕ, List, [], ◌∷◌, ◌++◌, length, Option, Result, Ok, Err, refl, sym, ◌∙◌, ap, subst, arith, append_assoc}
 use Rattle.std.specs.Prelude.{IfErr, IfOk, IsErrAnd, OnOk}
 use Rattle.std.specs.List.{AllZip}
 use Rattle.std.proofs.lemmas.List.{append-nil}
@@ -115,6 +115,11 @@ pub all_sent : {E : Type 0} (result : Result (Unit {0}) E) (waiting waiting' : L
 all_sent (Ok done) waiting waiting' written written' added empty =
     record { front = waiting; cut = sym (ap (λ (w : List ℕ). waiting ++ w) empty ∙ append-nil waiting); added = added }
 all_sent (Err cause) waiting waiting' written written' added empty = tt
+
+-- less than a page waits where nothing does
+pub none_waits : {E : Type 0} (result : Result (Unit {0}) E) (waiting : List ℕ) → OnOk result (waiting ≡ []) → OnOk result (length waiting < 4096)
+none_waits (Ok done) waiting empty = rw empty (omega arith)
+none_waits (Err cause) waiting empty = tt
 
 -- a front of what waits was written
 pub some_sent : (begun : Beginning) (from : Place) (waiting : List ℕ) (after : Option (List ℕ)) → PlayedTo begun from → Sends from.waiting waiting from.written after

@@ -1,5 +1,5 @@
 //! A probe, played: what the tag answers and what it is behind each line, written as it is made.
-ghost use Rattle.std.specs.Prelude.{◌≡◌, ◌++◌, List, [], IfOk, IfErr, OnOk};
+ghost use Rattle.std.specs.Prelude.{◌≡◌, ◌<◌, ◌++◌, List, [], length, IfOk, IfErr, OnOk};
 ghost use Rattle.std.specs.String.{string_bytes};
 ghost use Rattle.air_io.specs.Flow.{Adds};
 ghost use Rattle.text_fields.specs.Lines.{text_with};
@@ -191,13 +191,14 @@ impl Rooms {
         Ok(())
     }
 
-    /// Writes what waits, where it is a page.
+    /// Writes what waits, where it is a page: less than one waits on.
     ///
     /// # Errors
     ///
     /// As for `flush`.
     fn write_page<O: Sink>(&mut self, out: &mut O) -> Result<(), PlayFault>
         ensures sent { OnOk result (Sends (string_bytes self.old.text) (string_bytes self.new.text) (O.written out.old) (O.written out.new)) }
+        ensures page { OnOk result (length (string_bytes self.new.text) < 4096) }
         ensures failed { IfErr result (StopsIn (string_bytes self.old.text) (O.written out.old) (O.written out.new) (O.faults out.old) (O.faults out.new)) }
         ensures steady { OnOk result (O.faults out.new ≡ O.faults out.old) }
     {

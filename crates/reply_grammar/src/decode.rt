@@ -5,7 +5,7 @@ ghost use Rattle.reply_grammar.specs.Table.{AnswersExpected};
 ghost use Rattle.reply_grammar.specs.Refusals.{RefusesReply, FitsLength, PassesCheck, PassesHeader, PassesNumber, EndsWithCheck, HasHandle, Passes};
 ghost use Rattle.reply_grammar.specs.declared.expected.Expect.TheVariants.{Epc as OneEpc, Rn16 as OneRn16};
 ghost use Rattle.reply_grammar.specs.declared.expected.Reply.{Reply};
-ghost use Rattle.reply_grammar.specs.declared.expected.Reply.TheVariants.{Rn16, Epc, Words};
+ghost use Rattle.reply_grammar.specs.declared.expected.Reply.TheVariants.{Rn16, Epc, Handle, Words};
 ghost use Rattle.reply_grammar.specs.declared.expected.ReplyRefusal.{ReplyRefusal};
 ghost use Rattle.reply_grammar.specs.laws.Reading.{ReadTo};
 
@@ -213,6 +213,16 @@ fn read_epc(bits: &Bits) -> (u16, EpcWords)
     (pc, epc)
 }
 
+/// Gives the PC and the EPC that bits are which pass as these, in place of another reply. It stands alone, so that room for
+/// a list is made ready for an EPC alone.
+fn read_epc_to(bits: &Bits, reply: &mut Reply)
+    requires { Passes OneEpc bits.now.items }
+    ensures { AnswersExpected reply.new OneEpc bits.now.items }
+{
+    let (pc, epc) = read_epc(bits);
+    *reply = Reply::Epc { pc, epc };
+}
+
 /// Gives the reply that bits are which pass, in place of another.
 fn read_reply_to(bits: &Bits, expect: &Expect, reply: &mut Reply)
     requires { Passes expect.now bits.now.items }
@@ -220,14 +230,9 @@ fn read_reply_to(bits: &Bits, expect: &Expect, reply: &mut Reply)
 {
     match expect {
         Expect::Rn16 => *reply = Reply::Rn16(word_at(bits, 0)),
-        Expect::Epc => {
-            *reply = Reply::Epc {
-                pc: word_at(bits, 0),
-                epc: epc_words(bits),
-            };
-        }
-        Expect::Handle => *reply = Reply::Handle(word_at(bits, 0)),
-        Expect::Same(_) => *reply = Reply::Handle(word_at(bits, 0)),
+        Expect::Epc => read_epc_to(bits, reply),
+        Expect::Handle => put_handle(word_at(bits, 0), reply),
+        Expect::Same(_) => put_handle(word_at(bits, 0), reply),
         Expect::Words(count, _) => {
             if is_error(bits) {
                 *reply = Reply::Error(error_code(bits));
@@ -249,6 +254,17 @@ fn read_reply_to(bits: &Bits, expect: &Expect, reply: &mut Reply)
             }
             *reply = Reply::Header;
         }
+    }
+}
+
+/// Puts a handle in place of another reply. What was a handle has its number changed alone, as a reply made anew has all of its
+/// room made ready.
+fn put_handle(handle: u16, reply: &mut Reply)
+    ensures { reply.new ≡ Handle handle }
+{
+    match reply {
+        Reply::Handle(last) => *last = handle,
+        _ => *reply = Reply::Handle(handle),
     }
 }
 
@@ -281,6 +297,11 @@ fn read_words_to(bits: &Bits, count: u32, reply: &mut Reply)
     requires whole { length bits.now.items ≡ 33 + 16 * count }
     ensures { (words : List ℕ) × (reply.new ≡ Words words) × ReadTo bits.now.items 1 (length bits.now.items - 32) words }
 {
+    // The room of words is taken over as it is.
+    if let Reply::Words(words) = reply {
+        put_words(bits, count, words);
+        return;
+    }
     *reply = Reply::Words(ReadWords::new());
     match reply {
         Reply::Words(words) => put_words(bits, count, words),

@@ -64,6 +64,10 @@ fn take_whole(bits: &Bits, expect: &Expect, received: &mut Received) -> Result<(
     ensures whole { OnOk result ((reply : Reply) × (received.new ≡ Whole reply) × AnswersExpected reply expect.now bits.now.items) }
     ensures refused { IfErr result (λ refusal. RefusesReply refusal expect.now bits.now.items) }
 {
+    // The room of a whole reply is taken over as it is.
+    if let Received::Whole(reply) = received {
+        return decode_reply_to(bits, expect, reply);
+    }
     *received = Received::Whole(Reply::Header);
     match received {
         Received::Whole(reply) => decode_reply_to(bits, expect, reply),

@@ -150,6 +150,14 @@ impl AnyTag {
         &body.parts.locks
     }
 
+    /// The words that the tag draws.
+    pub fn words(&self) -> &[u16]
+        ensures { result.now ≡ (tag_value_of self.now).body.words }
+    {
+        let body = self.body();
+        body.words()
+    }
+
     /// The memory.
     pub fn memory(&self) -> &Memory
         ensures { result.now ≡ (tag_value_of self.now).body.memory }

@@ -17,8 +17,23 @@ use command_grammar::Command;
 use std::sync::ledger::Ledger;
 
 impl AnyTag {
-    /// What the tag makes of a command. DR, M and TRext of a Query tell the form of the replies, and change nothing in the tag.
+    /// What the tag makes of a command. Most tags are moved by a QueryRep, so that is made here; what is made of each other command
+    /// stands in a call of its own, and none pays for the room that a Read takes for its words.
     fn take(self, command: &Command, out: &mut Bits) -> Heard
+        requires room { reply_room ≤ out.old.capacity }
+        ensures { GivesOutcome (step command.now (tag_value_of self).state (tag_value_of self).body) result out.old out.new }
+    {
+        if let Command::QueryRep { session } = command {
+            return self.query_rep(*session, out);
+        }
+        // Bound first, so that what the call writes to memory has room of its own, and the answer to a QueryRep stays out of memory.
+        let heard = self.take_any(command, out);
+        heard
+    }
+
+    /// What the tag makes of any command. DR, M and TRext of a Query tell the form of the replies, and change nothing in the tag.
+    #[inline(never)]
+    fn take_any(self, command: &Command, out: &mut Bits) -> Heard
         requires room { reply_room ≤ out.old.capacity }
         ensures { GivesOutcome (step command.now (tag_value_of self).state (tag_value_of self).body) result out.old out.new }
     {

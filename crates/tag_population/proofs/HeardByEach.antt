@@ -6,13 +6,13 @@ use Rattle.air_events.specs.declared.Entry.{Entry}
 use Rattle.command_grammar.specs.declared.commands.Command.{Command}
 use Rattle.tag_machine.specs.Answers.{Outcome}
 use Rattle.tag_machine.specs.TagValue.{TagValue}
-use Rattle.tag_population.proofs.HeardByCalled.{BeforeHearing, HeardSoFar, sum-zero, zero-sum, later, participation_of_tag}
+use Rattle.tag_population.proofs.HeardByCalled.{BeforeHearing, HeardSoFar, sum-zero, zero-sum, later}
 use Rattle.tag_population.proofs.EventsOnTags.{legal-set, length-heard}
 use Rattle.tag_population.proofs.TagsAtRest.{SettledBelow, settled_next}
 use Rattle.tag_population.proofs.SeatedTags.{length-tags_of, tag_at}
 use Rattle.tag_machine.specs.Exchange.{AreLegalTags, Replied, outcome_unless, is_missed, tags_after, reply_of, replies_from}
 use Rattle.tag_population.specs.Hearing.{hearing_from}
-use Rattle.tag_population.specs.Seated.{tag_seated, tags_of, participation_in, outcome_seated, AreAtRest, HearsSeated, IsIdleSettled}
+use Rattle.tag_population.specs.Seated.{tag_seated, tags_of, participation_in, outcome_seated, HearsSeated}
 use Rattle.tag_population.specs.Seats.{no_tag}
 use Rattle.tag_population.specs.Waiting.{participation_at}
 use Rattle.tag_population.specs.declared.waiting.Participation.{Participation}
@@ -127,21 +127,6 @@ pub replied_more : (before : BeforeHearing) (number : ℕ) (now after : HeardSoF
 replied_more before number now after whole within so_far next =
     ap (λ (o : Outcome). replied_below before number ++ reply_of number o.answer) (outcome_next before number now after whole within so_far next)
     ∙ reply_below before number whole within
-
--- where the next tag takes no part, its state says so
-pub each_idle : (before : BeforeHearing) (number : ℕ) (now : HeardSoFar)
-    → AreAtRest before.participations before.seats → number < length before.seats → HeardBelow before number now
-    → participation_at now.participations number ≡ participation_at before.participations number → IsIdleSettled number now.participations now.seats
-each_idle before number now rest within so_far same none =
-    let tags : List TagValue = tags_of before.participations before.seats in
-    let here : get_or now.seats number no_tag ≡ get_or tags number no_tag =
-    so_far.left number (omega arith)
-    ∙ ap (λ (s : Option Participation). tag_seated s (get_or before.seats number no_tag)) (sym none ∙ same)
-    ∙ sym (tag_at before.participations before.seats number no_tag rest.whole within) in
-    ap (λ (t : TagValue). participation_in t.state) here
-    ∙ sym (ap (λ (l : List (Option Participation)). participation_at l number) rest.settled ∙ participation_of_tag tags number)
-    ∙ sym same
-    ∙ none
 
 -- it takes part as its state says
 pub each_settled : (before : BeforeHearing) (number : ℕ) (now after : HeardSoFar) → number < length now.seats → EachHearsNext before number now after

@@ -10,3 +10,6 @@ pub mod TagsAtRest
 pub mod HeardByEach
 pub mod OneExchange
 pub mod HeardInSeats
+pub mod DrawnSlots
+pub mod AdjustCalls
+pub mod SeatsKept

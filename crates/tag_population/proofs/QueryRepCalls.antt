@@ -37,7 +37,7 @@ stays command (OpenState held) body some none = absurd (cc)
 stays command (SecuredState held) body some none = absurd (cc)
 stays command state body some none = refl
 
-bool_cases : (b : Bool) → (b ≡ true) ⊎ (b ≡ false)
+pub bool_cases : (b : Bool) → (b ≡ true) ⊎ (b ≡ false)
 bool_cases true = inl refl
 bool_cases false = inr refl
 
@@ -74,7 +74,7 @@ none_called_for command entry participations seats rest some = record {
   uncalled = λ number apart. ap (λ (l : List (Option Participation)). participation_at l number) rest.settled ∙ participation_of_tag (tags_of participations seats) number;
 }
 
-past_settled : (participations : List (Option Participation)) (seats : List TagValue) (number : ℕ) → length participations ≡ length seats → length seats ≤ number
+pub past_settled : (participations : List (Option Participation)) (seats : List TagValue) (number : ℕ) → length participations ≡ length seats → length seats ≤ number
     → participation_at participations number ≡ participation_in (get_or (tags_of participations seats) number no_tag).state
 past_settled participations seats number same past =
     get_or_past participations number None (rw same past)
@@ -114,7 +114,7 @@ reseated session (Some (Waits own slot)) seat =
     ap (λ (s : StateValue). record seat { state = s }) (sym (with_slot_twice (if own == session then slot_below slot else slot) slot seat.state))
 reseated session (Some Called) seat = refl
 
-true_false : (b : Bool) → b ≡ true → b ≡ false → ⊥
+pub true_false : (b : Bool) → b ≡ true → b ≡ false → ⊥
 true_false true is none = cc
 true_false false is none = cc
 

@@ -82,6 +82,14 @@ back_rest back =
       settled = back.rest.settled ∙ ap (λ (l : List TagValue). participations_of l) (sym (back_tags back.participations back.items back.number back.rest.whole back.within));
     })
 
+-- the seats then
+abbrev pub items_back : WrittenBack → List TagValue
+items_back back = take back.len (back.new ++ drop (length back.new) back.items)
+
+-- ... and where one of them lends its tag and stays as it is
+pub back_same : (back : WrittenBack) (at : ℕ) (lender lent d : TagValue) → lender ≡ lent → lent ≡ get_or (items_back back) at d → set (items_back back) at lender ≡ items_back back
+back_same back at lender lent d kept is = ap (λ (t : TagValue). set (items_back back) at t) (kept ∙ is) ∙ set-get_or (items_back back) at d
+
 slice_at : (tags : List TagValue) (number : ℕ) (d : TagValue) → number < length tags → slice_get tags number ≡ Some (get_or tags number d)
 slice_at [] number d within = absurd (omega (arith, within))
 slice_at (tag ∷ tags) zero d within = refl

@@ -1,5 +1,7 @@
 pub mod AnswersTaken
 pub mod Seats
+pub mod Drawings
+pub mod LentSeats
 pub mod Hearing
 pub mod Lent
 pub mod Wheel

@@ -1,18 +1,17 @@
 -- Tags in their seats: a tag that waits for its slot has the slot counter that is told of it, in place of the one in its seat.
-use Rattle.std.proofs.Common.{◌≡◌, ◌≢◌, ℕ, ◌+◌, ◌*◌, ◌≤◌, ◌⊎◌, Bool, true, false, List, [], ◌∷◌, length, map, Option, Some, None, get_or, if◌then◌else◌}
+use Rattle.std.proofs.Common.{◌≡◌, ◌≢◌, ℕ, ◌+◌, ◌*◌, ◌<◌, ◌≤◌, ◌⊎◌, Bool, true, false, List, [], ◌∷◌, length, map, Option, Some, None, get_or, if◌then◌else◌}
 use Rattle.std.specs.Prelude.{slice_set}
 use Rattle.air_events.specs.TagNumbers.{most_tags}
 use Rattle.air_events.specs.declared.Entry.{Entry}
+use Rattle.command_fields.specs.declared.choices.UpDn.{UpDn}
 use Rattle.command_grammar.specs.declared.commands.Command.{Command}
-use Rattle.command_grammar.specs.declared.commands.Command.TheVariants as commands
 use Rattle.tag_machine.specs.TagValue.{StateValue, ReadyState, ArbitrateState, ReplyState, AcknowledgedState, OpenState, SecuredState, KilledState, UnpoweredState, TagValue, IsLegalTag}
 use Rattle.tag_machine.specs.Answers.{Outcome, silent}
 use Rattle.tag_machine.specs.Exchange.{AreLegalTags, outcome_unless, is_missed, tags_after}
+use Rattle.tag_machine.specs.Reach.{DrawsAgain}
 use Rattle.tag_population.specs.Hearing.{hearing_from}
 use Rattle.tag_population.specs.Seats.{no_tag}
 use Rattle.tag_population.specs.Waiting.{participation_at, is_called, waits_in, AreSlots}
-use Rattle.tag_population.specs.declared.population.Adjustment.{Adjustment}
-use Rattle.tag_population.specs.declared.population.Adjustment.TheVariants.{Adjusts, Other}
 use Rattle.tag_population.specs.declared.waiting.Participation.{Participation}
 use Rattle.tag_population.specs.declared.waiting.Participation.TheVariants.{Waits, Called}
 
@@ -84,11 +83,6 @@ pub record HearsSeated (command : Command) (misses : Bool) (number : ℕ) (parti
   pub participations_are : after ≡ slice_set participations number (participation_in (outcome_seated misses command number participations seats).tag.state)
   pub legal : IsLegalTag (outcome_seated misses command number participations seats).tag
 
--- a command is this QueryAdjust, where one is given
-abbrev pub IsAdjustmentOf : Adjustment → Command → Type 0
-IsAdjustmentOf (Adjusts session updn) command = command ≡ commands.QueryAdjust session updn
-IsAdjustmentOf Other command = Unit {0}
-
 -- how many steps it takes to write the slot counter of a tag back
 abbrev pub steps_back : Option Participation → ℕ
 steps_back None = 0
@@ -122,9 +116,26 @@ IsDueCalled session before after =
 abbrev pub AreUncalledSettled : List (Option Participation) → List TagValue → Type 0
 AreUncalledSettled participations tags = (number : ℕ) → participation_at participations number ≢ Some Called → participation_at participations number ≡ participation_in (get_or tags number no_tag).state
 
--- where the tag of a number takes no part, its state says so
-abbrev pub IsIdleSettled : ℕ → List (Option Participation) → List TagValue → Type 0
-IsIdleSettled number participations seats = participation_at participations number ≡ None → participation_in (get_or seats number no_tag).state ≡ None
+-- at a QueryAdjust of the session of its round a tag drew its slot again, or it was called
+abbrev pub IsDrawnOrCalled : ℕ → UpDn → TagValue → Option Participation → TagValue → Type 0
+IsDrawnOrCalled session updn tag after new = ((after ≡ Some Called) × (new ≡ tag)) ⊎ ((slot : ℕ) × (after ≡ Some (Waits session slot)) × DrawsAgain session updn tag slot new)
+
+-- ... where it waits in this session; else it is as it was
+abbrev pub IsAdjusted : ℕ → UpDn → Option Participation → TagValue → Option Participation → TagValue → Type 0
+IsAdjusted session updn before tag after new =
+    ((waits_in session before ≡ false) × (after ≡ before) × (new ≡ tag)) ⊎ ((waits_in session before ≡ true) × IsDrawnOrCalled session updn tag after new)
+
+abbrev pub AreAdjusted : ℕ → UpDn → List (Option Participation) → List TagValue → List (Option Participation) → List TagValue → Type 0
+AreAdjusted session updn participations tags after adjusted =
+    (number : ℕ) → number < length tags → IsAdjusted session updn (participation_at participations number) (get_or tags number no_tag) (participation_at after number) (get_or adjusted number no_tag)
+
+-- the tag of a number drew its slot again, or it was called, and the others are as they were
+pub record AdjustsOne (session : ℕ) (updn : UpDn) (number : ℕ) (participations : List (Option Participation)) (tags : List TagValue) (after : List (Option Participation)) (adjusted : List TagValue) : Type 0 where
+  pub participation : Option Participation
+  pub tag : TagValue
+  pub participations_are : after ≡ slice_set participations number participation
+  pub tags_are : adjusted ≡ slice_set tags number tag
+  pub is : IsDrawnOrCalled session updn (get_or tags number no_tag) participation tag
 
 -- tags were called for a command: what comes of it for all tags comes of it for those that are called
 pub record AreCalledFor (command : Command) (entry : Entry) (tags : List TagValue) (participations : List (Option Participation)) (seats : List TagValue) : Type 0 where

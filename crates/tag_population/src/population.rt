@@ -1,5 +1,5 @@
 //! Tags with numbers.
-ghost use Rattle.std.specs.Prelude.{◌≡◌, ℕ, ◌+◌, ◌*◌, ◌<◌, ◌≤◌, ◌++◌, true, false, if◌then◌else◌, List, [], All, Some, None, map, length, vec_len, slice_get, slice_set, IfOk};
+ghost use Rattle.std.specs.Prelude.{◌≡◌, ℕ, ◌+◌, ◌*◌, ◌<◌, ◌≤◌, ◌++◌, true, List, [], All, Some, None, map, length, vec_len, slice_get, slice_set, IfOk};
 ghost use Rattle.std.specs.Borrow.{sem};
 ghost use Rattle.air_events.specs.TagNumbers.{most_tags};
 ghost use Rattle.reply_grammar.specs.Table.{reply_room};
@@ -9,10 +9,11 @@ ghost use Rattle.tag_machine.specs.Exchange.{AreLegalTags, IsQueryRep, Replied, 
 ghost use Rattle.tag_population.specs.AnswersTaken.{TookFew};
 ghost use Rattle.tag_population.specs.Hearing.{hearing_from, tags_after_events};
 ghost use Rattle.tag_population.specs.Lent.{KeepsPopulation};
-ghost use Rattle.tag_population.specs.Seated.{AreAtRest, AreCalledFor, AreUncalledSettled, CallsTags, HearsAtRest, HearsSeated, IsDueCalled, IsIdleSettled, IsMissedCalled, called_in, IsAdjustmentOf, outcome_seated, outcomes_called, seats_written_back, participations_of, steps_back, tags_of};
+ghost use Rattle.tag_population.specs.Seated.{AdjustsOne, AreAtRest, AreCalledFor, AreUncalledSettled, CallsTags, HearsAtRest, HearsSeated, AreAdjusted, IsDueCalled, IsMissedCalled, called_in, outcome_seated, outcomes_called, seats_written_back, participations_of, steps_back, tags_of};
 ghost use Rattle.tag_population.specs.TagSets.{IsSetOf};
-ghost use Rattle.tag_population.specs.Waiting.{participation_at};
+ghost use Rattle.tag_population.specs.Waiting.{participation_at, waits_in};
 
+use crate::adjusting::Adjusting;
 use crate::answering::{AnswerTaker, hear, hear_when_called};
 use crate::seat::Seat;
 use crate::tag_set::TagSet;
@@ -170,7 +171,8 @@ fn seats_of(alloc: Global, tags: Vec<AnyTag>) -> Result<Vec<Seat>, OutOfMemory>
 {
     let mut seats = Vec::with_capacity(alloc, tags.len())?;
     for tag in tags {
-        seats.push_reserved(Seat::new(tag));
+        let seat = Seat::new(alloc, tag)?;
+        seats.push_reserved(seat);
     }
     Ok(seats)
 }
@@ -246,6 +248,9 @@ fn hear_at_rest<A: AnswerTaker, L: Ledger>(
     if let Command::QueryRep { session } = command {
         call_hearers(seats, waiting, *session, entry, steps);
         hear_called(seats, waiting, command, entry, missed, room, answers, steps);
+    } else if let Command::QueryAdjust { session, updn } = command {
+        adjust_waiting(seats, waiting, *session, *updn, entry, steps);
+        hear_called(seats, waiting, command, entry, missed, room, answers, steps);
     } else if reaches_waiting(command) {
         waiting.unlink();
         hear_all(seats, waiting, command, entry, missed, room, answers, steps);
@@ -271,6 +276,77 @@ fn call_hearers<L: Ledger>(
     call_missed(seats, waiting, session, entry, steps);
     call_due(seats, waiting, session, steps);
     waiting.count_down(session);
+}
+
+/// Lets the tags that wait in a session draw their slots again at its QueryAdjust, and calls those that draw 0, and those that miss it.
+fn adjust_waiting<L: Ledger>(
+    seats: &mut [Seat],
+    waiting: &mut Waiting,
+    session: Session,
+    updn: UpDn,
+    entry: &Entry,
+    steps: &mut Steps<L>,
+)
+    requires rest { AreAtRest waiting.old seats.old }
+    requires missed { All (λ tag. tag < length seats.old) entry.now.missed }
+    ensures called { AreCalledFor (Command.QueryAdjust session updn) entry.now (tags_of waiting.old seats.old) waiting.new seats.new }
+    ensures counted { steps.new ≤ steps.old + length seats.old }
+{
+    call_missed(seats, waiting, session, entry, steps);
+    waiting.unlink();
+    draw_all(seats, waiting, session, updn, steps);
+}
+
+/// Lets the tags that wait in a session draw their slots again, and calls those that draw 0.
+// Its loop over all tags stands apart, so that the registers are its own.
+#[inline(never)]
+fn draw_all<L: Ledger>(
+    seats: &mut [Seat],
+    waiting: &mut Waiting,
+    session: Session,
+    updn: UpDn,
+    steps: &mut Steps<L>,
+)
+    requires whole { length waiting.old ≡ length seats.old }
+    requires few { length seats.old ≤ most_tags }
+    requires legal { AreLegalTags seats.old }
+    ensures adjusted { AreAdjusted session updn waiting.old (tags_of waiting.old seats.old) waiting.new (tags_of waiting.new seats.new) }
+    ensures whole { length waiting.new ≡ length seats.new }
+    ensures counted { steps.new + called_in waiting.old ≤ steps.old + length waiting.old }
+    ensures legal { AreLegalTags seats.new }
+{
+    let mut adjusting = Adjusting::new(updn);
+    for at in 0..seats.len() {
+        let number = TagNumber::from_index(at);
+        if waiting.waits_in(number, session) {
+            draw_or_call(seats, waiting, number, session, &mut adjusting, steps);
+        }
+    }
+}
+
+/// Lets a tag that waits in a session draw its slot again, and calls it where it draws 0.
+#[inline(always)]
+fn draw_or_call<L: Ledger>(
+    seats: &mut [Seat],
+    waiting: &mut Waiting,
+    number: TagNumber,
+    session: Session,
+    adjusting: &mut Adjusting,
+    steps: &mut Steps<L>,
+)
+    requires whole { length waiting.old ≡ length seats.old }
+    requires number { number < length seats.old }
+    requires waits { waits_in session (participation_at waiting.old number) ≡ true }
+    ensures adjusts { AdjustsOne session adjusting.old number waiting.old (tags_of waiting.old seats.old) waiting.new (tags_of waiting.new seats.new) }
+    ensures same { adjusting.new ≡ adjusting.old }
+    ensures counted { steps.new ≤ steps.old + 1 }
+    ensures legal { AreLegalTags seats.old → AreLegalTags seats.new }
+{
+    let at = number.index();
+    match seats[at].draw_again(session, adjusting, steps) {
+        Some(slot) => waiting.wait_for(number, session, slot),
+        None => call(seats, waiting, number, steps),
+    }
 }
 
 /// Calls the tags that wait in a session and miss its QueryRep, so that they aren't counted down.
@@ -333,56 +409,13 @@ fn hear_all<A: AnswerTaker, L: Ledger>(
     ensures replies { A.took answers.old (replies_from 0 (hearing_from 0 command.now entry.now (tags_of waiting.old seats.old))) answers.new }
     ensures room { reply_room ≤ room.new.capacity }
 {
-    let adjustment = adjustment_of(command);
     for at in 0..seats.len() {
         let number = TagNumber::from_index(at);
         let misses = is_missed(number, entry, missed);
-        hear_seated(
-            seats,
-            waiting,
-            number,
-            misses,
-            command,
-            &adjustment,
-            room,
-            answers,
-            steps,
+        hear_written_back(
+            seats, waiting, number, misses, command, room, answers, steps,
         );
     }
-}
-
-/// Lets a tag hear a command, unless it misses it. It takes part afterwards as its state says.
-fn hear_seated<A: AnswerTaker, L: Ledger>(
-    seats: &mut [Seat],
-    waiting: &mut Waiting,
-    number: TagNumber,
-    misses: bool,
-    command: &Command,
-    adjustment: &Adjustment,
-    room: &mut Bits,
-    answers: &mut A,
-    steps: &mut Steps<L>,
-)
-    requires whole { length waiting.old ≡ length seats.old }
-    requires number { number < length seats.old }
-    requires legal { AreLegalTags seats.old }
-    requires idle { IsIdleSettled number waiting.old seats.old }
-    requires adjusts { IsAdjustmentOf adjustment.now command.now }
-    requires room { reply_room ≤ room.old.capacity }
-    requires few { TookFew A.took answers.old }
-    ensures heard { HearsSeated command.now misses number waiting.old seats.old waiting.new seats.new }
-    ensures took { (first : A) (replies : List Replied) → A.took first replies answers.old
-        → A.took first (replies ++ reply_of number (outcome_seated misses command.now number waiting.old seats.old).answer) answers.new }
-    ensures counted { steps.new ≤ steps.old + 2 }
-    ensures room { reply_room ≤ room.new.capacity }
-{
-    // At a QueryAdjust most tags take no part, or draw another slot and wait for it.
-    if adjust_in_place(seats, waiting, number, misses, adjustment, steps) {
-        return;
-    }
-    hear_written_back(
-        seats, waiting, number, misses, command, room, answers, steps,
-    );
 }
 
 /// Lets a tag hear a command, unless it misses it, once its slot counter is written back. It takes part afterwards as its state says.
@@ -413,64 +446,6 @@ fn hear_written_back<A: AnswerTaker, L: Ledger>(
     let seat = &mut seats[at];
     hear(seat, number, misses, command, room, answers, steps);
     waiting.put(number, seat.participation());
-}
-
-/// Whether a command is a QueryAdjust, and which.
-// A loop over all tags keeps this at hand: a command would be read again for each tag.
-#[derive(Clone, Copy)]
-enum Adjustment {
-    /// It is that of a session, and Q changes so.
-    Adjusts(Session, UpDn),
-    /// It is another command.
-    Other,
-}
-
-/// Whether a command is a QueryAdjust, and which.
-fn adjustment_of(command: &Command) -> Adjustment
-    ensures { IsAdjustmentOf result command.now }
-{
-    if let Command::QueryAdjust { session, updn } = command {
-        Adjustment::Adjusts(*session, *updn)
-    } else {
-        Adjustment::Other
-    }
-}
-
-/// Lets a tag hear a QueryAdjust where it takes no part, so that it stays as it is, or where it waits in this session, doesn't miss the command and
-/// draws another slot than 0. Answers whether it did; else all is as it was.
-#[inline(always)]
-fn adjust_in_place<L: Ledger>(
-    seats: &mut [Seat],
-    waiting: &mut Waiting,
-    number: TagNumber,
-    misses: bool,
-    adjustment: &Adjustment,
-    steps: &mut Steps<L>,
-) -> bool
-    requires whole { length waiting.old ≡ length seats.old }
-    requires number { number < length seats.old }
-    requires legal { AreLegalTags seats.old }
-    requires idle { IsIdleSettled number waiting.old seats.old }
-    ensures heard { result ≡ true → (command : Command) → IsAdjustmentOf adjustment.now command → HearsSeated command misses number waiting.old seats.old waiting.new seats.new }
-    ensures silent { result ≡ true → (command : Command) → IsAdjustmentOf adjustment.now command → (outcome_seated misses command number waiting.old seats.old).answer ≡ None }
-    ensures left { result ≡ false → (waiting.new ≡ waiting.old) × (seats.new ≡ seats.old) }
-    ensures counted { steps.new ≤ steps.old + (if result then 1 else 0) }
-{
-    let Adjustment::Adjusts(session, updn) = *adjustment else {
-        return false;
-    };
-    if !waiting.waits_in(number, session) {
-        return !waiting.takes_part(number);
-    }
-    if misses {
-        return false;
-    }
-    let at = number.index();
-    let Some(slot) = seats[at].draw_again(session, updn, steps) else {
-        return false;
-    };
-    waiting.wait_for(number, session, slot);
-    true
 }
 
 /// Lets each tag that is called hear a command, unless it misses it, in the order of their numbers. Each takes part

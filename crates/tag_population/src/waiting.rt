@@ -1,5 +1,5 @@
 //! Which tags wait for their slots, and which are called.
-ghost use Rattle.std.specs.Prelude.{◌≡◌, ◌↔◌, ℕ, ◌+◌, ◌<◌, ◌≤◌, true, false, Some, None, length, map, replicate, slice_set, IfOk};
+ghost use Rattle.std.specs.Prelude.{◌≡◌, ℕ, ◌+◌, ◌<◌, ◌≤◌, true, false, Some, None, length, map, replicate, slice_set, IfOk};
 ghost use Rattle.air_events.specs.TagNumbers.{most_tags};
 ghost use Rattle.tag_population.specs.Waiting.{AreSlots, IsDue, IsLegalParticipation, IsNextCalled, counted_down, slot_in, slot_place, participation_at, waits_in};
 
@@ -85,14 +85,6 @@ impl Waiting {
         ensures { result ≡ waits_in session (participation_at self.now number) }
     {
         self.tags.place_number(number) / SLOTS == usize::from(session.get())
-    }
-
-    /// Whether a tag takes part in a round.
-    pub(crate) fn takes_part(&self, number: TagNumber) -> bool
-        requires { number < length self.now }
-        ensures { (result ≡ false) ↔ (participation_at self.now number ≡ None) }
-    {
-        self.tags.place(number).is_some()
     }
 
     /// Lets a tag take part as is said.

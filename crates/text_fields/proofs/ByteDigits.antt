@@ -1,15 +1,12 @@
--- The digits of bytes, as the kit's `hex` reads and writes them.
-use Rattle.std.proofs.Common.{◌≡◌, ◌<◌, ◌^◌, ◌/◌, ◌%◌, ◌==◌, ◌&&◌, ℕ, zero, suc, Bool, true, List, [], ◌∷◌, length, slice_index, map, Result, Ok, inl, inr, arith, ap, sym, ◌∙◌, refl}
-use Rattle.std.specs.Char.{to_ascii_uppercase}
-use Rattle.std.specs.Int.{to_be_bytes, w16}
+-- The digits of bytes, as the kit's `hex` reads them.
+use Rattle.std.proofs.Common.{◌≡◌, ◌<◌, ◌^◌, ◌/◌, ◌%◌, ◌==◌, ◌&&◌, ℕ, zero, suc, Bool, true, List, [], ◌∷◌, length, slice_index, Result, Ok, inl, inr, arith, ap, sym, ◌∙◌, refl}
 use Rattle.std.specs.List.{AllPass, flat_map}
 use Rattle.std.specs.Result.{result_unwrap_or}
 use Rattle.std.proofs.lemmas.Bool.{and_parts, cases_lt, eqb-true}
-use Rattle.std.proofs.lemmas.List.{map-id}
-use Rattle.hex.specs.Hex.{IsBytes, decode_sized, encode_lower, encode_upper, encode_with, lower_digits, upper_digits}
+use Rattle.hex.specs.Hex.{IsBytes, decode_sized, encode_upper, encode_with, upper_digits}
 use Rattle.hex.specs.declared.error.FromHexError.{FromHexError}
 use Rattle.hex.proofs.HexLemmas.{decode_of-encode_upper, decode_sized-ok, decode_sized-twice, length-encode_with}
-use Rattle.text_fields.specs.Hexadecimal.{hex_byte, hex_digit, hex_word}
+use Rattle.text_fields.specs.Hexadecimal.{hex_byte, hex_digit}
 use Rattle.text_fields.specs.WordLists.{is_upper_hex_digit}
 use Rattle.text_fields.proofs.WordDigits.{one_byte}
 
@@ -29,42 +26,24 @@ agree_at f g (suc n) i agree below =
           rw last (eqb-true (f n) (g n) parts.0)
     ]
 
-lower_digit : (n : ℕ) → n < 16 → to_ascii_uppercase (slice_index lower_digits n) ≡ hex_digit n
-lower_digit n small = agree_at (λ n. to_ascii_uppercase (slice_index lower_digits n)) (λ n. hex_digit n) 16 n refl small
-
 upper_digit : (n : ℕ) → n < 16 → slice_index upper_digits n ≡ hex_digit n
 upper_digit n small = agree_at (λ n. slice_index upper_digits n) (λ n. hex_digit n) 16 n refl small
 
--- bytes in the digits of a table of which each is changed
-digits_changed : (change : ℕ → ℕ) (table : List ℕ) → ((n : ℕ) → n < 16 → change (slice_index table n) ≡ hex_digit n)
-    → (bytes : List ℕ) → IsBytes bytes → map change (encode_with table bytes) ≡ flat_map hex_byte bytes
+-- what is written of bytes in upper-case digits
+bytes_written : (bytes : List ℕ) → IsBytes bytes → encode_upper bytes ≡ flat_map hex_byte bytes
 unfolding encode_with
-digits_changed change table is [] small = refl
-digits_changed change table is (byte ∷ bytes) small =
+bytes_written [] small = refl
+bytes_written (byte ∷ bytes) small =
     let fits : byte < 256 = small 0 in
-    let high = is (byte / 16) (omega (arith, fits)) in
-    let low = is (byte % 16) (omega arith) in
-    rw (high, low, digits_changed change table is bytes (λ i. small (suc i))) refl
-
--- what is written in lower-case digits, in upper case
-pub bytes_written : (bytes : List ℕ) → IsBytes bytes → map to_ascii_uppercase (encode_lower bytes) ≡ flat_map hex_byte bytes
-bytes_written bytes small = digits_changed to_ascii_uppercase lower_digits lower_digit bytes small
-
--- the digits of words are those of their bytes
-pub words_written : (words : List ℕ) → ((i : ℕ) → slice_index words i < 2 ^ 16)
-    → flat_map hex_byte (flat_map (λ word. to_be_bytes w16 word) words) ≡ flat_map hex_word words
-words_written [] small = refl
-words_written (word ∷ words) small =
-    let fits : word < 2 ^ 16 = small 0 in
-    let high : word / 256 % 256 ≡ word / 256 = omega (arith, fits) in
-    rw (high, words_written words (λ i. small (suc i))) refl
+    let high = upper_digit (byte / 16) (omega (arith, fits)) in
+    let low = upper_digit (byte % 16) (omega arith) in
+    rw (high, low, bytes_written bytes (λ i. small (suc i))) refl
 
 -- the digits of bytes are read as these bytes
 bytes_read : (bytes : List ℕ) → IsBytes bytes → decode_sized (flat_map hex_byte bytes) (length bytes) ≡ Ok bytes
 bytes_read bytes small =
-    let digits : encode_upper bytes ≡ flat_map hex_byte bytes = sym (map-id (encode_upper bytes)) ∙ digits_changed (λ digit. digit) upper_digits upper_digit bytes small in
     let twice = decode_sized-twice (encode_upper bytes) (length bytes) (length-encode_with upper_digits bytes) in
-    rw digits at (twice ∙ decode_of-encode_upper bytes small)
+    rw (bytes_written bytes small) at (twice ∙ decode_of-encode_upper bytes small)
 
 one_fits : (byte : ℕ) → byte < 2 ^ 8 → IsBytes (byte ∷ [])
 one_fits byte small zero = small

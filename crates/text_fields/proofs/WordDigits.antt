@@ -4,12 +4,13 @@ use Rattle.std.specs.Prelude.{All, IfSome, None, Option, slice_get}
 use Rattle.std.specs.List.{AllPass, flat_map}
 use Rattle.std.specs.Simd.{first_chunks}
 use Rattle.std.proofs.lemmas.Bool.Decides.{nat_tests}
-use Rattle.std.proofs.lemmas.List.{append_assoc, append-nil, drop-drop, drop_all, get_or-take, take_all, take_more_set}
-use Rattle.std.proofs.lemmas.List.Elements.{All-append, All-cons, All-drop, All-head, All-nil, All-tail, All-take}
+use Rattle.std.proofs.lemmas.List.{append_assoc, append-nil, drop-drop, drop_all, take_all, take_more_set}
+use Rattle.std.proofs.lemmas.List.Elements.{All-append, All-cons, All-head, All-nil, All-tail}
 use Rattle.hex.specs.Hex.{hex_digit_value, is_hex_digit}
 use Rattle.text_fields.specs.Binary.{hyphen}
 use Rattle.text_fields.specs.Hexadecimal.{hex_byte, hex_digit, hex_word, hex_words}
 use Rattle.text_fields.specs.WordLists.{AreWordDigits, digit_number, is_upper_hex_digit, word_number, words_of_digits}
+use Rattle.text_fields.proofs.Groups.{group_at}
 
 -- the fact of `AllPass is_upper_hex_digit`
 abbrev IsDigit : ℕ → Type 0
@@ -29,7 +30,7 @@ number_small digit = grind (arith, nat_tests)
 number_back : (n : ℕ) → n < 16 → digit_number (hex_digit n) ≡ n
 number_back n small = grind (arith, nat_tests)
 
-hex_digit_is_digit : (n : ℕ) → n < 16 → IsDigit (hex_digit n)
+pub hex_digit_is_digit : (n : ℕ) → n < 16 → IsDigit (hex_digit n)
 hex_digit_is_digit n small = grind (arith, nat_tests)
 
 -- the four digits of four numbers below 16
@@ -174,21 +175,6 @@ word_numbers (a ∷ b ∷ c ∷ d ∷ []) four upper are =
     ap (λ (word : ℕ). word ∷ []) (omega (arith, first, second, third, fourth))
 word_numbers (a ∷ b ∷ c ∷ d ∷ e ∷ digits) four upper are = absurd (omega arith)
 
--- digits in groups of four: the group at a place
-group_at : (digits : List ℕ) (count at : ℕ) (default : List ℕ) → at < count → get_or (first_chunks 4 count digits) at default ≡ take 4 (drop (4 * at) digits)
-group_at digits zero at default within = absurd (omega arith)
-group_at digits (suc count) zero default within = refl
-group_at digits (suc count) (suc at) default within =
-    let place : 4 + 4 * at ≡ 4 * suc at = omega arith in
-    group_at (drop 4 digits) count at default (omega arith)
-    ∙ ap (λ (list : List ℕ). take 4 list) (drop-drop (4 * at) 4 digits ∙ ap (λ (n : ℕ). drop n digits) place)
-
-pub group_upper : (digits : List ℕ) (count at : ℕ) (default : List ℕ) → at < count → AllPass is_upper_hex_digit digits
-    → AllPass is_upper_hex_digit (get_or (first_chunks 4 count digits) at default)
-group_upper digits count at default within upper =
-    subst (λ list. AllPass is_upper_hex_digit list) (sym (group_at digits count at default within))
-    (All-take IsDigit 4 (drop (4 * at) digits) (All-drop IsDigit (4 * at) digits upper))
-
 -- the first word of digits is that of the first four
 front_word : (digits : List ℕ) (word : ℕ) → words_of_digits (take 4 digits) ≡ word ∷ [] → words_of_digits digits ≡ word ∷ words_of_digits (drop 4 digits)
 front_word [] word is = cc
@@ -202,15 +188,9 @@ pub group_word : (digits : List ℕ) (count at word : ℕ) (default : List ℕ) 
     → words_of_digits (drop (4 * at) digits) ≡ word ∷ words_of_digits (drop (4 * (at + 1)) digits)
 group_word digits count at word default within is =
     let place : 4 * at + 4 ≡ 4 * (at + 1) = omega arith in
-    let here : words_of_digits (take 4 (drop (4 * at) digits)) ≡ word ∷ [] = sym (ap words_of_digits (group_at digits count at default within)) ∙ is in
+    let here : words_of_digits (take 4 (drop (4 * at) digits)) ≡ word ∷ [] = sym (ap words_of_digits (group_at 4 digits count at default within)) ∙ is in
     front_word (drop (4 * at) digits) word here
     ∙ ap (λ (list : List ℕ). word ∷ words_of_digits list) (drop-drop 4 (4 * at) digits ∙ ap (λ (n : ℕ). drop n digits) place)
-
--- the group that stands at a place of as many groups as there is room for
-pub group_of : (digits : List ℕ) (groups : List (List ℕ)) (room at : ℕ) (default : List ℕ) → groups ≡ first_chunks 4 (length digits / 4) digits → at < room
-    → get_or (take room groups) at default ≡ get_or (first_chunks 4 (length digits / 4) digits) at default
-group_of digits groups room at default are within =
-    get_or-take room groups at default within ∙ ap (λ (list : List (List ℕ)). get_or list at default) are
 
 -- four digits less are a word less
 words_dropped : (digits : List ℕ) (at : ℕ) → words_of_digits (drop (4 * at) digits) ≡ drop at (words_of_digits digits)

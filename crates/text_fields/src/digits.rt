@@ -110,8 +110,7 @@ impl<'a> Digits<'a> {
     }
 }
 
-/// How many digits of a long list are written at once. `simdutf8` looks at 64 bytes in a step, and each call of it costs some
-/// steps more.
+/// How many digits of a long list are written at once.
 const PART: usize = 1024;
 
 /// How many digits a short list has at most. Less room is filled for it.

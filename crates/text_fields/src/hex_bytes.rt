@@ -1,7 +1,8 @@
 //! Bytes that are read as hexadecimal digits of either case.
-ghost use Rattle.std.specs.Prelude.{◌≡◌, ◌≤◌, ◌<◌, ◌↔◌, ℕ, true, List, length, IsTrue, IfSome, IsSomeAnd};
+ghost use Rattle.std.specs.Prelude.{◌≡◌, ◌≤◌, ◌<◌, ◌↔◌, ℕ, true, List, length, slice_index, IsTrue, IfSome, IsSomeAnd};
 ghost use Rattle.std.specs.List.{AllPass};
-ghost use Rattle.hex.specs.Hex.{decode_of, hex_digit_value, is_hex_digit};
+ghost use Rattle.hex.specs.Hex.{decode_of, hex_digit_value, is_hex_digit, pair_value};
+ghost use Rattle.text_fields.specs.Hexadecimal.{IsHexText, bytes_of_hex};
 
 use std::marker::Model;
 
@@ -52,6 +53,30 @@ pub(crate) fn digit_number(digit: u8) -> u8
     digit % 16 + 9 * (digit / 64)
 }
 
+/// The byte of two digits.
+fn byte_of(digits: &[u8; 2]) -> u8
+    requires { AllPass is_hex_digit digits.now }
+    ensures { (place : ℕ) → pair_value (slice_index digits.now 0) (slice_index digits.now 1) place ≡ Ok result }
+{
+    let high = digit_number(digits[0]);
+    let low = digit_number(digits[1]);
+    high * 16 + low
+}
+
+/// Writes the bytes that digits spell over `out`, which has room for exactly these.
+fn decode_digits(digits: &[u8], out: &mut [u8])
+    requires text { IsHexText digits.now }
+    requires room { length out.old ≡ length (bytes_of_hex digits.now) }
+    ensures { out.new ≡ bytes_of_hex digits.now }
+{
+    let (pairs, _) = digits.as_chunks::<2>();
+    // With as many pairs as places no index is looked at, and the compiler takes many pairs at once.
+    let pairs = &pairs[..out.len()];
+    for at in 0..out.len() {
+        out[at] = byte_of(&pairs[at]);
+    }
+}
+
 impl<'a> HexBytes<'a> {
     /// The bytes that a field spells; none exactly where the field doesn't spell from 1 to `most`
     /// bytes.
@@ -80,10 +105,6 @@ impl<'a> HexBytes<'a> {
         requires { length out.old ≡ length self.now }
         ensures { out.new ≡ self.now }
     {
-        for at in 0..out.len() {
-            let high = digit_number(self.digits[2 * at]);
-            let low = digit_number(self.digits[2 * at + 1]);
-            out[at] = high * 16 + low;
-        }
+        decode_digits(self.digits, out);
     }
 }

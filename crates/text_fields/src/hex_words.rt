@@ -1,5 +1,5 @@
 //! Words and bytes in hexadecimal digits.
-ghost use Rattle.std.specs.Prelude.{◌≡◌, ◌<◌, ◌≤◌, ◌*◌, ◌^◌, ◌++◌, ℕ, [], ◌∷◌, length, IfSome, OnOk};
+ghost use Rattle.std.specs.Prelude.{◌≡◌, ◌<◌, ◌≤◌, ◌*◌, ◌^◌, ◌++◌, ℕ, [], ◌∷◌, length, map, IfSome, OnOk};
 ghost use Rattle.std.specs.List.{AllPass, flat_map};
 ghost use Rattle.std.specs.String.{string_bytes};
 ghost use Rattle.text_fields.specs.Hexadecimal.{hex_byte, hex_digit, hex_word, hex_words};
@@ -33,32 +33,32 @@ pub fn word(field: &[u8]) -> Option<u16>
     words.first()
 }
 
-/// How many words are written at once.
-const PART: usize = 16;
-
-/// Writes the digits of bytes over others.
-fn write_bytes(bytes: &[u8], digits: &mut [u8])
-    requires { length digits.old ≡ 2 * length bytes.now }
-    ensures { digits.new ≡ flat_map hex_byte bytes.now }
+/// The upper-case hexadecimal digit of a number below 16.
+fn digit_of(number: u8) -> u8
+    requires { number < 16 }
+    ensures { result ≡ hex_digit number }
 {
-    match hex::encode_to_slice(bytes, digits) {
-        Ok(()) => digits.make_ascii_uppercase(),
-        // There is room for two digits of each byte.
-        Err(_) => unreachable!(),
+    if number < 10 {
+        b'0' + number
+    } else {
+        b'A' - 10 + number
     }
 }
 
-/// Writes the digits of words over others.
-fn write_words(words: &[u16], digits: &mut [u8])
-    requires part { length words.now ≤ PART }
-    requires room { length digits.old ≡ 4 * length words.now }
-    ensures { digits.new ≡ flat_map hex_word words.now }
+/// The digits of a byte.
+fn digits_of_byte(byte: u8) -> [u8; 2]
+    ensures { result ≡ hex_byte byte }
 {
-    let mut bytes = [0_u8; 2 * PART];
-    for (at, word) in words.iter().enumerate() {
-        bytes[2 * at..2 * at + 2].copy_from_slice(&word.to_be_bytes());
-    }
-    write_bytes(&bytes[..2 * words.len()], digits);
+    [digit_of(byte / 16), digit_of(byte % 16)]
+}
+
+/// The digits of a word.
+fn digits_of_word(word: u16) -> [u8; 4]
+    ensures { result ≡ hex_word word }
+{
+    let [first, second] = digits_of_byte((word / 256) as u8);
+    let [third, fourth] = digits_of_byte((word % 256) as u8);
+    [first, second, third, fourth]
 }
 
 /// Writes upper-case hexadecimal digits at the end of the text.
@@ -69,15 +69,28 @@ fn push_upper_hexadecimal(text: &mut String, digits: &[u8]) -> Result<(), OutOfM
     push_ascii(text, digits)
 }
 
+/// How many words are written at once.
+const PART: usize = 16;
+
 /// Writes at most [`PART`] words in hexadecimal digits at the end of the text.
 fn push_part(text: &mut String, words: &[u16]) -> Result<(), OutOfMemory>
     requires { length words.now ≤ PART }
     ensures { OnOk result (string_bytes text.new ≡ string_bytes text.old ++ flat_map hex_word words.now) }
 {
-    let mut room = [b'0'; 4 * PART];
-    let digits = &mut room[..4 * words.len()];
+    let mut room = [[b'0'; 4]; PART];
+    let digits = &mut room[..words.len()];
     write_words(words, digits);
-    push_upper_hexadecimal(text, digits)
+    push_upper_hexadecimal(text, digits.as_flattened())
+}
+
+/// Writes the digits of each word.
+fn write_words(words: &[u16], digits: &mut [[u8; 4]])
+    requires { length words.now ≡ length digits.old }
+    ensures { digits.new ≡ map hex_word words.now }
+{
+    for (at, word) in words.iter().enumerate() {
+        digits[at] = digits_of_word(*word);
+    }
 }
 
 /// Writes words in hexadecimal digits at the end of the text.
@@ -98,9 +111,7 @@ pub fn push_hex_digit(text: &mut String, value: u8) -> Result<(), OutOfMemory>
     requires { value < 16 }
     ensures { OnOk result (string_bytes text.new ≡ string_bytes text.old ++ hex_digit value ∷ []) }
 {
-    let mut digits = [b'0'; 2];
-    write_bytes(&[value], &mut digits);
-    push_upper_hexadecimal(text, &digits[1..])
+    text.push(char::from(digit_of(value)))
 }
 
 /// Writes a byte in two upper-case hexadecimal digits at the end of the text. After an error the text
@@ -108,9 +119,7 @@ pub fn push_hex_digit(text: &mut String, value: u8) -> Result<(), OutOfMemory>
 pub fn push_byte_hex(text: &mut String, byte: u8) -> Result<(), OutOfMemory>
     ensures { OnOk result (string_bytes text.new ≡ string_bytes text.old ++ hex_byte byte) }
 {
-    let mut digits = [b'0'; 2];
-    write_bytes(&[byte], &mut digits);
-    push_upper_hexadecimal(text, &digits)
+    push_upper_hexadecimal(text, &digits_of_byte(byte))
 }
 
 /// Writes a word in four upper-case hexadecimal digits at the end of the text. After an error the text
@@ -118,9 +127,7 @@ pub fn push_byte_hex(text: &mut String, byte: u8) -> Result<(), OutOfMemory>
 pub fn push_word(text: &mut String, word: u16) -> Result<(), OutOfMemory>
     ensures { OnOk result (string_bytes text.new ≡ string_bytes text.old ++ hex_word word) }
 {
-    let mut digits = [b'0'; 4];
-    write_bytes(&word.to_be_bytes(), &mut digits);
-    push_upper_hexadecimal(text, &digits)
+    push_upper_hexadecimal(text, &digits_of_word(word))
 }
 
 /// Writes words in hexadecimal digits without anything between them, or a hyphen for none, at the end

@@ -4,7 +4,7 @@ ghost use Rattle.std.specs.String.{string_bytes};
 ghost use Rattle.std.specs.Fmt.{decimal};
 
 use bit_strings::OutOfMemory;
-use std::fmt::Write;
+use itoa::Buffer;
 
 /// Whether a field begins as a number does: with a digit that is not a leading zero.
 #[tactic(auto, using(crate::proofs::DecimalDigits::decimal_starts))]
@@ -43,8 +43,7 @@ pub fn number(field: &[u8], most: u32) -> Option<u32>
 pub fn push_number(text: &mut String, number: u32) -> Result<(), OutOfMemory>
     ensures { OnOk result (string_bytes text.new ≡ string_bytes text.old ++ decimal number) }
 {
-    write!(text, "{number}")?;
-    Ok(())
+    text.push_str(Buffer::new().format(number))
 }
 
 /// Writes a number of 64 bits in decimal digits, without leading zeros, at the end of the text. After an
@@ -52,6 +51,5 @@ pub fn push_number(text: &mut String, number: u32) -> Result<(), OutOfMemory>
 pub fn push_long_number(text: &mut String, value: u64) -> Result<(), OutOfMemory>
     ensures { OnOk result (string_bytes text.new ≡ string_bytes text.old ++ decimal value) }
 {
-    write!(text, "{value}")?;
-    Ok(())
+    text.push_str(Buffer::new().format(value))
 }

@@ -70,7 +70,7 @@ fn has_block<C: LineCode>(mark: C::Mark, bit: bool, text: &str) -> bool {
 
 /// Whether the blocks of 1, 0, 1 and 0 behind a mark begin with these levels.
 fn has_four_blocks<C: LineCode>(mark: C::Mark, one: &str, zero: &str) -> bool {
-    let (levels, _) = C::four_blocks(mark, &[true, false, true, false]);
+    let (levels, _) = C::four_blocks(mark, 0b1010);
     let chips = C::CHIPS as usize;
     levels.len() == 4 * chips
         && shows(one, &levels[..chips])

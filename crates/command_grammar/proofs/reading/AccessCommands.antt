@@ -1,22 +1,25 @@
--- A Req_RN and an Access, taken apart at fixed places.
-use Rattle.std.proofs.Common.{◌≡◌, ℕ, ◌<◌, ◌≤◌, ◌^◌, Bool, List, [], ◌++◌, length, take, drop, sym, ap, subst, ◌∙◌, append-nil, arith}
-use Rattle.std.proofs.lemmas.List.{take-append-drop, length-take-le, length-drop}
+-- Access commands, taken apart at fixed places.
+use Rattle.std.proofs.Common.{◌≡◌, ℕ, ◌-◌, ◌<◌, ◌≤◌, ◌^◌, Bool, false, List, [], ◌∷◌, ◌++◌, length, take, drop, slice_index_or, refl, sym, ap, subst, ◌∙◌, append_assoc, append-nil, arith}
+use Rattle.std.proofs.lemmas.List.{take-append-drop, take_all, length-take-le, length-drop}
 use Rattle.bit_strings.specs.Numbers.{value_of, field_of}
 use Rattle.bit_strings.specs.laws.Numbers.{field_of-value_of, value_of-below}
+use Rattle.bit_strings.specs.Ebv.{ebv_of}
+use Rattle.bit_strings.specs.laws.Ebv.{ebv_of-one}
 use Rattle.gen2_crc.specs.Crc.{crc16_of}
 use Rattle.gen2_crc.specs.laws.CheckNumbers.{field_of-crc16}
+use Rattle.command_fields.specs.declared.choices.Bank.{Bank}
 use Rattle.command_grammar.specs.declared.commands.Command.TheVariants as commands
 use Rattle.command_grammar.specs.declared.kinds.CommandKind.TheVariants as kinds
 use Rattle.command_grammar.specs.declared.refusal.Reason.TheVariants as reasons
-use Rattle.command_grammar.specs.Commands.{Part, bits_of, code_field, plain_field, named_field, with_crc16, SpellsCommand}
+use Rattle.command_grammar.specs.Commands.{Part, bits_of, code_field, plain_field, named_field, with_crc16, bits_of_bank, IsLegalCommand, SpellsCommand}
 use Rattle.command_grammar.proofs.reading.FieldsInOrder.{bits_of-append}
 
 -- bits are the field of their number
-field_is : (bits : List Bool) (number width : ℕ) → number ≡ value_of bits → length bits ≡ width → bits ≡ field_of number width
+pub field_is : (bits : List Bool) (number width : ℕ) → number ≡ value_of bits → length bits ≡ width → bits ≡ field_of number width
 field_is bits number width is wide = sym (ap (λ n. field_of n width) is ∙ ap (λ n. field_of (value_of bits) n) (sym wide) ∙ field_of-value_of bits)
 
 -- ... which is below two to their number
-below : (bits : List Bool) (number width : ℕ) → number ≡ value_of bits → length bits ≡ width → number < 2 ^ width
+pub below : (bits : List Bool) (number width : ℕ) → number ≡ value_of bits → length bits ≡ width → number < 2 ^ width
 below bits number width is wide = subst (λ n. n < 2 ^ width) (sym is) (subst (λ n. value_of bits < 2 ^ n) wide (value_of-below bits))
 
 -- what is before a check number, and the check number
@@ -59,3 +62,83 @@ spells_access bits message covered rn ends code long is_covered is_rn =
           (sym (take-append-drop 16 fields) ∙ ap (λ (l : List Bool). l ++ drop 16 fields) (field_is (take 16 fields) covered 16 is_covered first)
           ∙ ap (λ (l : List Bool). field_of covered 16 ++ l) (field_is (drop 16 fields) rn 16 is_rn second ∙ sym (append-nil (field_of rn 16)))));
     }
+
+-- an extension bit that is 0 and seven bits are a pointer of one block
+pub one_block : (digit : List Bool) (number : ℕ) → number ≡ value_of digit → length digit ≡ 7 → false ∷ digit ≡ ebv_of number
+one_block digit number is wide =
+    ap (λ (l : List Bool). false ∷ l) (field_is digit number 7 is wide) ∙ sym (ebv_of-one number (below digit number 7 is wide))
+
+-- a list of at least three bits, of which the third is known
+first_three : (bits : List Bool) (third : Bool) → 3 ≤ length bits → slice_index_or bits 2 false ≡ third → bits ≡ slice_index_or bits 0 false ∷ slice_index_or bits 1 false ∷ third ∷ drop 3 bits
+first_three [] third some is = absurd (omega (arith, some))
+first_three (a ∷ []) third some is = absurd (omega (arith, some))
+first_three (a ∷ b ∷ []) third some is = absurd (omega (arith, some))
+first_three (a ∷ b ∷ c ∷ rest) third some is = ap (λ (bit : Bool). a ∷ b ∷ bit ∷ rest) is
+
+-- two bits are a bank, and the others a pointer of one block
+pub one_place : (bits : List Bool) (bank : Bank) (pointer : ℕ) → length bits ≡ 10 → bits_of_bank bank ≡ slice_index_or bits 0 false ∷ slice_index_or bits 1 false ∷ []
+    → slice_index_or bits 2 false ≡ false → pointer ≡ value_of (take (length bits - 3) (drop 3 bits)) → bits ≡ bits_of_bank bank ++ ebv_of pointer
+one_place bits bank pointer long is_bank is_last is_pointer =
+    let whole : take (length bits - 3) (drop 3 bits) ≡ drop 3 bits = take_all (length bits - 3) (drop 3 bits) (omega (arith, length-drop 3 bits)) in
+    let digit : length (drop 3 bits) ≡ 7 = omega (arith, long, length-drop 3 bits) in
+    first_three bits false (omega (arith, long)) is_last
+    ∙ ap (λ (l : List Bool). slice_index_or bits 0 false ∷ slice_index_or bits 1 false ∷ l) (one_block (drop 3 bits) pointer (is_pointer ∙ ap (λ (l : List Bool). value_of l) whole) digit)
+    ∙ ap (λ (l : List Bool). l ++ ebv_of pointer) (sym is_bank)
+
+pub one_place_small : (bits : List Bool) (pointer : ℕ) → length bits ≡ 10 → pointer ≡ value_of (take (length bits - 3) (drop 3 bits)) → pointer < 128
+one_place_small bits pointer long is =
+    let digit : List Bool = take (length bits - 3) (drop 3 bits) in
+    let whole : digit ≡ drop 3 bits = take_all (length bits - 3) (drop 3 bits) (omega (arith, length-drop 3 bits)) in
+    below digit pointer 7 is (ap (λ (l : List Bool). length l) whole ∙ omega (arith, long, length-drop 3 bits))
+
+-- fields taken apart at one place
+pub two_fields : (fields first second : List Bool) (width : ℕ) → take width fields ≡ first → drop width fields ≡ second → fields ≡ first ++ second
+two_fields fields first second width front behind =
+    sym (take-append-drop width fields) ∙ ap (λ (l : List Bool). l ++ drop width fields) front ∙ ap (λ (l : List Bool). first ++ l) behind
+
+-- fields of which the first is a bank and a pointer, taken apart
+pub three_fields : (fields bank pointer second third : List Bool) (width : ℕ) → take 10 fields ≡ bank ++ pointer → take width (drop 10 fields) ≡ second → drop width (drop 10 fields) ≡ third
+    → fields ≡ bank ++ (pointer ++ (second ++ (third ++ [])))
+three_fields fields bank pointer second third width place middle last =
+    two_fields fields (bank ++ pointer) (second ++ (third ++ [])) 10 place (two_fields (drop 10 fields) second (third ++ []) width middle (last ∙ sym (append-nil third)))
+    ∙ append_assoc bank pointer (second ++ (third ++ []))
+
+-- a Read, its fields behind its code
+pub spells_read : (message : List Bool) (bank : Bank) (pointer count rn : ℕ) → IsLegalCommand (commands.Read bank pointer count rn) → 8 ≤ length message → value_of (take 8 message) ≡ 194
+    → drop 8 message ≡ bits_of_bank bank ++ (ebv_of pointer ++ (field_of count 8 ++ (field_of rn 16 ++ []))) → SpellsCommand (commands.Read bank pointer count rn) (message ++ crc16_of message)
+unfolding field_of
+spells_read message bank pointer count rn legal some code fields = record {
+  legal = legal;
+  spelled = with_check (message ++ crc16_of message) message (code_field kinds.Read ++ plain_field (bits_of_bank bank) ++ named_field reasons.Ebv (ebv_of pointer) ++ plain_field (field_of count 8) ++ plain_field (field_of rn 16)) refl
+      (coded message (bits_of_bank bank ++ (ebv_of pointer ++ (field_of count 8 ++ (field_of rn 16 ++ [])))) 194 some code fields);
+}
+
+-- a Write, its fields behind its code
+pub spells_write : (message : List Bool) (bank : Bank) (pointer covered rn : ℕ) → IsLegalCommand (commands.Write bank pointer covered rn) → 8 ≤ length message → value_of (take 8 message) ≡ 195
+    → drop 8 message ≡ bits_of_bank bank ++ (ebv_of pointer ++ (field_of covered 16 ++ (field_of rn 16 ++ []))) → SpellsCommand (commands.Write bank pointer covered rn) (message ++ crc16_of message)
+unfolding field_of
+spells_write message bank pointer covered rn legal some code fields = record {
+  legal = legal;
+  spelled = with_check (message ++ crc16_of message) message (code_field kinds.Write ++ plain_field (bits_of_bank bank) ++ named_field reasons.Ebv (ebv_of pointer) ++ plain_field (field_of covered 16) ++ plain_field (field_of rn 16)) refl
+      (coded message (bits_of_bank bank ++ (ebv_of pointer ++ (field_of covered 16 ++ (field_of rn 16 ++ [])))) 195 some code fields);
+}
+
+-- a BlockErase, its fields behind its code
+pub spells_block_erase : (message : List Bool) (bank : Bank) (pointer count rn : ℕ) → IsLegalCommand (commands.BlockErase bank pointer count rn) → 8 ≤ length message → value_of (take 8 message) ≡ 200
+    → drop 8 message ≡ bits_of_bank bank ++ (ebv_of pointer ++ (field_of count 8 ++ (field_of rn 16 ++ []))) → SpellsCommand (commands.BlockErase bank pointer count rn) (message ++ crc16_of message)
+unfolding field_of
+spells_block_erase message bank pointer count rn legal some code fields = record {
+  legal = legal;
+  spelled = with_check (message ++ crc16_of message) message (code_field kinds.BlockErase ++ plain_field (bits_of_bank bank) ++ named_field reasons.Ebv (ebv_of pointer) ++ named_field reasons.Count (field_of count 8) ++ plain_field (field_of rn 16)) refl
+      (coded message (bits_of_bank bank ++ (ebv_of pointer ++ (field_of count 8 ++ (field_of rn 16 ++ [])))) 200 some code fields);
+}
+
+-- a Lock, its fields behind its code
+pub spells_lock : (message : List Bool) (payload rn : ℕ) → IsLegalCommand (commands.Lock payload rn) → 8 ≤ length message → value_of (take 8 message) ≡ 197
+    → drop 8 message ≡ field_of payload 20 ++ (field_of rn 16 ++ []) → SpellsCommand (commands.Lock payload rn) (message ++ crc16_of message)
+unfolding field_of
+spells_lock message payload rn legal some code fields = record {
+  legal = legal;
+  spelled = with_check (message ++ crc16_of message) message (code_field kinds.Lock ++ plain_field (field_of payload 20) ++ plain_field (field_of rn 16)) refl
+      (coded message (field_of payload 20 ++ (field_of rn 16 ++ [])) 197 some code fields);
+}

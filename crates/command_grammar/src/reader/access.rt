@@ -1,15 +1,19 @@
-//! The two access commands with which most operations begin, read at once: their fields have fixed places.
-ghost use Rattle.std.specs.Prelude.{◌≡◌, ◌++◌, true, IfSome};
+//! The access commands whose fields have fixed places, read at once.
+ghost use Rattle.std.specs.Prelude.{◌≡◌, ◌<◌, ◌++◌, true, length, IfSome};
+ghost use Rattle.bit_strings.specs.Ebv.{ebv_of};
 ghost use Rattle.gen2_crc.specs.Crc.{crc16_of};
-ghost use Rattle.command_grammar.specs.Commands.{IsFinishAnswer};
+ghost use Rattle.command_grammar.specs.Commands.{IsFinishAnswer, bits_of_bank};
 
+use crate::choices::bank_of;
 use crate::commands::Command;
+use crate::reader::fields::{count_of, payload_of, pointer_of};
 use crate::refusal::CommandRefusal;
-use bit_strings::{value_of_bits, word_of};
+use bit_strings::{Pointer, value_of_bits, word_of};
+use command_fields::Bank;
 use gen2_crc::crc16_of_bits;
 
-/// Puts the Req_RN (6.3.2.11.3.1) or the Access (6.3.2.11.3.6) that these bits are in place of another answer, and gives
-/// whether they are one. Else the answer is as it was.
+/// Puts the access command (6.3.2.11.3) that these bits are in place of another answer, and gives whether they are one, but
+/// for a Kill, a BlockWrite and pointers of more than one block. Else the answer is as it was.
 pub(crate) fn decode_access_to(bits: &[bool], answer: &mut Result<Command, CommandRefusal>) -> bool
     ensures { result ≡ true → IsFinishAnswer answer.new bits.now }
 {
@@ -38,6 +42,65 @@ pub(crate) fn decode_access_to(bits: &[bool], answer: &mut Result<Command, Comma
             *answer = Ok(Command::Access { covered, rn });
             true
         }
+        (0b1100_0010, 34) => {
+            let (first, behind) = fields.split_at(10);
+            let Some(place) = place_of(first) else {
+                return false;
+            };
+            let (words, last) = behind.split_at(8);
+            let count = value_of_bits(words) as u8;
+            let rn = word_of(last);
+            *answer = Ok(Command::Read {
+                bank: place.0,
+                pointer: place.1,
+                count,
+                rn,
+            });
+            true
+        }
+        (0b1100_0011, 42) => {
+            let (first, behind) = fields.split_at(10);
+            let Some(place) = place_of(first) else {
+                return false;
+            };
+            let (word, last) = behind.split_at(16);
+            let covered = word_of(word);
+            let rn = word_of(last);
+            *answer = Ok(Command::Write {
+                bank: place.0,
+                pointer: place.1,
+                covered,
+                rn,
+            });
+            true
+        }
+        (0b1100_0101, 36) => {
+            let (first, last) = fields.split_at(20);
+            let payload = payload_of(value_of_bits(first));
+            let rn = word_of(last);
+            *answer = Ok(Command::Lock { payload, rn });
+            true
+        }
+        (0b1100_1000, 34) => {
+            let (first, behind) = fields.split_at(10);
+            let Some(place) = place_of(first) else {
+                return false;
+            };
+            let (words, last) = behind.split_at(8);
+            let number = value_of_bits(words);
+            if number == 0 {
+                return false;
+            }
+            let count = count_of(number);
+            let rn = word_of(last);
+            *answer = Ok(Command::BlockErase {
+                bank: place.0,
+                pointer: place.1,
+                count,
+                rn,
+            });
+            true
+        }
         _ => false,
     }
 }
@@ -55,4 +118,22 @@ fn message_of(bits: &[bool]) -> Option<&[bool]>
         return None;
     }
     Some(message)
+}
+
+/// The bank and the pointer that ten bits are, the pointer in one block (Annex A); none where another block follows.
+#[inline]
+fn place_of(bits: &[bool]) -> Option<(Bank, Pointer)>
+    requires { length bits.now ≡ 10 }
+    ensures spelled { IfSome result (λ place. bits.now ≡ bits_of_bank place.0 ++ ebv_of place.1) }
+    ensures small { IfSome result (λ place. place.1 < 128) }
+{
+    let [first, second, more, digit @ ..] = bits else {
+        return None;
+    };
+    if *more {
+        return None;
+    }
+    let bank = bank_of(*first, *second);
+    let pointer = pointer_of(value_of_bits(digit));
+    Some((bank, pointer))
 }

@@ -22,7 +22,24 @@ pub fn decode_command_to(bits: &[bool], answer: &mut Result<Command, CommandRefu
     if decode_access_to(bits, answer) {
         return;
     }
+    decode_by_fields_to(bits, answer);
+}
+
+/// Puts in place of another answer the command that these bits are, or why they are none, read field after field. It
+/// stands alone, so that room for a mask and for words is made ready for no other command.
+#[inline(never)]
+fn decode_by_fields_to(bits: &[bool], answer: &mut Result<Command, CommandRefusal>)
+    ensures { IsFinishAnswer answer.new bits.now }
+{
     let mut state = State::new();
-    let refused = state.take_all(bits);
-    state.finish(refused, answer);
+    let mut at = state.take_run(bits);
+    while at < bits.len() {
+        let place = state.pushed;
+        if let Some(reason) = state.take_edge(bits[at]) {
+            state.finish(Some((place, reason)), answer);
+            return;
+        }
+        at += 1 + state.take_run(&bits[at + 1..]);
+    }
+    state.finish(None, answer);
 }

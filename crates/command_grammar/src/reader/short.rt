@@ -1,12 +1,11 @@
 //! The two commands of which a round has most, whose one field has a fixed place.
-ghost use Rattle.std.specs.Prelude.{◌≡◌, true, Ok};
-ghost use Rattle.command_grammar.specs.declared.commands.Command.TheVariants.{QueryRep};
+ghost use Rattle.std.specs.Prelude.{◌≡◌, true};
 ghost use Rattle.command_grammar.specs.Commands.{IsFinishAnswer};
 
 use crate::commands::Command;
 use crate::reader::fields::session_of;
 use crate::refusal::CommandRefusal;
-use bit_strings::{Session, value_of_bits, word_of};
+use bit_strings::{value_of_bits, word_of};
 
 /// Puts the QueryRep (6.3.2.11.2.3) or the ACK (6.3.2.11.2.4) that these bits are in place of another answer, and gives
 /// whether they are one. Else the answer is as it was.
@@ -23,7 +22,11 @@ pub(crate) fn decode_short_to(bits: &[bool], answer: &mut Result<Command, Comman
     match (*second, field.len()) {
         (false, 2) => {
             let session = session_of(value_of_bits(field));
-            put_query_rep(answer, session);
+            // Most often the other answer is a QueryRep too, and has its session changed alone.
+            match answer {
+                Ok(Command::QueryRep { session: last }) => *last = session,
+                _ => *answer = Ok(Command::QueryRep { session }),
+            }
             true
         }
         (true, 16) => {
@@ -31,16 +34,5 @@ pub(crate) fn decode_short_to(bits: &[bool], answer: &mut Result<Command, Comman
             true
         }
         _ => false,
-    }
-}
-
-/// Puts a QueryRep in place of another answer. Most often that is a QueryRep too, and has its session changed alone.
-#[inline]
-fn put_query_rep(answer: &mut Result<Command, CommandRefusal>, session: Session)
-    ensures { answer.new ≡ Ok (QueryRep session) }
-{
-    match answer {
-        Ok(Command::QueryRep { session: last }) => *last = session,
-        _ => *answer = Ok(Command::QueryRep { session }),
     }
 }

@@ -187,22 +187,4 @@ impl State {
             },
         }
     }
-
-    /// StateStandsFor for these bits, or gives the first one with which no command goes on.
-    #[inline(always)]
-    pub(crate) fn take_all(&mut self, bits: &[bool]) -> Option<(u32, Reason)>
-        requires nothing { StateStandsFor self.old [] }
-        requires sound { IsSoundPosition self.old.position self.old.fields }
-        ensures { Keeps self.new result bits.now }
-    {
-        let mut at = self.take_run(bits);
-        while at < bits.len() {
-            let place = self.pushed;
-            if let Some(reason) = self.take_edge(bits[at]) {
-                return Some((place, reason));
-            }
-            at += 1 + self.take_run(&bits[at + 1..]);
-        }
-        None
-    }
 }

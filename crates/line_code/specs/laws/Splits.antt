@@ -1,5 +1,5 @@
 -- How blocks and fronts of blocks join and part.
-use Rattle.std.proofs.Common.{◌≡◌, ℕ, ◌+◌, ◌<◌, ◌↔◌, Bool, true, false, List, [], ◌∷◌, ◌++◌, length, take, get_or, Some, slice_get, refl, sym, ap, ◌∙◌, arith, append_assoc}
+use Rattle.std.proofs.Common.{◌≡◌, ℕ, ◌+◌, ◌<◌, ◌↔◌, Bool, true, List, [], ◌∷◌, ◌++◌, length, take, Some, slice_get, refl, sym, ap, ◌∙◌, arith, append_assoc}
 use Rattle.std.proofs.lemmas.List.{take_more, same_from_push}
 use Rattle.std.proofs.lemmas.Option.{get_or_from_slice_get, slice_get-get_or}
 use Rattle.line_code.specs.Table.{Context, Table}
@@ -41,12 +41,3 @@ front_more part block level n is l =
       λ (f, g). ap (λ ls. ls ++ level ∷ []) f ∙ ap (λ x. take n block ++ x ∷ []) (sym (get_or_from_slice_get block n level true g)) ∙ sym more,
       λ e. let same = same_from_push part (take n block) level _ (e ∙ more) in (same.0, slice_get-get_or block n true l ∙ ap Some (sym same.1)),
     )
-
--- four bits, one by one
-pub four_bits : (bits : List Bool) → length bits ≡ 4 → bits ≡ get_or bits 0 false ∷ get_or bits 1 false ∷ get_or bits 2 false ∷ get_or bits 3 false ∷ []
-four_bits [] e = absurd (omega arith)
-four_bits (a ∷ []) e = absurd (omega arith)
-four_bits (a ∷ b ∷ []) e = absurd (omega arith)
-four_bits (a ∷ b ∷ c ∷ []) e = absurd (omega arith)
-four_bits (a ∷ b ∷ c ∷ d ∷ []) e = refl
-four_bits (a ∷ b ∷ c ∷ d ∷ x ∷ more) e = absurd (omega arith)

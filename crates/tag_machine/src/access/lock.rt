@@ -15,6 +15,7 @@ use std::sync::ledger::Ledger;
 
 impl AnyTag {
     /// Lock, in each state.
+    #[inline(never)]
     pub(crate) fn lock(self, payload: Payload, rn: u16, out: &mut Bits) -> Heard
         requires room { reply_room ≤ out.old.capacity }
         ensures { GivesOutcome (lock payload rn (tag_value_of self).state (tag_value_of self).body) result out.old out.new }

@@ -10,10 +10,12 @@ use crate::steps::Steps;
 use crate::tag::Tag;
 use bit_strings::{Bits, Count1, Pointer};
 use command_grammar::{Bank, BlockWords};
+use reply_grammar::Reply;
 use std::sync::ledger::Ledger;
 
 impl AnyTag {
     /// Read, in each state.
+    #[inline(never)]
     pub(crate) fn read(
         self,
         bank: Bank,
@@ -27,7 +29,9 @@ impl AnyTag {
     {
         match self.heeding(rn, None, out) {
             Ok(tag) => {
-                let reply = tag.body.read(tag.level, bank, pointer, count);
+                let mut reply = Reply::Header;
+                tag.body
+                    .read_to(tag.level, bank, pointer, count, &mut reply);
                 tag.answer(&reply, out)
             }
             Err(heard) => heard,
@@ -35,6 +39,7 @@ impl AnyTag {
     }
 
     /// Write, in each state.
+    #[inline(never)]
     pub(crate) fn write(
         self,
         bank: Bank,
@@ -59,6 +64,7 @@ impl AnyTag {
     }
 
     /// BlockWrite, in each state.
+    #[inline(never)]
     pub(crate) fn block_write(
         self,
         bank: Bank,
@@ -80,6 +86,7 @@ impl AnyTag {
     }
 
     /// BlockErase, in each state.
+    #[inline(never)]
     pub(crate) fn block_erase(
         self,
         bank: Bank,

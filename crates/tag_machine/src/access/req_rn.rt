@@ -68,6 +68,7 @@ impl TagWithHandle {
 
 impl AnyTag {
     /// Req_RN, in each state.
+    #[inline(never)]
     pub(crate) fn req_rn(self, rn: u16, out: &mut Bits) -> Heard
         requires room { reply_room ≤ out.old.capacity }
         ensures { GivesOutcome (req_rn rn (tag_value_of self).state (tag_value_of self).body) result out.old out.new }

@@ -1,5 +1,6 @@
 //! What the access commands do with a tag's memory and locks.
-ghost use Rattle.std.specs.Prelude.{◌≡◌, [], ◌∷◌};
+ghost use Rattle.std.specs.Prelude.{◌≡◌, ℕ, List, [], ◌∷◌, Ok, Err, OnOk, IfErr};
+ghost use Rattle.reply_grammar.specs.declared.expected.Reply.TheVariants.{Words};
 ghost use Rattle.reply_grammar.specs.Table.{CanBeSent};
 ghost use Rattle.lock_rules.specs.Lock.{locks_after};
 ghost use Rattle.tag_memory.specs.Access.{words_read, banks_after_write, banks_after_erase};
@@ -9,24 +10,46 @@ ghost use Rattle.tag_machine.specs.Access.{has_user, read_answer, change_answer,
 use super::Body;
 use bit_strings::{Count1, Payload, Pointer};
 use command_grammar::{Bank, BlockWords};
-use lock_rules::Level;
+use lock_rules::{ErrorCode, Level};
 use reply_grammar::{ReadWords, Reply};
 
 impl Body {
-    /// What a Read answers: the words, or an error.
-    pub fn read(&self, level: Level, bank: Bank, pointer: Pointer, count: u8) -> Reply
-        ensures value { result ≡ read_answer (words_read self.now.memory self.now.locks level bank pointer count) }
-        ensures sendable { CanBeSent result }
-        ensures few { HasFewWords result }
+    /// Puts what a Read answers in place of another reply: the words, or an error.
+    pub fn read_to(&self, level: Level, bank: Bank, pointer: Pointer, count: u8, reply: &mut Reply)
+        ensures value { reply.new ≡ read_answer (words_read self.now.memory self.now.locks level bank pointer count) }
+        ensures sendable { CanBeSent reply.new }
+        ensures few { HasFewWords reply.new }
     {
-        let mut words = ReadWords::new();
+        match self.read_words(level, bank, pointer, count, reply) {
+            Ok(()) => {}
+            Err(code) => *reply = Reply::Error(code.code()),
+        }
+    }
+
+    /// Puts the words of a Read in place of another reply. They are copied once, to where they stand in it. Where the Read is refused,
+    /// nothing is known of the reply.
+    fn read_words(
+        &self,
+        level: Level,
+        bank: Bank,
+        pointer: Pointer,
+        count: u8,
+        reply: &mut Reply,
+    ) -> Result<(), ErrorCode>
+        ensures ok { OnOk result ((words : List ℕ) × (reply.new ≡ Words words) × (words_read self.now.memory self.now.locks level bank pointer count ≡ Ok words)) }
+        ensures some { OnOk result (CanBeSent reply.new) }
+        ensures few { OnOk result (HasFewWords reply.new) }
+        ensures err { IfErr result (λ code. words_read self.now.memory self.now.locks level bank pointer count ≡ Err code) }
+    {
+        *reply = Reply::Words(ReadWords::new());
         let parts = &*self.parts;
-        match parts
-            .memory
-            .read(bank, pointer, count, level, &parts.locks, &mut words)
-        {
-            Ok(()) => Reply::Words(words),
-            Err(code) => Reply::Error(code.code()),
+        match reply {
+            Reply::Words(words) => {
+                parts
+                    .memory
+                    .read(bank, pointer, count, level, &parts.locks, words)
+            }
+            _ => unreachable!(),
         }
     }
 

@@ -30,6 +30,7 @@ fn answer_epc(tag: AnyTag, out: &mut Bits) -> Heard
 
 impl AnyTag {
     /// ACK, in each state.
+    #[inline(never)]
     pub(crate) fn ack(self, rn: u16, out: &mut Bits) -> Heard
         requires room { reply_room ≤ out.old.capacity }
         ensures { GivesOutcome (ack rn (tag_value_of self).state (tag_value_of self).body) result out.old out.new }

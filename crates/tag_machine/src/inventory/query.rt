@@ -48,6 +48,7 @@ impl Body {
 
 impl AnyTag {
     /// Query, in each state.
+    #[inline(never)]
     pub(crate) fn query(
         self,
         sel: Sel,

@@ -58,6 +58,7 @@ impl Body {
 
 impl AnyTag {
     /// QueryRep, in each state.
+    #[inline(always)]
     pub(crate) fn query_rep(self, session: Session, out: &mut Bits) -> Heard
         requires room { reply_room ≤ out.old.capacity }
         ensures { GivesOutcome (query_rep session (tag_value_of self).state (tag_value_of self).body) result out.old out.new }

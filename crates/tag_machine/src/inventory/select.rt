@@ -36,6 +36,7 @@ impl Body {
 
 impl AnyTag {
     /// Select, in each state.
+    #[inline(never)]
     pub(crate) fn select(
         self,
         target: FlagName,

@@ -1,101 +1,16 @@
--- Row by row.
-use Rattle.std.proofs.Common.{inl, inr, refl}
-use Rattle.std.proofs.lemmas.Bool.{cases_Bool}
+-- The rows of the table are the blocks of four bits, in the order of their numbers.
+use Rattle.std.proofs.Common.{Bool, true, List, [], refl}
+use Rattle.line_code.specs.Stream.{blocks}
+use Rattle.line_code.specs.laws.Rows.{row_at}
+use Rattle.bit_strings.specs.Numbers.{field_of}
+use Rattle.fm0_line.specs.Fm0.{fm0}
+use Rattle.fm0_line.specs.declared.fm0.TheConstants.{FOUR_SYMBOLS}
 use Rattle.fm0_line.proofs.fm0.four_symbols.Goals as goal
 
+-- the blocks of four bits, by the level before them
+abbrev symbols : Bool → List Bool → List Bool
+symbols before bits = blocks fm0 (record { before = true; phase = before }) bits
+
 pub returns : goal.returns
-returns c =
-    elim (cases_Bool c.args.before) [
-      | inl e1 ↦ elim (cases_Bool c.args.first) [
-        | inl e2 ↦ elim (cases_Bool c.args.second) [
-          | inl e3 ↦ elim (cases_Bool c.args.third) [
-            | inl e4 ↦ elim (cases_Bool c.args.fourth) [
-              | inl e5 ↦ rw (e1, e2, e3, e4, e5) refl
-              | inr e5 ↦ rw (e1, e2, e3, e4, e5) refl
-            ]
-            | inr e4 ↦ elim (cases_Bool c.args.fourth) [
-              | inl e5 ↦ rw (e1, e2, e3, e4, e5) refl
-              | inr e5 ↦ rw (e1, e2, e3, e4, e5) refl
-            ]
-          ]
-          | inr e3 ↦ elim (cases_Bool c.args.third) [
-            | inl e4 ↦ elim (cases_Bool c.args.fourth) [
-              | inl e5 ↦ rw (e1, e2, e3, e4, e5) refl
-              | inr e5 ↦ rw (e1, e2, e3, e4, e5) refl
-            ]
-            | inr e4 ↦ elim (cases_Bool c.args.fourth) [
-              | inl e5 ↦ rw (e1, e2, e3, e4, e5) refl
-              | inr e5 ↦ rw (e1, e2, e3, e4, e5) refl
-            ]
-          ]
-        ]
-        | inr e2 ↦ elim (cases_Bool c.args.second) [
-          | inl e3 ↦ elim (cases_Bool c.args.third) [
-            | inl e4 ↦ elim (cases_Bool c.args.fourth) [
-              | inl e5 ↦ rw (e1, e2, e3, e4, e5) refl
-              | inr e5 ↦ rw (e1, e2, e3, e4, e5) refl
-            ]
-            | inr e4 ↦ elim (cases_Bool c.args.fourth) [
-              | inl e5 ↦ rw (e1, e2, e3, e4, e5) refl
-              | inr e5 ↦ rw (e1, e2, e3, e4, e5) refl
-            ]
-          ]
-          | inr e3 ↦ elim (cases_Bool c.args.third) [
-            | inl e4 ↦ elim (cases_Bool c.args.fourth) [
-              | inl e5 ↦ rw (e1, e2, e3, e4, e5) refl
-              | inr e5 ↦ rw (e1, e2, e3, e4, e5) refl
-            ]
-            | inr e4 ↦ elim (cases_Bool c.args.fourth) [
-              | inl e5 ↦ rw (e1, e2, e3, e4, e5) refl
-              | inr e5 ↦ rw (e1, e2, e3, e4, e5) refl
-            ]
-          ]
-        ]
-      ]
-      | inr e1 ↦ elim (cases_Bool c.args.first) [
-        | inl e2 ↦ elim (cases_Bool c.args.second) [
-          | inl e3 ↦ elim (cases_Bool c.args.third) [
-            | inl e4 ↦ elim (cases_Bool c.args.fourth) [
-              | inl e5 ↦ rw (e1, e2, e3, e4, e5) refl
-              | inr e5 ↦ rw (e1, e2, e3, e4, e5) refl
-            ]
-            | inr e4 ↦ elim (cases_Bool c.args.fourth) [
-              | inl e5 ↦ rw (e1, e2, e3, e4, e5) refl
-              | inr e5 ↦ rw (e1, e2, e3, e4, e5) refl
-            ]
-          ]
-          | inr e3 ↦ elim (cases_Bool c.args.third) [
-            | inl e4 ↦ elim (cases_Bool c.args.fourth) [
-              | inl e5 ↦ rw (e1, e2, e3, e4, e5) refl
-              | inr e5 ↦ rw (e1, e2, e3, e4, e5) refl
-            ]
-            | inr e4 ↦ elim (cases_Bool c.args.fourth) [
-              | inl e5 ↦ rw (e1, e2, e3, e4, e5) refl
-              | inr e5 ↦ rw (e1, e2, e3, e4, e5) refl
-            ]
-          ]
-        ]
-        | inr e2 ↦ elim (cases_Bool c.args.second) [
-          | inl e3 ↦ elim (cases_Bool c.args.third) [
-            | inl e4 ↦ elim (cases_Bool c.args.fourth) [
-              | inl e5 ↦ rw (e1, e2, e3, e4, e5) refl
-              | inr e5 ↦ rw (e1, e2, e3, e4, e5) refl
-            ]
-            | inr e4 ↦ elim (cases_Bool c.args.fourth) [
-              | inl e5 ↦ rw (e1, e2, e3, e4, e5) refl
-              | inr e5 ↦ rw (e1, e2, e3, e4, e5) refl
-            ]
-          ]
-          | inr e3 ↦ elim (cases_Bool c.args.third) [
-            | inl e4 ↦ elim (cases_Bool c.args.fourth) [
-              | inl e5 ↦ rw (e1, e2, e3, e4, e5) refl
-              | inr e5 ↦ rw (e1, e2, e3, e4, e5) refl
-            ]
-            | inr e4 ↦ elim (cases_Bool c.args.fourth) [
-              | inl e5 ↦ rw (e1, e2, e3, e4, e5) refl
-              | inr e5 ↦ rw (e1, e2, e3, e4, e5) refl
-            ]
-          ]
-        ]
-      ]
-    ]
+unfolding field_of
+returns c = row_at (λ row. row) symbols FOUR_SYMBOLS [] refl c.args.before c.args.number

@@ -1,23 +1,16 @@
-use Rattle.std.proofs.Common.{◌≡◌, ◌≤◌, ◌-◌, length, take}
-use Rattle.line_code.specs.States.{Reads, HasBlocks}
+use Rattle.std.proofs.Common.{◌≡◌, ◌-◌, length, take}
+use Rattle.line_code.specs.States.{Reads}
+use Rattle.line_code.proofs.Whole.{HasRead}
 use Rattle.line_code.proofs.decoder.read.Given as goal
 
 abbrev pub invariant-loop-four : goal.invariant-loop-four
-invariant-loop-four g l = record {
-  within : l.at ≤ length l.levels;
-  has : HasBlocks g.C.LineCode.table l.trext (g.C.LineCode.context_of l.mark) (take l.at l.levels) l.out.items;
-  same : l.out.capacity ≡ l.initial.out.capacity;
-}
+invariant-loop-four g l = HasRead g.C.LineCode.table l.trext l.levels l.at (g.C.LineCode.context_of l.mark) l.initial.out l.out
 
 abbrev pub decreases-loop-four : goal.decreases-loop-four
 decreases-loop-four g l = length l.levels - l.at
 
 abbrev pub invariant-loop-bit : goal.invariant-loop-bit
-invariant-loop-bit g l = record {
-  within : l.at ≤ length l.levels;
-  has : HasBlocks g.C.LineCode.table l.trext (g.C.LineCode.context_of l.mark) (take l.at l.levels) l.out.items;
-  same : l.out.capacity ≡ l.initial.out.capacity;
-}
+invariant-loop-bit g l = HasRead g.C.LineCode.table l.trext l.levels l.at (g.C.LineCode.context_of l.mark) l.initial.out l.out
 
 abbrev pub decreases-loop-bit : goal.decreases-loop-bit
 decreases-loop-bit g l = length l.levels - l.at

@@ -23,8 +23,8 @@ parts m c first second third fourth levels (inr (inl four)) e =
 parts m c first second third fourth levels (inr (inr eight)) e =
     record { first_is = rw (e, eight) refl; second_is = rw (e, eight) refl; third_is = rw (e, eight) refl; fourth_is = rw (e, eight) refl }
 
-pub returns-else-is_block-clause-none : goal.returns-else-is_block-clause-none
-returns-else-is_block-clause-none c = λ first second third fourth e.
+pub returns-else-same_levels-clause-none : goal.returns-else-same_levels-clause-none
+returns-else-same_levels-clause-none c = λ first second third fourth e.
     let m = c.args.m in
     let start = context c.args.before in
     let one = c.bit_of_symbol-first.result in
@@ -39,10 +39,8 @@ returns-else-is_block-clause-none c = λ first second third fourth e.
     let two_is : two ≡ second = c.bit_of_symbol-second.ensures (start_phase at_two second) second p.second_is in
     let three_is : three ≡ third = c.bit_of_symbol-third.ensures (start_phase at_three third) third p.third_is in
     let four_is : four ≡ fourth = c.bit_of_symbol-fourth.ensures (start_phase at_four fourth) fourth p.fourth_is in
-    let all : c.args.levels.now ≡ blocks (miller m) start (one ∷ two ∷ three ∷ four ∷ []) =
-    e
-    ∙ ap (λ b. blocks (miller m) start (b ∷ second ∷ third ∷ fourth ∷ [])) (sym one_is)
-    ∙ ap (λ b. blocks (miller m) start (one ∷ b ∷ third ∷ fourth ∷ [])) (sym two_is)
-    ∙ ap (λ b. blocks (miller m) start (one ∷ two ∷ b ∷ fourth ∷ [])) (sym three_is)
-    ∙ ap (λ b. blocks (miller m) start (one ∷ two ∷ three ∷ b ∷ [])) (sym four_is) in
-    false≢true (c.if-is_block.ensures.1 (all ∙ sym c.four_blocks.ensures.levels))
+    let bits : one ∷ two ∷ three ∷ four ∷ [] ≡ first ∷ second ∷ third ∷ fourth ∷ [] =
+    ap (λ b. b ∷ two ∷ three ∷ four ∷ []) one_is ∙ ap (λ b. first ∷ b ∷ three ∷ four ∷ []) two_is
+    ∙ ap (λ b. first ∷ second ∷ b ∷ four ∷ []) three_is ∙ ap (λ b. first ∷ second ∷ third ∷ b ∷ []) four_is in
+    let row = c.four_blocks.ensures.levels ∙ ap (blocks (miller m) start) (c.number_of-number.ensures ∙ bits) in
+    false≢true (c.if-same_levels.ensures.1 (e ∙ sym row))

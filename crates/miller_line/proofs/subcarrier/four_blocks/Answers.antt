@@ -1,16 +1,13 @@
 -- The row is that of the four blocks, and its last level tells the phase behind them.
-use Rattle.std.proofs.Common.{◌≡◌, ◌∙◌, ◌*◌, ◌-◌, ◌++◌, ◌∷◌, [], ℕ, Bool, true, false, not, List, inl, inr, length, get_or, ap, sym, refl, rules}
+use Rattle.std.proofs.Common.{◌≡◌, ◌∙◌, ◌<◌, ℕ, ◌*◌, ◌-◌, ◌/◌, ◌%◌, ◌∷◌, [], Bool, true, false, not, List, inl, inr, length, nat_eq, get_or, ap, sym, refl, arith}
+use Rattle.std.proofs.Math.Nat.{div-one}
 use Rattle.line_code.specs.Table.{Context}
 use Rattle.line_code.specs.Stream.{blocks}
 use Rattle.line_code.specs.States.{context_after}
-use Rattle.line_code.specs.laws.Splits.{four_bits}
-use Rattle.miller_line.specs.Miller.{miller, IsOneOfThree, symbol, middle_phase}
+use Rattle.bit_strings.specs.Numbers.{field_of}
+use Rattle.miller_line.specs.Miller.{miller, IsOneOfThree, start_phase}
 use Rattle.miller_line.specs.SymbolContext.{context}
 use Rattle.miller_line.proofs.subcarrier.four_blocks.Goals as goal
-
--- four symbols, by the phase at the start of the first and by their bits
-abbrev symbols : ℕ → Bool → Bool → List Bool → List Bool
-symbols m start first more = symbol m start (middle_phase start first) ++ blocks (miller m) (record { before = first; phase = middle_phase start first }) more
 
 twice : (phase : Bool) → not (not phase) ≡ phase
 twice true = refl
@@ -26,24 +23,41 @@ last_level m c first second third fourth (inl two) = rw two (twice _)
 last_level m c first second third fourth (inr (inl four)) = rw four (four_times _)
 last_level m c first second third fourth (inr (inr eight)) = rw eight (four_times _ ∙ four_times _)
 
+-- the phase at the start of the first symbol is all that the bit before changes
+from_start : (m : ℕ) (c : Context) (bit : Bool) (more : List Bool)
+    → blocks (miller m) (record { before = true; phase = start_phase c bit }) (bit ∷ more) ≡ blocks (miller m) c (bit ∷ more)
+from_start m c true more = refl
+from_start m c false more = refl
+
+are_blocks : (m : ℕ) (c : Context) (start : Bool) (number : ℕ) (levels : List Bool) → levels ≡ blocks (miller m) (record { before = true; phase = start }) (field_of number 4)
+    → start ≡ start_phase c (nat_eq (number / 8 % 2) 1) → levels ≡ blocks (miller m) c (field_of number 4)
+unfolding field_of
+are_blocks m c start number levels levels_are start_is =
+    levels_are
+    ∙ ap (λ phase. blocks (miller m) (record { before = true; phase = phase }) (field_of number 4)) start_is
+    ∙ from_start m c (nat_eq (number / 8 % 2) 1) (field_of number 3)
+
+-- four symbols have 8 M levels
+has_last : (m : ℕ) (c : Context) (number : ℕ) (levels : List Bool) → IsOneOfThree m → levels ≡ blocks (miller m) c (field_of number 4) → 8 * m - 1 < length levels
+unfolding field_of
+has_last m c number levels (inl two) e = rw (e, two) (omega arith)
+has_last m c number levels (inr (inl four)) e = rw (e, four) (omega arith)
+has_last m c number levels (inr (inr eight)) e = rw (e, eight) (omega arith)
+
+pub bounds-levels-m : goal.bounds-levels-m
+bounds-levels-m c = has_last c.args.m _ c.args.number _ c.requires c.four_symbols-levels.ensures
+
 pub returns-clause-levels : goal.returns-clause-levels
-returns-clause-levels c =
-    let m = c.args.m in
-    let bits = c.args.bits.now in
-    let size : length bits ≡ 4 = search rules in
-    let more : List Bool = get_or bits 1 false ∷ get_or bits 2 false ∷ get_or bits 3 false ∷ [] in
-    c.four_symbols-levels.ensures
-    ∙ ap (λ start. symbols m start (get_or bits 0 false) more) c.phase_at_start-start.ensures
-    ∙ ap (blocks (miller m) (context c.args.before)) (sym (four_bits bits size))
+returns-clause-levels c = are_blocks c.args.m (context c.args.before) _ c.args.number _ c.four_symbols-levels.ensures c.phase_at_start-start.ensures
 
 pub returns-clause-mark : goal.returns-clause-mark
+unfolding field_of
 returns-clause-mark c =
     let m = c.args.m in
-    let bits = c.args.bits.now in
-    let size : length bits ≡ 4 = search rules in
+    let number = c.args.number in
     let before = context c.args.before in
-    let fourth = get_or bits 3 false in
-    let more : List Bool = get_or bits 1 false ∷ get_or bits 2 false ∷ fourth ∷ [] in
-    let row = c.four_symbols-levels.ensures ∙ ap (λ start. symbols m start (get_or bits 0 false) more) c.phase_at_start-start.ensures in
-    let phase = ap (λ ls. get_or ls (8 * m - 1) false) row ∙ last_level m before (get_or bits 0 false) (get_or bits 1 false) (get_or bits 2 false) fourth c.requires in
-    ap (λ (p : Bool). record { before = fourth; phase = p }) phase ∙ ap (context_after (miller m) before) (sym (four_bits bits size))
+    let behind = context_after (miller m) before (field_of number 4) in
+    let levels_are = are_blocks m before _ number _ c.four_symbols-levels.ensures c.phase_at_start-start.ensures in
+    let bit : ℕ → Bool = λ n. nat_eq (n % 2) 1 in
+    let phase = ap (λ ls. get_or ls (8 * m - 1) false) levels_are ∙ last_level m before (bit (number / 8)) (bit (number / 4)) (bit (number / 2)) (bit (number / 1)) c.requires in
+    ap (λ (p : Bool). record { before = bit number; phase = p }) phase ∙ ap (λ (n : ℕ). record { before = bit n; phase = behind.phase }) (sym (div-one number))

@@ -1,296 +1,36 @@
--- Row by row.
-use Rattle.std.proofs.Common.{◌≡◌, inl, inr, refl, rules}
-use Rattle.std.proofs.lemmas.Bool.{cases_Bool}
+-- The rows of each table are the blocks of four bits, in the order of their numbers.
+use Rattle.std.proofs.Common.{◌≡◌, ◌∙◌, ℕ, Bool, true, List, [], ap, sym, refl, rules}
+use Rattle.std.specs.List.{flat_map}
+use Rattle.line_code.specs.Stream.{blocks}
+use Rattle.line_code.specs.laws.Rows.{row_at}
+use Rattle.bit_strings.specs.Numbers.{field_of}
+use Rattle.miller_line.specs.Miller.{miller}
+use Rattle.miller_line.specs.declared.subcarrier.TheConstants.{FOUR_SYMBOLS_2, FOUR_SYMBOLS_4, FOUR_SYMBOLS_8}
 use Rattle.miller_line.proofs.subcarrier.four_symbols.Goals as goal
 
+-- the blocks of four bits, by the phase at the start of the first
+abbrev symbols : ℕ → Bool → List Bool → List Bool
+symbols m start bits = blocks (miller m) (record { before = true; phase = start }) bits
+
+-- the levels of a row that has them by halves
+abbrev halves : List (List Bool) → List Bool
+halves row = flat_map (λ half. half) row
+
 pub returns-in-2 : goal.returns-in-2
+unfolding field_of
 returns-in-2 c =
-    elim (cases_Bool c.args.start) [
-      | inl e1 ↦ elim (cases_Bool c.args.first) [
-        | inl e2 ↦ elim (cases_Bool c.args.second) [
-          | inl e3 ↦ elim (cases_Bool c.args.third) [
-            | inl e4 ↦ elim (cases_Bool c.args.fourth) [
-              | inl e5 ↦ rw (c.as_flattened.ensures.value, c.in-2.is, e1, e2, e3, e4, e5) refl
-              | inr e5 ↦ rw (c.as_flattened.ensures.value, c.in-2.is, e1, e2, e3, e4, e5) refl
-            ]
-            | inr e4 ↦ elim (cases_Bool c.args.fourth) [
-              | inl e5 ↦ rw (c.as_flattened.ensures.value, c.in-2.is, e1, e2, e3, e4, e5) refl
-              | inr e5 ↦ rw (c.as_flattened.ensures.value, c.in-2.is, e1, e2, e3, e4, e5) refl
-            ]
-          ]
-          | inr e3 ↦ elim (cases_Bool c.args.third) [
-            | inl e4 ↦ elim (cases_Bool c.args.fourth) [
-              | inl e5 ↦ rw (c.as_flattened.ensures.value, c.in-2.is, e1, e2, e3, e4, e5) refl
-              | inr e5 ↦ rw (c.as_flattened.ensures.value, c.in-2.is, e1, e2, e3, e4, e5) refl
-            ]
-            | inr e4 ↦ elim (cases_Bool c.args.fourth) [
-              | inl e5 ↦ rw (c.as_flattened.ensures.value, c.in-2.is, e1, e2, e3, e4, e5) refl
-              | inr e5 ↦ rw (c.as_flattened.ensures.value, c.in-2.is, e1, e2, e3, e4, e5) refl
-            ]
-          ]
-        ]
-        | inr e2 ↦ elim (cases_Bool c.args.second) [
-          | inl e3 ↦ elim (cases_Bool c.args.third) [
-            | inl e4 ↦ elim (cases_Bool c.args.fourth) [
-              | inl e5 ↦ rw (c.as_flattened.ensures.value, c.in-2.is, e1, e2, e3, e4, e5) refl
-              | inr e5 ↦ rw (c.as_flattened.ensures.value, c.in-2.is, e1, e2, e3, e4, e5) refl
-            ]
-            | inr e4 ↦ elim (cases_Bool c.args.fourth) [
-              | inl e5 ↦ rw (c.as_flattened.ensures.value, c.in-2.is, e1, e2, e3, e4, e5) refl
-              | inr e5 ↦ rw (c.as_flattened.ensures.value, c.in-2.is, e1, e2, e3, e4, e5) refl
-            ]
-          ]
-          | inr e3 ↦ elim (cases_Bool c.args.third) [
-            | inl e4 ↦ elim (cases_Bool c.args.fourth) [
-              | inl e5 ↦ rw (c.as_flattened.ensures.value, c.in-2.is, e1, e2, e3, e4, e5) refl
-              | inr e5 ↦ rw (c.as_flattened.ensures.value, c.in-2.is, e1, e2, e3, e4, e5) refl
-            ]
-            | inr e4 ↦ elim (cases_Bool c.args.fourth) [
-              | inl e5 ↦ rw (c.as_flattened.ensures.value, c.in-2.is, e1, e2, e3, e4, e5) refl
-              | inr e5 ↦ rw (c.as_flattened.ensures.value, c.in-2.is, e1, e2, e3, e4, e5) refl
-            ]
-          ]
-        ]
-      ]
-      | inr e1 ↦ elim (cases_Bool c.args.first) [
-        | inl e2 ↦ elim (cases_Bool c.args.second) [
-          | inl e3 ↦ elim (cases_Bool c.args.third) [
-            | inl e4 ↦ elim (cases_Bool c.args.fourth) [
-              | inl e5 ↦ rw (c.as_flattened.ensures.value, c.in-2.is, e1, e2, e3, e4, e5) refl
-              | inr e5 ↦ rw (c.as_flattened.ensures.value, c.in-2.is, e1, e2, e3, e4, e5) refl
-            ]
-            | inr e4 ↦ elim (cases_Bool c.args.fourth) [
-              | inl e5 ↦ rw (c.as_flattened.ensures.value, c.in-2.is, e1, e2, e3, e4, e5) refl
-              | inr e5 ↦ rw (c.as_flattened.ensures.value, c.in-2.is, e1, e2, e3, e4, e5) refl
-            ]
-          ]
-          | inr e3 ↦ elim (cases_Bool c.args.third) [
-            | inl e4 ↦ elim (cases_Bool c.args.fourth) [
-              | inl e5 ↦ rw (c.as_flattened.ensures.value, c.in-2.is, e1, e2, e3, e4, e5) refl
-              | inr e5 ↦ rw (c.as_flattened.ensures.value, c.in-2.is, e1, e2, e3, e4, e5) refl
-            ]
-            | inr e4 ↦ elim (cases_Bool c.args.fourth) [
-              | inl e5 ↦ rw (c.as_flattened.ensures.value, c.in-2.is, e1, e2, e3, e4, e5) refl
-              | inr e5 ↦ rw (c.as_flattened.ensures.value, c.in-2.is, e1, e2, e3, e4, e5) refl
-            ]
-          ]
-        ]
-        | inr e2 ↦ elim (cases_Bool c.args.second) [
-          | inl e3 ↦ elim (cases_Bool c.args.third) [
-            | inl e4 ↦ elim (cases_Bool c.args.fourth) [
-              | inl e5 ↦ rw (c.as_flattened.ensures.value, c.in-2.is, e1, e2, e3, e4, e5) refl
-              | inr e5 ↦ rw (c.as_flattened.ensures.value, c.in-2.is, e1, e2, e3, e4, e5) refl
-            ]
-            | inr e4 ↦ elim (cases_Bool c.args.fourth) [
-              | inl e5 ↦ rw (c.as_flattened.ensures.value, c.in-2.is, e1, e2, e3, e4, e5) refl
-              | inr e5 ↦ rw (c.as_flattened.ensures.value, c.in-2.is, e1, e2, e3, e4, e5) refl
-            ]
-          ]
-          | inr e3 ↦ elim (cases_Bool c.args.third) [
-            | inl e4 ↦ elim (cases_Bool c.args.fourth) [
-              | inl e5 ↦ rw (c.as_flattened.ensures.value, c.in-2.is, e1, e2, e3, e4, e5) refl
-              | inr e5 ↦ rw (c.as_flattened.ensures.value, c.in-2.is, e1, e2, e3, e4, e5) refl
-            ]
-            | inr e4 ↦ elim (cases_Bool c.args.fourth) [
-              | inl e5 ↦ rw (c.as_flattened.ensures.value, c.in-2.is, e1, e2, e3, e4, e5) refl
-              | inr e5 ↦ rw (c.as_flattened.ensures.value, c.in-2.is, e1, e2, e3, e4, e5) refl
-            ]
-          ]
-        ]
-      ]
-    ]
+    let a = c.args in
+    c.as_flattened.ensures.value ∙ row_at halves (symbols 2) FOUR_SYMBOLS_2 [] refl a.start a.number ∙ ap (λ m. symbols m a.start (field_of a.number 4)) (sym c.in-2.is)
 
 pub returns-in-4 : goal.returns-in-4
+unfolding field_of
 returns-in-4 c =
-    elim (cases_Bool c.args.start) [
-      | inl e1 ↦ elim (cases_Bool c.args.first) [
-        | inl e2 ↦ elim (cases_Bool c.args.second) [
-          | inl e3 ↦ elim (cases_Bool c.args.third) [
-            | inl e4 ↦ elim (cases_Bool c.args.fourth) [
-              | inl e5 ↦ rw (c.as_flattened-in-4.ensures.value, c.in-4.is, e1, e2, e3, e4, e5) refl
-              | inr e5 ↦ rw (c.as_flattened-in-4.ensures.value, c.in-4.is, e1, e2, e3, e4, e5) refl
-            ]
-            | inr e4 ↦ elim (cases_Bool c.args.fourth) [
-              | inl e5 ↦ rw (c.as_flattened-in-4.ensures.value, c.in-4.is, e1, e2, e3, e4, e5) refl
-              | inr e5 ↦ rw (c.as_flattened-in-4.ensures.value, c.in-4.is, e1, e2, e3, e4, e5) refl
-            ]
-          ]
-          | inr e3 ↦ elim (cases_Bool c.args.third) [
-            | inl e4 ↦ elim (cases_Bool c.args.fourth) [
-              | inl e5 ↦ rw (c.as_flattened-in-4.ensures.value, c.in-4.is, e1, e2, e3, e4, e5) refl
-              | inr e5 ↦ rw (c.as_flattened-in-4.ensures.value, c.in-4.is, e1, e2, e3, e4, e5) refl
-            ]
-            | inr e4 ↦ elim (cases_Bool c.args.fourth) [
-              | inl e5 ↦ rw (c.as_flattened-in-4.ensures.value, c.in-4.is, e1, e2, e3, e4, e5) refl
-              | inr e5 ↦ rw (c.as_flattened-in-4.ensures.value, c.in-4.is, e1, e2, e3, e4, e5) refl
-            ]
-          ]
-        ]
-        | inr e2 ↦ elim (cases_Bool c.args.second) [
-          | inl e3 ↦ elim (cases_Bool c.args.third) [
-            | inl e4 ↦ elim (cases_Bool c.args.fourth) [
-              | inl e5 ↦ rw (c.as_flattened-in-4.ensures.value, c.in-4.is, e1, e2, e3, e4, e5) refl
-              | inr e5 ↦ rw (c.as_flattened-in-4.ensures.value, c.in-4.is, e1, e2, e3, e4, e5) refl
-            ]
-            | inr e4 ↦ elim (cases_Bool c.args.fourth) [
-              | inl e5 ↦ rw (c.as_flattened-in-4.ensures.value, c.in-4.is, e1, e2, e3, e4, e5) refl
-              | inr e5 ↦ rw (c.as_flattened-in-4.ensures.value, c.in-4.is, e1, e2, e3, e4, e5) refl
-            ]
-          ]
-          | inr e3 ↦ elim (cases_Bool c.args.third) [
-            | inl e4 ↦ elim (cases_Bool c.args.fourth) [
-              | inl e5 ↦ rw (c.as_flattened-in-4.ensures.value, c.in-4.is, e1, e2, e3, e4, e5) refl
-              | inr e5 ↦ rw (c.as_flattened-in-4.ensures.value, c.in-4.is, e1, e2, e3, e4, e5) refl
-            ]
-            | inr e4 ↦ elim (cases_Bool c.args.fourth) [
-              | inl e5 ↦ rw (c.as_flattened-in-4.ensures.value, c.in-4.is, e1, e2, e3, e4, e5) refl
-              | inr e5 ↦ rw (c.as_flattened-in-4.ensures.value, c.in-4.is, e1, e2, e3, e4, e5) refl
-            ]
-          ]
-        ]
-      ]
-      | inr e1 ↦ elim (cases_Bool c.args.first) [
-        | inl e2 ↦ elim (cases_Bool c.args.second) [
-          | inl e3 ↦ elim (cases_Bool c.args.third) [
-            | inl e4 ↦ elim (cases_Bool c.args.fourth) [
-              | inl e5 ↦ rw (c.as_flattened-in-4.ensures.value, c.in-4.is, e1, e2, e3, e4, e5) refl
-              | inr e5 ↦ rw (c.as_flattened-in-4.ensures.value, c.in-4.is, e1, e2, e3, e4, e5) refl
-            ]
-            | inr e4 ↦ elim (cases_Bool c.args.fourth) [
-              | inl e5 ↦ rw (c.as_flattened-in-4.ensures.value, c.in-4.is, e1, e2, e3, e4, e5) refl
-              | inr e5 ↦ rw (c.as_flattened-in-4.ensures.value, c.in-4.is, e1, e2, e3, e4, e5) refl
-            ]
-          ]
-          | inr e3 ↦ elim (cases_Bool c.args.third) [
-            | inl e4 ↦ elim (cases_Bool c.args.fourth) [
-              | inl e5 ↦ rw (c.as_flattened-in-4.ensures.value, c.in-4.is, e1, e2, e3, e4, e5) refl
-              | inr e5 ↦ rw (c.as_flattened-in-4.ensures.value, c.in-4.is, e1, e2, e3, e4, e5) refl
-            ]
-            | inr e4 ↦ elim (cases_Bool c.args.fourth) [
-              | inl e5 ↦ rw (c.as_flattened-in-4.ensures.value, c.in-4.is, e1, e2, e3, e4, e5) refl
-              | inr e5 ↦ rw (c.as_flattened-in-4.ensures.value, c.in-4.is, e1, e2, e3, e4, e5) refl
-            ]
-          ]
-        ]
-        | inr e2 ↦ elim (cases_Bool c.args.second) [
-          | inl e3 ↦ elim (cases_Bool c.args.third) [
-            | inl e4 ↦ elim (cases_Bool c.args.fourth) [
-              | inl e5 ↦ rw (c.as_flattened-in-4.ensures.value, c.in-4.is, e1, e2, e3, e4, e5) refl
-              | inr e5 ↦ rw (c.as_flattened-in-4.ensures.value, c.in-4.is, e1, e2, e3, e4, e5) refl
-            ]
-            | inr e4 ↦ elim (cases_Bool c.args.fourth) [
-              | inl e5 ↦ rw (c.as_flattened-in-4.ensures.value, c.in-4.is, e1, e2, e3, e4, e5) refl
-              | inr e5 ↦ rw (c.as_flattened-in-4.ensures.value, c.in-4.is, e1, e2, e3, e4, e5) refl
-            ]
-          ]
-          | inr e3 ↦ elim (cases_Bool c.args.third) [
-            | inl e4 ↦ elim (cases_Bool c.args.fourth) [
-              | inl e5 ↦ rw (c.as_flattened-in-4.ensures.value, c.in-4.is, e1, e2, e3, e4, e5) refl
-              | inr e5 ↦ rw (c.as_flattened-in-4.ensures.value, c.in-4.is, e1, e2, e3, e4, e5) refl
-            ]
-            | inr e4 ↦ elim (cases_Bool c.args.fourth) [
-              | inl e5 ↦ rw (c.as_flattened-in-4.ensures.value, c.in-4.is, e1, e2, e3, e4, e5) refl
-              | inr e5 ↦ rw (c.as_flattened-in-4.ensures.value, c.in-4.is, e1, e2, e3, e4, e5) refl
-            ]
-          ]
-        ]
-      ]
-    ]
+    let a = c.args in
+    c.as_flattened-in-4.ensures.value ∙ row_at halves (symbols 4) FOUR_SYMBOLS_4 [] refl a.start a.number ∙ ap (λ m. symbols m a.start (field_of a.number 4)) (sym c.in-4.is)
 
 pub returns-in_default : goal.returns-in_default
+unfolding field_of
 returns-in_default c =
-    let eight : c.args.m ≡ 8 = search rules in
-    elim (cases_Bool c.args.start) [
-      | inl e1 ↦ elim (cases_Bool c.args.first) [
-        | inl e2 ↦ elim (cases_Bool c.args.second) [
-          | inl e3 ↦ elim (cases_Bool c.args.third) [
-            | inl e4 ↦ elim (cases_Bool c.args.fourth) [
-              | inl e5 ↦ rw (c.as_flattened-in_default.ensures.value, eight, e1, e2, e3, e4, e5) refl
-              | inr e5 ↦ rw (c.as_flattened-in_default.ensures.value, eight, e1, e2, e3, e4, e5) refl
-            ]
-            | inr e4 ↦ elim (cases_Bool c.args.fourth) [
-              | inl e5 ↦ rw (c.as_flattened-in_default.ensures.value, eight, e1, e2, e3, e4, e5) refl
-              | inr e5 ↦ rw (c.as_flattened-in_default.ensures.value, eight, e1, e2, e3, e4, e5) refl
-            ]
-          ]
-          | inr e3 ↦ elim (cases_Bool c.args.third) [
-            | inl e4 ↦ elim (cases_Bool c.args.fourth) [
-              | inl e5 ↦ rw (c.as_flattened-in_default.ensures.value, eight, e1, e2, e3, e4, e5) refl
-              | inr e5 ↦ rw (c.as_flattened-in_default.ensures.value, eight, e1, e2, e3, e4, e5) refl
-            ]
-            | inr e4 ↦ elim (cases_Bool c.args.fourth) [
-              | inl e5 ↦ rw (c.as_flattened-in_default.ensures.value, eight, e1, e2, e3, e4, e5) refl
-              | inr e5 ↦ rw (c.as_flattened-in_default.ensures.value, eight, e1, e2, e3, e4, e5) refl
-            ]
-          ]
-        ]
-        | inr e2 ↦ elim (cases_Bool c.args.second) [
-          | inl e3 ↦ elim (cases_Bool c.args.third) [
-            | inl e4 ↦ elim (cases_Bool c.args.fourth) [
-              | inl e5 ↦ rw (c.as_flattened-in_default.ensures.value, eight, e1, e2, e3, e4, e5) refl
-              | inr e5 ↦ rw (c.as_flattened-in_default.ensures.value, eight, e1, e2, e3, e4, e5) refl
-            ]
-            | inr e4 ↦ elim (cases_Bool c.args.fourth) [
-              | inl e5 ↦ rw (c.as_flattened-in_default.ensures.value, eight, e1, e2, e3, e4, e5) refl
-              | inr e5 ↦ rw (c.as_flattened-in_default.ensures.value, eight, e1, e2, e3, e4, e5) refl
-            ]
-          ]
-          | inr e3 ↦ elim (cases_Bool c.args.third) [
-            | inl e4 ↦ elim (cases_Bool c.args.fourth) [
-              | inl e5 ↦ rw (c.as_flattened-in_default.ensures.value, eight, e1, e2, e3, e4, e5) refl
-              | inr e5 ↦ rw (c.as_flattened-in_default.ensures.value, eight, e1, e2, e3, e4, e5) refl
-            ]
-            | inr e4 ↦ elim (cases_Bool c.args.fourth) [
-              | inl e5 ↦ rw (c.as_flattened-in_default.ensures.value, eight, e1, e2, e3, e4, e5) refl
-              | inr e5 ↦ rw (c.as_flattened-in_default.ensures.value, eight, e1, e2, e3, e4, e5) refl
-            ]
-          ]
-        ]
-      ]
-      | inr e1 ↦ elim (cases_Bool c.args.first) [
-        | inl e2 ↦ elim (cases_Bool c.args.second) [
-          | inl e3 ↦ elim (cases_Bool c.args.third) [
-            | inl e4 ↦ elim (cases_Bool c.args.fourth) [
-              | inl e5 ↦ rw (c.as_flattened-in_default.ensures.value, eight, e1, e2, e3, e4, e5) refl
-              | inr e5 ↦ rw (c.as_flattened-in_default.ensures.value, eight, e1, e2, e3, e4, e5) refl
-            ]
-            | inr e4 ↦ elim (cases_Bool c.args.fourth) [
-              | inl e5 ↦ rw (c.as_flattened-in_default.ensures.value, eight, e1, e2, e3, e4, e5) refl
-              | inr e5 ↦ rw (c.as_flattened-in_default.ensures.value, eight, e1, e2, e3, e4, e5) refl
-            ]
-          ]
-          | inr e3 ↦ elim (cases_Bool c.args.third) [
-            | inl e4 ↦ elim (cases_Bool c.args.fourth) [
-              | inl e5 ↦ rw (c.as_flattened-in_default.ensures.value, eight, e1, e2, e3, e4, e5) refl
-              | inr e5 ↦ rw (c.as_flattened-in_default.ensures.value, eight, e1, e2, e3, e4, e5) refl
-            ]
-            | inr e4 ↦ elim (cases_Bool c.args.fourth) [
-              | inl e5 ↦ rw (c.as_flattened-in_default.ensures.value, eight, e1, e2, e3, e4, e5) refl
-              | inr e5 ↦ rw (c.as_flattened-in_default.ensures.value, eight, e1, e2, e3, e4, e5) refl
-            ]
-          ]
-        ]
-        | inr e2 ↦ elim (cases_Bool c.args.second) [
-          | inl e3 ↦ elim (cases_Bool c.args.third) [
-            | inl e4 ↦ elim (cases_Bool c.args.fourth) [
-              | inl e5 ↦ rw (c.as_flattened-in_default.ensures.value, eight, e1, e2, e3, e4, e5) refl
-              | inr e5 ↦ rw (c.as_flattened-in_default.ensures.value, eight, e1, e2, e3, e4, e5) refl
-            ]
-            | inr e4 ↦ elim (cases_Bool c.args.fourth) [
-              | inl e5 ↦ rw (c.as_flattened-in_default.ensures.value, eight, e1, e2, e3, e4, e5) refl
-              | inr e5 ↦ rw (c.as_flattened-in_default.ensures.value, eight, e1, e2, e3, e4, e5) refl
-            ]
-          ]
-          | inr e3 ↦ elim (cases_Bool c.args.third) [
-            | inl e4 ↦ elim (cases_Bool c.args.fourth) [
-              | inl e5 ↦ rw (c.as_flattened-in_default.ensures.value, eight, e1, e2, e3, e4, e5) refl
-              | inr e5 ↦ rw (c.as_flattened-in_default.ensures.value, eight, e1, e2, e3, e4, e5) refl
-            ]
-            | inr e4 ↦ elim (cases_Bool c.args.fourth) [
-              | inl e5 ↦ rw (c.as_flattened-in_default.ensures.value, eight, e1, e2, e3, e4, e5) refl
-              | inr e5 ↦ rw (c.as_flattened-in_default.ensures.value, eight, e1, e2, e3, e4, e5) refl
-            ]
-          ]
-        ]
-      ]
-    ]
+    let a = c.args in
+    let eight : a.m ≡ 8 = search rules in
+    c.as_flattened-in_default.ensures.value ∙ row_at halves (symbols 8) FOUR_SYMBOLS_8 [] refl a.start a.number ∙ ap (λ m. symbols m a.start (field_of a.number 4)) (sym eight)

@@ -1,20 +1,19 @@
 use Rattle.std.proofs.Common.{sym, ◌∙◌}
 use Rattle.std.proofs.lemmas.Bool.{eqb-true, eqb-false}
-use Rattle.reply_grammar.specs.laws.PassingReplies.{rn16_passed, handle_passed, same_passed, epc_passed, words_passed, any_words_passed, header_passed, words_error, any_words_error, header_error}
+use Rattle.reply_grammar.specs.laws.PassingReplies.{rn16_passed, handle_passed, same_passed, words_passed, any_words_passed, header_passed, words_error, any_words_error, header_error}
 use Rattle.reply_grammar.proofs.decode.read_reply_to.Goals as goal
 
 pub returns-in-Rn16 : goal.returns-in-Rn16
 returns-in-Rn16 c = rn16_passed c.args.expect.now c.args.bits.now.items c.word_at.result c.in-Rn16.is c.requires c.word_at.ensures
 
 pub returns-in-Epc : goal.returns-in-Epc
-returns-in-Epc c =
-    epc_passed c.args.expect.now c.args.bits.now.items c.word_at-in-Epc.result c.epc_words.result c.in-Epc.is c.requires c.word_at-in-Epc.ensures c.epc_words.ensures
+returns-in-Epc c = rw c.in-Epc.is c.read_epc_to.ensures
 
 pub returns-in-Handle : goal.returns-in-Handle
-returns-in-Handle c = handle_passed c.args.expect.now c.args.bits.now.items c.word_at-in-Handle.result c.in-Handle.is c.requires c.word_at-in-Handle.ensures
+returns-in-Handle c = rw c.put_handle.ensures (handle_passed c.args.expect.now c.args.bits.now.items c.word_at-in-Handle.result c.in-Handle.is c.requires c.word_at-in-Handle.ensures)
 
 pub returns-in-Same : goal.returns-in-Same
-returns-in-Same c = same_passed c.args.expect.now c.args.bits.now.items c.word_at-in-Same.result _ c.in-Same.is c.requires c.word_at-in-Same.ensures
+returns-in-Same c = rw c.put_handle-in-Same.ensures (same_passed c.args.expect.now c.args.bits.now.items c.word_at-in-Same.result _ c.in-Same.is c.requires c.word_at-in-Same.ensures)
 
 pub returns-then-is_error : goal.returns-then-is_error
 returns-then-is_error c =

@@ -1,6 +1,6 @@
 use Rattle.std.proofs.Common.{◌≡◌, ◌<◌, ◌≤◌, ◌∙◌, ◌+◌, ◌++◌, ap, arith, length, refl, subst, List}
 use Rattle.tag_population.proofs.HeardByCalled.{BeforeHearing, HeardSoFar, few_replies}
-use Rattle.tag_population.proofs.HeardByEach.{EachHearsNext, each_idle, each_left, each_next, each_none, each_settled, each_tags, replied_below, replied_by_each, replied_more}
+use Rattle.tag_population.proofs.HeardByEach.{EachHearsNext, each_left, each_next, each_none, each_settled, each_tags, replied_below, replied_by_each, replied_more}
 use Rattle.tag_population.proofs.TagsAtRest.{settled_none, settled_all, new_tags, new_rest}
 use Rattle.tag_machine.specs.Exchange.{Replied, is_missed, reply_of}
 use Rattle.tag_population.specs.Hearing.{hearing_from}
@@ -16,8 +16,8 @@ loop-at-init g c = record {
   left = λ other past. refl;
 }
 
-pub hear_seated-requires-clause-few : goal.hear_seated-requires-clause-few
-hear_seated-requires-clause-few g c =
+pub hear_written_back-requires-clause-few : goal.hear_written_back-requires-clause-few
+hear_written_back-requires-clause-few g c =
     let before : BeforeHearing = record { command = c.args.command.now; entry = c.args.entry.now; participations = c.args.waiting.now; seats = c.args.seats.now; steps = c.args.steps.now } in
     record {
       first = c.args.answers.now;
@@ -27,18 +27,11 @@ hear_seated-requires-clause-few g c =
           omega (arith, few_replies 0 c.loop-at.at (hearing_from 0 before.command before.entry (tags_of before.participations before.seats)), c.loop-at-test.true, c.requires.rest.few);
     }
 
-pub hear_seated-requires-clause-idle : goal.hear_seated-requires-clause-idle
-hear_seated-requires-clause-idle g c =
-    let before : BeforeHearing = record { command = c.args.command.now; entry = c.args.entry.now; participations = c.args.waiting.now; seats = c.args.seats.now; steps = c.args.steps.now } in
-    let heard_now : HeardSoFar = record { participations = c.loop-at.waiting; seats = c.loop-at.seats; steps = c.loop-at.steps } in
-    let now = c.loop-at.invariant in
-    rw c.from_index-number.ensures (each_idle before c.loop-at.at heard_now c.requires.rest c.loop-at-test.true now.heard (now.left c.loop-at.at (omega arith)))
-
 pub loop-at-preserved : goal.loop-at-preserved
 loop-at-preserved g c =
     let before : BeforeHearing = record { command = c.args.command.now; entry = c.args.entry.now; participations = c.args.waiting.now; seats = c.args.seats.now; steps = c.args.steps.now } in
     let heard_now : HeardSoFar = record { participations = c.loop-at.waiting; seats = c.loop-at.seats; steps = c.loop-at.steps } in
-    let after : HeardSoFar = record { participations = c.hear_seated.new.waiting; seats = c.hear_seated.new.seats; steps = c.hear_seated.new.steps } in
+    let after : HeardSoFar = record { participations = c.hear_written_back.new.waiting; seats = c.hear_written_back.new.seats; steps = c.hear_written_back.new.steps } in
     let now = c.loop-at.invariant in
     let number = c.loop-at.at in
     let within : number < length c.args.seats.now = c.loop-at-test.true in
@@ -48,16 +41,16 @@ loop-at-preserved g c =
       misses = misses;
       missed = c.is_missed-misses.ensures ∙ ap (λ n. is_missed n c.args.entry.now) one;
       same = now.left number (omega arith);
-      heard = subst (λ n. HearsSeated c.args.command.now misses n c.loop-at.waiting c.loop-at.seats c.hear_seated.new.waiting c.hear_seated.new.seats) one c.hear_seated.ensures.heard;
-      counted = c.hear_seated.ensures.counted;
+      heard = subst (λ n. HearsSeated c.args.command.now misses n c.loop-at.waiting c.loop-at.seats c.hear_written_back.new.waiting c.hear_written_back.new.seats) one c.hear_written_back.ensures.heard;
+      counted = c.hear_written_back.ensures.counted;
     } in
     let replied : replied_below before number ++ reply_of c.from_index-number.result (outcome_seated misses c.args.command.now c.from_index-number.result c.loop-at.waiting c.loop-at.seats).answer ≡ replied_below before (number + 1) =
     ap (λ n. replied_below before number ++ reply_of n (outcome_seated misses c.args.command.now n c.loop-at.waiting c.loop-at.seats).answer) one
     ∙ replied_more before number heard_now after c.requires.rest.whole within now.heard next in
     record {
       heard = each_next before number heard_now after c.requires.rest.whole within now.heard next;
-      taken = subst (λ (l : List Replied). g.A.AnswerTaker.took c.args.answers.now l c.hear_seated.new.answers) replied (c.hear_seated.ensures.took c.args.answers.now (replied_below before number) now.taken);
-      room = c.hear_seated.ensures.room;
+      taken = subst (λ (l : List Replied). g.A.AnswerTaker.took c.args.answers.now l c.hear_written_back.new.answers) replied (c.hear_written_back.ensures.took c.args.answers.now (replied_below before number) now.taken);
+      room = c.hear_written_back.ensures.room;
       settled = each_settled before number heard_now after (omega (arith, within, now.heard.seats_whole)) next now.settled;
       left = each_left before number heard_now after next now.left;
     }

@@ -12,7 +12,7 @@ push_reserved-requires c =
 pub loop-tag-preserved : goal.loop-tag-preserved
 loop-tag-preserved c = (
   seated_next c.loop-tag.seats.items c.push_reserved.new.self.items c.in-Some.tag c.loop-tag.tag-iterator.rest.items c.next.new.self.rest.items c.args.tags.items
-      c.loop-tag.invariant.0 c.in-Some.ensures.steps.0 (c.push_reserved.ensures.items ∙ ap (λ (t : TagValue). c.loop-tag.seats.items ++ t ∷ []) c.new.ensures.value),
-  rw c.push_reserved.ensures.items (legal-append c.loop-tag.seats.items c.new.result c.loop-tag.invariant.1 c.new.ensures.legal),
+      c.loop-tag.invariant.0 c.in-Some.ensures.steps.0 (c.push_reserved.ensures.items ∙ ap (λ (t : TagValue). c.loop-tag.seats.items ++ t ∷ []) c.in_ok-seat.ensures.value),
+  rw c.push_reserved.ensures.items (legal-append c.loop-tag.seats.items c.in_ok-seat.seat c.loop-tag.invariant.1 c.in_ok-seat.ensures.legal),
   omega (arith, c.loop-tag.invariant.2, c.push_reserved.ensures.capacity),
 )

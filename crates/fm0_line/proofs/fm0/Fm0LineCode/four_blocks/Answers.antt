@@ -1,24 +1,20 @@
--- The row is that of the four blocks, and its last level is the one before the next block.
-use Rattle.std.proofs.Common.{◌≡◌, ◌∙◌, Bool, false, length, get_or, ap, sym, rules}
+-- The last level is the one before the next block.
+use Rattle.std.proofs.Common.{◌∙◌, ℕ, ◌%◌, Bool, false, List, nat_eq, get_or, ap, sym}
+use Rattle.std.proofs.Math.Nat.{div-one}
 use Rattle.line_code.specs.Table.{Context}
-use Rattle.line_code.specs.Stream.{blocks}
 use Rattle.line_code.specs.States.{context_after}
-use Rattle.line_code.specs.laws.Splits.{four_bits}
+use Rattle.bit_strings.specs.Numbers.{field_of}
 use Rattle.fm0_line.specs.Fm0.{fm0}
 use Rattle.fm0_line.proofs.fm0.Fm0LineCode.four_blocks.Goals as goal
 
 pub returns-clause-levels : goal.returns-clause-levels
-returns-clause-levels c =
-    let bits = c.args.bits.now in
-    let size : length bits ≡ 4 = search rules in
-    let before : Context = record { before = c.args.mark.bit; phase = c.args.mark.last_level } in
-    c.four_symbols-levels.ensures ∙ ap (blocks fm0 before) (sym (four_bits bits size))
+unfolding field_of
+returns-clause-levels c = c.four_symbols-levels.ensures
 
 pub returns-clause-mark : goal.returns-clause-mark
+unfolding field_of
 returns-clause-mark c =
-    let bits = c.args.bits.now in
-    let size : length bits ≡ 4 = search rules in
-    let before : Context = record { before = c.args.mark.bit; phase = c.args.mark.last_level } in
-    let fourth = get_or bits 3 false in
-    let last = ap (λ ls. get_or ls 7 false) c.four_symbols-levels.ensures in
-    ap (λ (level : Bool). record { before = fourth; phase = level }) last ∙ ap (context_after fm0 before) (sym (four_bits bits size))
+    let number = c.args.number in
+    let behind : Context = context_after fm0 (record { before = c.args.mark.bit; phase = c.args.mark.last_level }) (field_of number 4) in
+    ap (λ (levels : List Bool). record { before = nat_eq (number % 2) 1; phase = get_or levels 7 false }) c.four_symbols-levels.ensures
+    ∙ ap (λ (n : ℕ). record { before = nat_eq (n % 2) 1; phase = behind.phase }) (sym (div-one number))

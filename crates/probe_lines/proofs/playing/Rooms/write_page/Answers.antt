@@ -1,5 +1,5 @@
 use Rattle.std.specs.String.{string_bytes}
-use Rattle.probe_lines.proofs.PlayedParts.{all_sent, none_sent}
+use Rattle.probe_lines.proofs.PlayedParts.{all_sent, none_sent, none_waits}
 use Rattle.probe_lines.proofs.playing.Rooms.write_page.Goals as goal
 
 pub returns-then-len-lt-PAGE_BYTES-clause-sent : goal.returns-then-len-lt-PAGE_BYTES-clause-sent
@@ -7,3 +7,6 @@ returns-then-len-lt-PAGE_BYTES-clause-sent g c = none_sent (string_bytes c.args.
 
 pub returns-clause-sent : goal.returns-clause-sent
 returns-clause-sent g c = all_sent c.flush.result _ _ _ _ c.flush.ensures.sent c.flush.ensures.empty
+
+pub returns-clause-page : goal.returns-clause-page
+returns-clause-page g c = none_waits c.flush.result _ c.flush.ensures.empty

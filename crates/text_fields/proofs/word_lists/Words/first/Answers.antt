@@ -4,7 +4,8 @@ use Rattle.std.specs.Prelude.{slice_get}
 use Rattle.std.specs.List.{AllPass}
 use Rattle.std.proofs.lemmas.Bool.{eqb-false, eqb-true}
 use Rattle.text_fields.specs.WordLists.{is_upper_hex_digit, words_of_digits}
-use Rattle.text_fields.proofs.WordDigits.{digits_upper, first_group, group_upper, no_group, words_length}
+use Rattle.text_fields.proofs.Groups.{group_passes}
+use Rattle.text_fields.proofs.WordDigits.{digits_upper, first_group, no_group, words_length}
 use Rattle.text_fields.proofs.word_lists.Words.first.Goals as goal
 
 pub word_of-requires : goal.word_of-requires
@@ -13,7 +14,7 @@ word_of-requires c =
     let some = eqb-false (length c.as_chunks.result.0.now) 0 (sym c.is_empty.ensures ∙ c.if-is_empty.false) in
     let there : 0 < length digits / 4 = omega (arith, some, c.as_chunks.ensures.front_len) in
     subst (λ (groups : List (List ℕ)). AllPass is_upper_hex_digit (get_or groups 0 [])) (sym c.as_chunks.ensures.front)
-    (group_upper digits (length digits / 4) 0 [] there (digits_upper digits c.self.invariant))
+    (group_passes is_upper_hex_digit 4 digits (length digits / 4) 0 [] there (digits_upper digits c.self.invariant))
 
 pub returns-then-is_empty : goal.returns-then-is_empty
 returns-then-is_empty c =

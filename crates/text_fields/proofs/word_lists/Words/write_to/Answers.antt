@@ -3,7 +3,8 @@ use Rattle.std.proofs.Common.{◌≡◌, ◌<◌, ◌≤◌, ◌/◌, length, ar
 use Rattle.std.specs.List.{AllPass}
 use Rattle.std.proofs.lemmas.List.{length-set, length-take-le}
 use Rattle.text_fields.specs.WordLists.{is_upper_hex_digit, words_of_digits}
-use Rattle.text_fields.proofs.WordDigits.{digits_upper, group_of, group_upper, group_word, word_step, words_done, words_length}
+use Rattle.text_fields.proofs.Groups.{group_of, group_passes}
+use Rattle.text_fields.proofs.WordDigits.{digits_upper, group_word, word_step, words_done, words_length}
 use Rattle.text_fields.proofs.word_lists.Words.write_to.Goals as goal
 
 pub slice_bounds-words-end : goal.slice_bounds-words-end
@@ -23,8 +24,8 @@ word_of-requires c =
     let digits = c.self.inside.digits.now in
     let size : length c.args.out.now ≡ length c.args.self.now = c.requires in
     let there : c.loop-at.at < length digits / 4 = omega (arith, c.loop-at-test.true, size, ap length c.self.view_is, words_length digits) in
-    subst (λ group. AllPass is_upper_hex_digit group) (sym (group_of digits c.as_chunks.result.0.now (length c.args.out.now) c.loop-at.at _ c.as_chunks.ensures.front c.loop-at-test.true))
-    (group_upper digits (length digits / 4) c.loop-at.at _ there (digits_upper digits c.self.invariant))
+    subst (λ group. AllPass is_upper_hex_digit group) (sym (group_of 4 digits c.as_chunks.result.0.now (length c.args.out.now) c.loop-at.at _ c.as_chunks.ensures.front c.loop-at-test.true))
+    (group_passes is_upper_hex_digit 4 digits (length digits / 4) c.loop-at.at _ there (digits_upper digits c.self.invariant))
 
 pub loop-at-preserved : goal.loop-at-preserved
 loop-at-preserved c =
@@ -32,7 +33,7 @@ loop-at-preserved c =
     let size : length c.args.out.now ≡ length c.args.self.now = c.requires in
     let there : c.loop-at.at < length digits / 4 = omega (arith, c.loop-at-test.true, size, ap length c.self.view_is, words_length digits) in
     let room : c.loop-at.at < length c.loop-at.out = omega (arith, c.loop-at.invariant.count, c.loop-at-test.true) in
-    let group = group_of digits c.as_chunks.result.0.now (length c.args.out.now) c.loop-at.at _ c.as_chunks.ensures.front c.loop-at-test.true in
+    let group = group_of 4 digits c.as_chunks.result.0.now (length c.args.out.now) c.loop-at.at _ c.as_chunks.ensures.front c.loop-at-test.true in
     let here = sym (ap words_of_digits group) ∙ c.word_of.ensures in
     record {
       so_far = word_step digits c.args.self.now c.loop-at.out c.loop-at.at c.word_of.result room c.self.view_is
