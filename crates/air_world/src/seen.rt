@@ -23,6 +23,8 @@ impl<'r, R: Listener> SeenListener<'r, R> {
         ensures told { result.report.now ≡ report.old }
         ensures room { result.seen.ghost_name ≡ seen.entry.ghost_name }
         ensures seen { result.seen.now ≡ seen.old }
+        // Else every run might answer that there was no memory.
+        ensures memory { result.out_of_memory ≡ false }
     {
         SeenListener {
             report,

@@ -207,6 +207,7 @@ impl Edges {
 
     /// Takes the data symbols with which the intervals begin, where the decoder stands before a data symbol,
     /// and adds their bits to those that were read before. Gives the intervals that are left.
+    #[inline(always)]
     pub(crate) fn take_symbols<'a>(&mut self, intervals: &'a [u32], out: &mut Bits) -> &'a [u32]
         requires room { length out.old.items + length intervals.now ≤ out.old.capacity }
         requires each { All (λ interval. interval ≤ longest_interval) intervals.now }

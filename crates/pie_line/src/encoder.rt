@@ -1,5 +1,5 @@
 //! Bits to frames.
-ghost use Rattle.std.specs.Prelude.{◌≡◌, ◌+◌, ◌-◌, ◌*◌, ◌<◌, ◌≤◌, ◌++◌, ◌∷◌, [], length, All, if◌then◌else◌};
+ghost use Rattle.std.specs.Prelude.{◌≡◌, ◌+◌, ◌-◌, ◌*◌, ◌<◌, ◌≤◌, ◌++◌, ◌∷◌, [], length, All, false, true, if◌then◌else◌};
 ghost use Rattle.pie_line.specs.Link.{IsLegalLink};
 ghost use Rattle.pie_line.specs.Pie.{IsFrame, pair_of, sum_of, header_of, wave_of, kind_of, longest_interval};
 
@@ -21,23 +21,30 @@ pub fn encode_frame(link: &Link, lead: Lead, bits: &Bits, out: &mut Intervals)
     ensures capacity { out.new.capacity ≡ out.old.capacity }
 {
     put_header(link, lead, out);
+    // What no bit changes is computed once.
+    let (zero, one) = highs(link);
+    let low = link.pw();
     for &bit in bits.as_slice() {
-        let (high, low) = symbol_intervals(link, bit);
-        out.push_reserved(high);
+        out.push_reserved(high_of(zero, one, bit));
         out.push_reserved(low);
     }
 }
 
-/// The high and the low of the symbol of a bit, in nanoseconds (6.3.1.2.3).
-fn symbol_intervals(link: &Link, bit: bool) -> (u32, u32)
-    ensures pair { result.0 ∷ result.1 ∷ [] ≡ pair_of link.now (sum_of link.now bit) }
-    ensures bounded { (result.0 ≤ longest_interval) × (result.1 ≤ longest_interval) }
+/// The highs of a data-0 and of a data-1, in nanoseconds (6.3.1.2.3).
+fn highs(link: &Link) -> (u32, u32)
+    ensures zero { result.0 ≡ sum_of link.now false - link.now.pw }
+    ensures one { result.1 ≡ sum_of link.now true - link.now.pw }
 {
-    // Both durations are computed, so that no jump depends on the bit.
     let zero = link.tari();
     let one = link.rtcal() - zero;
-    let sum = if bit { one } else { zero };
-    (sum - link.pw(), link.pw())
+    (zero - link.pw(), one - link.pw())
+}
+
+/// The high of the symbol of a bit, of those of a data-0 and of a data-1.
+fn high_of(zero: u32, one: u32, bit: bool) -> u32
+    ensures { result ≡ if bit then one else zero }
+{
+    if bit { one } else { zero }
 }
 
 /// Adds a pair that lasts `sum` nanoseconds: a high, and a low of PW.

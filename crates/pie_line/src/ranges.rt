@@ -46,5 +46,6 @@ pub fn is_pw(tari: u32, pw: u32) -> bool
 pub fn bit_of_sum(rtcal: u32, sum: u32) -> bool
     ensures { result ≡ bit_of rtcal sum }
 {
-    rtcal as u64 <= 2 * sum as u64
+    // Half of RTcal, rounded up, is the same for all symbols of a frame: a loop over them computes it once.
+    rtcal - rtcal / 2 <= sum
 }

@@ -1,9 +1,9 @@
 -- A QueryAdjust: the tags that wait in its session draw their slots again, and those that draw 0 are called, as those that miss it. What comes
 -- of it where these alone and those beyond arbitrate hear it.
-use Rattle.std.proofs.Common.{◌≡◌, ◌≢◌, ℕ, zero, suc, ◌+◌, ◌<◌, ◌≤◌, ◌⊎◌, inl, inr, Bool, true, false, List, [], ◌∷◌, length, take, Option, Some, None, get_or, set, refl, sym, ap, ◌∙◌, subst, arith, if◌then◌else◌}
+use Rattle.std.proofs.Common.{◌≡◌, ◌≢◌, ℕ, zero, suc, ◌+◌, ◌<◌, ◌≤◌, ◌==◌, ◌⊎◌, inl, inr, Bool, true, false, List, [], ◌∷◌, length, drop, Option, Some, None, get_or, set, refl, sym, ap, ◌∙◌, subst, arith, if◌then◌else◌}
 use Rattle.std.proofs.lemmas.Bool.{cases_lt, eq-eqb}
 use Rattle.std.proofs.lemmas.Bool.Decides.{eqb_tells}
-use Rattle.std.proofs.lemmas.List.{get_or-set_same, get_or-set_other, set-get_or, length-set, take_all}
+use Rattle.std.proofs.lemmas.List.{get_or-set_same, get_or-set_other, set-get_or, length-set, ext_get_or}
 use Rattle.air_events.specs.declared.Entry.{Entry}
 use Rattle.command_fields.specs.declared.choices.UpDn.{UpDn}
 use Rattle.command_grammar.specs.declared.commands.Command.{Command}
@@ -18,11 +18,12 @@ use Rattle.tag_population.proofs.HeardByCalled.{participation_of_tag, sum-zero, 
 use Rattle.tag_population.proofs.QueryRepCalls.{bool_cases, past_settled, true_false}
 use Rattle.tag_population.proofs.SeatedTags.{length-tags_of, tag_at, tags-set}
 use Rattle.tag_population.specs.Hearing.{hearing_from}
-use Rattle.tag_population.specs.Seated.{with_slot, tag_seated, tags_of, participation_in, called_in, outcome_called, outcomes_called, AreAtRest, AreCalledFor, CallsTags, IsMissedCalled, IsDrawnOrCalled, IsAdjusted, AreAdjusted, AdjustsOne}
+use Rattle.tag_population.specs.Seated.{with_slot, tag_seated, tags_of, participation_in, called_in, outcome_called, outcomes_called, AreAtRest, AreCalledFor, AreUncalledSettled, CallsTags, IsMissedCalled, IsDrawnOrCalled, IsAdjusted, AreAdjusted, AdjustsOne, IsDrawnOrLeft, AreDrawnOrLeft}
 use Rattle.tag_population.specs.Seats.{no_tag}
-use Rattle.tag_population.specs.Waiting.{participation_at, is_called, waits_in}
-use Rattle.tag_population.specs.declared.waiting.Participation.{Participation}
-use Rattle.tag_population.specs.declared.waiting.Participation.TheVariants.{Waits, Called}
+use Rattle.waiting_tags.specs.Drawings.{marked_in}
+use Rattle.waiting_tags.specs.Waiting.{participation_at, is_called, waits_in}
+use Rattle.waiting_tags.specs.declared.waiting.Participation.{Participation}
+use Rattle.waiting_tags.specs.declared.waiting.Participation.TheVariants.{Waits, Called}
 
 -- a tag draws its slot again whatever its slot counter was
 seated_draws : (session : ℕ) (updn : UpDn) (participation : Option Participation) (seat new : TagValue) (slot : ℕ) → DrawsAgain session updn seat slot new → DrawsAgain session updn (tag_seated participation seat) slot new
@@ -86,26 +87,124 @@ called_one session updn number participations tags after called is same = record
   is = inl (refl, refl);
 }
 
--- Of the tags below a number those that wait in the session drew their slots again, or were called.
-pub record AdjustedBelow (session : ℕ) (updn : UpDn) (participations : List (Option Participation)) (tags : List TagValue) (number : ℕ) (after : List (Option Participation)) (adjusted : List TagValue) : Type 0 where
-  pub whole : length after ≡ length participations
-  pub tags_whole : length adjusted ≡ length tags
-  pub each : (k : ℕ) → k < number → IsAdjusted session updn (participation_at participations k) (get_or tags k no_tag) (participation_at after k) (get_or adjusted k no_tag)
-  pub left : (k : ℕ) → number ≤ k → (participation_at after k ≡ participation_at participations k) × (get_or adjusted k no_tag ≡ get_or tags k no_tag)
+-- the other seats are as they were
+pub only_one : (seats seated : List TagValue) (number : ℕ) → length seated ≡ length seats → number < length seats
+    → ((other : ℕ) → other ≢ number → get_or seated other no_tag ≡ get_or seats other no_tag) → seated ≡ set seats number (get_or seated number no_tag)
+only_one seats seated number long within others =
+    let new : TagValue = get_or seated number no_tag in
+    ext_get_or no_tag seated (set seats number new) (long ∙ sym (length-set seats number new))
+    (λ k below.
+    elim (eqb_tells k number) [
+      | inl same ↦
+          ap (λ n. get_or seated n no_tag) same.1
+          ∙ sym (get_or-set_same seats number new no_tag within)
+          ∙ ap (λ n. get_or (set seats number new) n no_tag) (sym same.1)
+      | inr apart ↦ others k apart.1 ∙ sym (get_or-set_other seats number k new no_tag apart.1)
+    ])
 
-pub adjusted_none : (session : ℕ) (updn : UpDn) (participations : List (Option Participation)) (tags : List TagValue) → AdjustedBelow session updn participations tags 0 participations tags
-adjusted_none session updn participations tags = record {
-  whole = refl;
-  tags_whole = refl;
-  each = λ k below. absurd (omega (arith, below));
+-- The tags that wait in the session were marked, and some drew their slots and lost their marks.
+marked_waits : (session : ℕ) (participation : Option Participation) (mark : ℕ) → mark ≡ (if waits_in session participation then 1 else 0) → mark ≢ 0 → waits_in session participation ≡ true
+marked_waits session participation mark is apart =
+    elim (bool_cases (waits_in session participation)) [
+      | inl is_so ↦ is_so
+      | inr not ↦ absurd (apart (is ∙ ap (λ (b : Bool). if b then 1 else 0) not))
+    ]
+
+unmarked_rests : (session : ℕ) (participation : Option Participation) (mark : ℕ) → mark ≡ (if waits_in session participation then 1 else 0) → mark ≡ 0 → waits_in session participation ≡ false
+unmarked_rests session participation mark is none =
+    elim (bool_cases (waits_in session participation)) [
+      | inl is_so ↦
+          let one : mark ≡ 1 = is ∙ ap (λ (b : Bool). if b then 1 else 0) is_so in
+          absurd (omega (arith, one, none))
+      | inr not ↦ not
+    ]
+
+-- how tags take part and what they are: before, and once some drew their slots; and the marks then
+pub record MarkedTags : Type 0 where
+  pub session : ℕ
+  pub updn : UpDn
+  pub participations : List (Option Participation)
+  pub tags : List TagValue
+  pub drawn : List (Option Participation)
+  pub drawn_tags : List TagValue
+  pub marks : List ℕ
+
+-- a tag without a mark is adjusted, and one with a mark waits, and is as it was
+pub record AreMarked (d : MarkedTags) : Type 0 where
+  pub whole : length d.drawn ≡ length d.participations
+  pub tags_whole : length d.drawn_tags ≡ length d.tags
+  pub each :
+      (k : ℕ) → k < length d.tags → get_or d.marks k 0 ≡ 0
+      → IsAdjusted d.session d.updn (participation_at d.participations k) (get_or d.tags k no_tag) (participation_at d.drawn k) (get_or d.drawn_tags k no_tag)
+  pub left :
+      (k : ℕ) → k < length d.tags → get_or d.marks k 0 ≢ 0
+      → (waits_in d.session (participation_at d.participations k) ≡ true) × (participation_at d.drawn k ≡ participation_at d.participations k) × (get_or d.drawn_tags k no_tag ≡ get_or d.tags k no_tag)
+
+drawn_adjusted : (session : ℕ) (updn : UpDn) (before : Option Participation) (tag : TagValue) (mark : ℕ) (after : Option Participation) (new : TagValue) (left : ℕ)
+    → mark ≡ (if waits_in session before then 1 else 0) → IsDrawnOrLeft session updn before tag mark after new left → left ≡ 0 → IsAdjusted session updn before tag after new
+drawn_adjusted session updn before tag mark after new left is (inl stayed) none = inl (unmarked_rests session before mark is (sym stayed.0 ∙ none), stayed.1, stayed.2)
+drawn_adjusted session updn before tag mark after new left is (inr (marked, gone, drew)) none = inr (marked_waits session before mark is marked, inr drew)
+
+drawn_left : (session : ℕ) (updn : UpDn) (before : Option Participation) (tag : TagValue) (mark : ℕ) (after : Option Participation) (new : TagValue) (left : ℕ)
+    → mark ≡ (if waits_in session before then 1 else 0) → IsDrawnOrLeft session updn before tag mark after new left → left ≢ 0
+    → (waits_in session before ≡ true) × (after ≡ before) × (new ≡ tag)
+drawn_left session updn before tag mark after new left is (inl stayed) apart = (marked_waits session before mark is (λ none. apart (stayed.0 ∙ none)), stayed.1, stayed.2)
+drawn_left session updn before tag mark after new left is (inr (marked, gone, drew)) apart = absurd (apart gone)
+
+pub are_marked : (d : MarkedTags) (marked : List ℕ) → length d.drawn ≡ length d.participations → length d.drawn_tags ≡ length d.tags
+    → ((k : ℕ) → get_or marked k 0 ≡ (if waits_in d.session (participation_at d.participations k) then 1 else 0))
+    → AreDrawnOrLeft d.session d.updn d.participations d.tags marked d.drawn d.drawn_tags d.marks → AreMarked d
+are_marked d marked whole tags_whole marks drawn = record {
+  whole = whole;
+  tags_whole = tags_whole;
+  each = λ k below none.
+      drawn_adjusted d.session d.updn (participation_at d.participations k) (get_or d.tags k no_tag) (get_or marked k 0) (participation_at d.drawn k) (get_or d.drawn_tags k no_tag) (get_or d.marks k 0) (marks k)
+      (drawn k below) none;
+  left = λ k below apart.
+      drawn_left d.session d.updn (participation_at d.participations k) (get_or d.tags k no_tag) (get_or marked k 0) (participation_at d.drawn k) (get_or d.drawn_tags k no_tag) (get_or d.marks k 0) (marks k)
+      (drawn k below) apart;
+}
+
+-- Then the tags that are still marked draw their slots, or are called: so far those below a number.
+pub record AdjustedBelow (d : MarkedTags) (number : ℕ) (after : List (Option Participation)) (adjusted : List TagValue) : Type 0 where
+  pub whole : length after ≡ length d.participations
+  pub tags_whole : length adjusted ≡ length d.tags
+  pub each :
+      (k : ℕ) → k < number → k < length d.tags
+      → IsAdjusted d.session d.updn (participation_at d.participations k) (get_or d.tags k no_tag) (participation_at after k) (get_or adjusted k no_tag)
+  pub left : (k : ℕ) → number ≤ k → (participation_at after k ≡ participation_at d.drawn k) × (get_or adjusted k no_tag ≡ get_or d.drawn_tags k no_tag)
+
+pub adjusted_none : (d : MarkedTags) → AreMarked d → AdjustedBelow d 0 d.drawn d.drawn_tags
+adjusted_none d marked = record {
+  whole = marked.whole;
+  tags_whole = marked.tags_whole;
+  each = λ k below inside. absurd (omega (arith, below));
   left = λ k past. (refl, refl);
 }
 
--- the next one waits in the session
-pub adjusted_next : (session : ℕ) (updn : UpDn) (participations : List (Option Participation)) (tags : List TagValue) (number : ℕ) (now : List (Option Participation)) (tags_now : List TagValue)
-    → (after : List (Option Participation)) (adjusted : List TagValue) → number < length participations → number < length tags → waits_in session (participation_at now number) ≡ true
-    → AdjustedBelow session updn participations tags number now tags_now → AdjustsOne session updn number now tags_now after adjusted → AdjustedBelow session updn participations tags (number + 1) after adjusted
-adjusted_next session updn participations tags number now tags_now after adjusted within inside waits so_far one =
+-- the tags up to the next one aren't marked
+pub adjusted_upto : (d : MarkedTags) (number to : ℕ) (now : List (Option Participation)) (tags_now : List TagValue) → AreMarked d → AdjustedBelow d number now tags_now → number ≤ to
+    → ((k : ℕ) → number ≤ k → k < to → get_or d.marks k 0 ≡ 0) → AdjustedBelow d to now tags_now
+adjusted_upto d number to now tags_now marked so_far onward none = record {
+  whole = so_far.whole;
+  tags_whole = so_far.tags_whole;
+  each = λ k below inside.
+      elim (cases_lt k number) [
+        | inl less ↦ so_far.each k less inside
+        | inr past ↦
+            let is = so_far.left k past in
+            subst (λ (p : Option Participation). IsAdjusted d.session d.updn (participation_at d.participations k) (get_or d.tags k no_tag) p (get_or tags_now k no_tag)) (sym is.0)
+            (subst (λ (t : TagValue). IsAdjusted d.session d.updn (participation_at d.participations k) (get_or d.tags k no_tag) (participation_at d.drawn k) t) (sym is.1)
+            (marked.each k inside (none k past below)))
+      ];
+  left = λ k past. so_far.left k (omega (arith, past, onward));
+}
+
+-- the next one is marked
+pub adjusted_next : (d : MarkedTags) (number : ℕ) (now : List (Option Participation)) (tags_now : List TagValue) (after : List (Option Participation)) (adjusted : List TagValue)
+    → number < length d.participations → number < length d.tags → get_or d.marks number 0 ≢ 0 → AreMarked d → AdjustedBelow d number now tags_now
+    → AdjustsOne d.session d.updn number now tags_now after adjusted → AdjustedBelow d (number + 1) after adjusted
+adjusted_next d number now tags_now after adjusted within inside mark marked so_far one =
     let participation_is : participation_at after number ≡ one.participation =
     ap (λ (l : List (Option Participation)). participation_at l number) one.participations_are ∙ get_or-set_same now number one.participation None (rw so_far.whole within) in
     let tag_is : get_or adjusted number no_tag ≡ one.tag =
@@ -115,92 +214,90 @@ adjusted_next session updn participations tags number now tags_now after adjuste
     let other_tag : (k : ℕ) → k ≢ number → get_or adjusted k no_tag ≡ get_or tags_now k no_tag = λ k apart.
     ap (λ (l : List TagValue). get_or l k no_tag) one.tags_are ∙ get_or-set_other tags_now number k one.tag no_tag apart in
     let here = so_far.left number (omega arith) in
-    let this : IsAdjusted session updn (participation_at participations number) (get_or tags number no_tag) (participation_at after number) (get_or adjusted number no_tag) =
+    let start = marked.left number inside mark in
+    let this : IsAdjusted d.session d.updn (participation_at d.participations number) (get_or d.tags number no_tag) (participation_at after number) (get_or adjusted number no_tag) =
     inr (
-      ap (λ (p : Option Participation). waits_in session p) (sym here.0) ∙ waits,
-      subst (λ (p : Option Participation). IsDrawnOrCalled session updn (get_or tags number no_tag) p (get_or adjusted number no_tag)) (sym participation_is)
-          (subst (λ (t : TagValue). IsDrawnOrCalled session updn (get_or tags number no_tag) one.participation t) (sym tag_is)
-          (subst (λ (t : TagValue). IsDrawnOrCalled session updn t one.participation one.tag) here.1 one.is)),
+      start.0,
+      subst (λ (p : Option Participation). IsDrawnOrCalled d.session d.updn (get_or d.tags number no_tag) p (get_or adjusted number no_tag)) (sym participation_is)
+          (subst (λ (t : TagValue). IsDrawnOrCalled d.session d.updn (get_or d.tags number no_tag) one.participation t) (sym tag_is)
+          (subst (λ (t : TagValue). IsDrawnOrCalled d.session d.updn t one.participation one.tag) (here.1 ∙ start.2) one.is)),
     ) in
     record {
       whole = ap (λ (l : List (Option Participation)). length l) one.participations_are ∙ length-set now number one.participation ∙ so_far.whole;
       tags_whole = ap (λ (l : List TagValue). length l) one.tags_are ∙ length-set tags_now number one.tag ∙ so_far.tags_whole;
-      each = λ k below.
+      each = λ k below room.
           elim (eqb_tells k number) [
             | inl same ↦
-                subst (λ n. IsAdjusted session updn (participation_at participations n) (get_or tags n no_tag) (participation_at after n) (get_or adjusted n no_tag)) (sym same.1) this
+                subst (λ n. IsAdjusted d.session d.updn (participation_at d.participations n) (get_or d.tags n no_tag) (participation_at after n) (get_or adjusted n no_tag)) (sym same.1) this
             | inr apart ↦
-                subst (λ (p : Option Participation). IsAdjusted session updn (participation_at participations k) (get_or tags k no_tag) p (get_or adjusted k no_tag)) (sym (other_participation k apart.1))
-                (subst (λ (t : TagValue). IsAdjusted session updn (participation_at participations k) (get_or tags k no_tag) (participation_at now k) t) (sym (other_tag k apart.1))
-                (so_far.each k (omega (arith, below, apart.1))))
+                subst (λ (p : Option Participation). IsAdjusted d.session d.updn (participation_at d.participations k) (get_or d.tags k no_tag) p (get_or adjusted k no_tag)) (sym (other_participation k apart.1))
+                (subst (λ (t : TagValue). IsAdjusted d.session d.updn (participation_at d.participations k) (get_or d.tags k no_tag) (participation_at now k) t) (sym (other_tag k apart.1))
+                (so_far.each k (omega (arith, below, apart.1)) room))
           ];
       left = λ k past.
           let before = so_far.left k (omega (arith, past)) in
           (other_participation k (λ same. omega (arith, same, past)) ∙ before.0, other_tag k (λ same. omega (arith, same, past)) ∙ before.1);
     }
 
--- the next one doesn't
-pub adjusted_past : (session : ℕ) (updn : UpDn) (participations : List (Option Participation)) (tags : List TagValue) (number : ℕ) (now : List (Option Participation)) (tags_now : List TagValue)
-    → waits_in session (participation_at now number) ≡ false
-    → AdjustedBelow session updn participations tags number now tags_now → AdjustedBelow session updn participations tags (number + 1) now tags_now
-adjusted_past session updn participations tags number now tags_now waits so_far =
-    let here = so_far.left number (omega arith) in
-    let this : IsAdjusted session updn (participation_at participations number) (get_or tags number no_tag) (participation_at now number) (get_or tags_now number no_tag) =
-    inl (ap (λ (p : Option Participation). waits_in session p) (sym here.0) ∙ waits, here.0, here.1) in
-    record {
-      whole = so_far.whole;
-      tags_whole = so_far.tags_whole;
-      each = λ k below.
-          elim (eqb_tells k number) [
-            | inl same ↦
-                subst (λ n. IsAdjusted session updn (participation_at participations n) (get_or tags n no_tag) (participation_at now n) (get_or tags_now n no_tag)) (sym same.1) this
-            | inr apart ↦ so_far.each k (omega (arith, below, apart.1))
-          ];
-      left = λ k past. so_far.left k (omega (arith, past));
-    }
+-- the tag of the next number waits
+pub next_waits : (d : MarkedTags) (number : ℕ) (now : List (Option Participation)) (tags_now : List TagValue) → number < length d.tags → get_or d.marks number 0 ≢ 0 → AreMarked d
+    → AdjustedBelow d number now tags_now → waits_in d.session (participation_at now number) ≡ true
+next_waits d number now tags_now inside mark marked so_far =
+    let start = marked.left number inside mark in
+    ap (λ (p : Option Participation). waits_in d.session p) ((so_far.left number (omega arith)).0 ∙ start.1) ∙ start.0
 
--- how many of the tags below a number are called
-abbrev pub called_below : ℕ → List (Option Participation) → ℕ
-called_below number participations = called_in (take number participations)
+-- Each mark is a step, and a tag that is called has no mark.
+one_or_none : (b : Bool) → (if b then 0 else 1) ≤ 1
+one_or_none true = omega arith
+one_or_none false = omega arith
 
-pub called_first : (participations : List (Option Participation)) → called_below 0 participations ≡ 0
-called_first [] = refl
-called_first (participation ∷ participations) = refl
+one_mark : (mark : ℕ) → (if mark == 0 then 0 else 1) ≤ 1
+one_mark mark = one_or_none (mark == 0)
 
-called_later : (number : ℕ) (participations : List (Option Participation))
-    → called_below (suc number) participations ≤ called_below number participations + (if is_called (participation_at participations number) then 1 else 0)
-called_later number [] = grind arith
-called_later zero (participation ∷ participations) = grind arith
-called_later (suc number) (participation ∷ participations) = omega (arith, called_later number participations)
+marked_once : (session : ℕ) (participation : Option Participation) (mark : ℕ) → mark ≡ (if waits_in session participation then 1 else 0)
+    → (if mark == 0 then 0 else 1) + (if is_called participation then 1 else 0) ≤ 1
+marked_once session None mark is = rw is (omega arith)
+marked_once session (Some (Waits own slot)) mark is = omega (arith, one_mark mark)
+marked_once session (Some Called) mark is = rw is (omega arith)
 
-called_next : (number : ℕ) (participations : List (Option Participation))
-    → called_below (number + 1) participations ≤ called_below number participations + (if is_called (participation_at participations number) then 1 else 0)
-called_next number participations =
-    let same : suc number ≡ number + 1 = omega arith in
-    subst (λ n. called_below n participations ≤ called_below number participations + (if is_called (participation_at participations number) then 1 else 0)) same (called_later number participations)
+pub marked_waiting : (session : ℕ) (marks : List ℕ) (participations : List (Option Participation)) → length marks ≡ length participations
+    → ((k : ℕ) → get_or marks k 0 ≡ (if waits_in session (participation_at participations k) then 1 else 0)) → marked_in marks + called_in participations ≤ length participations
+marked_waiting session [] [] same is = omega arith
+marked_waiting session [] (participation ∷ participations) same is = absurd (omega (arith, same))
+marked_waiting session (mark ∷ marks) [] same is = absurd (omega (arith, same))
+marked_waiting session (mark ∷ marks) (participation ∷ participations) same is =
+    omega (arith, marked_once session participation mark (is 0), marked_waiting session marks participations (omega (arith, same)) (λ k. is (suc k)))
 
-one_more : (participation : Option Participation) → (if is_called participation then 1 else 0) ≤ 1
-one_more None = omega arith
-one_more (Some (Waits session slot)) = omega arith
-one_more (Some Called) = omega arith
+-- how many marks one mark is
+abbrev one_if : Bool → ℕ
+one_if b = if b then 0 else 1
 
-none_more : (session : ℕ) (participation : Option Participation) → waits_in session participation ≡ true → (if is_called participation then 1 else 0) ≤ 0
-none_more session None waits = absurd (cc)
-none_more session (Some (Waits own slot)) waits = omega arith
-none_more session (Some Called) waits = absurd (cc)
+marked_first : (mark : ℕ) → mark ≢ 0 → one_if (mark == 0) ≡ 1
+marked_first mark apart =
+    elim (eqb_tells mark 0) [
+      | inl none ↦ absurd (apart none.1)
+      | inr some ↦ ap (λ (b : Bool). one_if b) some.0
+    ]
 
--- a step more where the next one waits, and none where it is called
-pub steps_next : (session number : ℕ) (participations : List (Option Participation)) (steps now after : ℕ) → waits_in session (participation_at participations number) ≡ true
-    → now + called_below number participations ≤ steps + number → after ≤ now + 1 → after + called_below (number + 1) participations ≤ steps + (number + 1)
-steps_next session number participations steps now after waits so_far one =
-    omega (arith, called_next number participations, none_more session (participation_at participations number) waits, so_far, one)
+pub marked_here : (marks : List ℕ) (number : ℕ) → get_or marks number 0 ≢ 0 → marked_in (drop number marks) ≡ 1 + marked_in (drop (suc number) marks)
+marked_here [] number apart = absurd (apart refl)
+marked_here (mark ∷ marks) zero apart = ap (λ n. n + marked_in marks) (marked_first mark apart)
+marked_here (mark ∷ marks) (suc number) apart = marked_here marks number apart
 
-pub steps_past : (number : ℕ) (participations : List (Option Participation)) (steps now : ℕ)
-    → now + called_below number participations ≤ steps + number → now + called_below (number + 1) participations ≤ steps + (number + 1)
-steps_past number participations steps now so_far = omega (arith, called_next number participations, one_more (participation_at participations number), so_far)
+none_marked : (more : ℕ) → marked_in (drop more []) ≡ 0
+none_marked zero = refl
+none_marked (suc more) = refl
 
-pub called_all : (number : ℕ) (participations : List (Option Participation)) → length participations ≤ number → called_below number participations ≡ called_in participations
-called_all number participations past = ap (λ (l : List (Option Participation)). called_in l) (take_all number participations past)
+marked_behind : (marks : List ℕ) (more : ℕ) → marked_in (drop more marks) ≤ marked_in marks
+marked_behind [] more = omega (arith, none_marked more)
+marked_behind (mark ∷ marks) zero = omega arith
+marked_behind (mark ∷ marks) (suc more) = omega (arith, marked_behind marks more)
+
+pub marked_further : (marks : List ℕ) (from to : ℕ) → from ≤ to → marked_in (drop to marks) ≤ marked_in (drop from marks)
+marked_further [] from to onward = omega (arith, none_marked to)
+marked_further (mark ∷ marks) zero to onward = marked_behind (mark ∷ marks) to
+marked_further (mark ∷ marks) (suc from) zero onward = absurd (omega (arith, onward))
+marked_further (mark ∷ marks) (suc from) (suc to) onward = marked_further marks from to (omega (arith, onward))
 
 -- What comes of it: a tag that waits and isn't called doesn't miss it.
 IsUnmissed : ℕ → Bool → Option Participation → TagValue → Type 0
@@ -314,6 +411,20 @@ unmissed_at session updn entry participations seats after seated calls k =
     ∙ participation_of_tag (tags_of participations seats) k
     ∙ ap (λ (l : List TagValue). participation_in (get_or l k no_tag).state) (sym calls.first.tags))
     (calls.missed k)
+
+-- the tags that aren't called take part as their states say once those that miss it are called
+pub missed_settled : (session : ℕ) (entry : Entry) (participations : List (Option Participation)) (seats : List TagValue) (steps : ℕ) (middle : List (Option Participation)) (between : List TagValue) (stepped : ℕ)
+    → AreAtRest participations seats → ((number : ℕ) → IsMissedCalled session (is_missed number entry) (participation_at participations number) (participation_at middle number))
+    → CallsTags participations seats steps middle between stepped → AreUncalledSettled middle (tags_of middle between)
+missed_settled session entry participations seats steps middle between stepped rest missed first = λ number apart.
+    elim (missed number) [
+      | inl same ↦
+          same.0
+          ∙ ap (λ (l : List (Option Participation)). participation_at l number) rest.settled
+          ∙ participation_of_tag (tags_of participations seats) number
+          ∙ ap (λ (l : List TagValue). participation_in (get_or l number no_tag).state) (sym first.tags)
+      | inr called ↦ absurd (apart called.0)
+    ]
 
 pub adjust_called_for : (session : ℕ) (updn : UpDn) (entry : Entry) (participations : List (Option Participation)) (seats : List TagValue) (after : List (Option Participation)) (seated : List TagValue)
     → AdjustCalls session updn entry participations seats after seated → AreCalledFor (commands.QueryAdjust session updn) entry (tags_of participations seats) after seated

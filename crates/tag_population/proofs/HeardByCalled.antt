@@ -1,22 +1,21 @@
 -- The called tags hear a command, one after another.
-use Rattle.std.proofs.Common.{◌≡◌, ◌≢◌, ℕ, zero, suc, ◌+◌, ◌-◌, ◌<◌, ◌≤◌, ◌⊎◌, inl, inr, Bool, true, false, cond, List, [], ◌∷◌, ◌++◌, length, take, drop, Option, Some, None, get_or, set, refl, sym, ap, ◌∙◌, subst, arith, if◌then◌else◌, append_assoc, append-nil, length-append, take_all}
+use Rattle.std.proofs.Common.{◌≡◌, ◌≢◌, ℕ, zero, suc, ◌+◌, ◌-◌, ◌<◌, ◌≤◌, ◌⊎◌, inl, inr, Bool, false, cond, List, [], ◌∷◌, ◌++◌, length, take, drop, Option, Some, None, get_or, set, refl, sym, ap, ◌∙◌, subst, arith, if◌then◌else◌, append_assoc, append-nil, length-append, take_all}
 use Rattle.std.proofs.lemmas.Bool.{cases_lt}
 use Rattle.std.proofs.lemmas.Bool.Decides.{eqb_tells}
-use Rattle.std.proofs.lemmas.List.{get_or-set_same, get_or-set_other, get_or_default, length-set, ext_get_or, length-map}
+use Rattle.std.proofs.lemmas.List.{get_or-set_same, get_or-set_other, length-set, ext_get_or, length-map}
 use Rattle.air_events.specs.declared.Entry.{Entry}
 use Rattle.command_grammar.specs.declared.commands.Command.{Command}
 use Rattle.tag_machine.specs.Answers.{Outcome, Sent, silent}
 use Rattle.tag_machine.specs.TagValue.{StateValue, ReadyState, ArbitrateState, ReplyState, AcknowledgedState, OpenState, SecuredState, KilledState, UnpoweredState, TagValue, IsLegalState, IsLegalTag}
-use Rattle.tag_population.proofs.EventsOnTags.{legal-set}
 use Rattle.tag_population.proofs.SeatedTags.{length-tags_of, tag_at, seated_as_is, participation_inside}
 use Rattle.tag_machine.specs.Exchange.{AreLegalTags, Replied, outcome_unless, is_missed, tags_after, reply_of, replies_from}
 use Rattle.tag_population.specs.Seated.{with_slot, tag_seated, tags_of, participation_in, participations_of, called_in, outcome_called, outcomes_called, AreAtRest, AreUncalledSettled}
 use Rattle.tag_population.specs.Seats.{no_tag}
 use Rattle.std.proofs.lemmas.Option.{same_Some}
 use Rattle.air_events.specs.TagNumbers.{most_tags}
-use Rattle.tag_population.specs.Waiting.{participation_at, slot_in, is_called, IsNextCalled, AreSlots}
-use Rattle.tag_population.specs.declared.waiting.Participation.{Participation}
-use Rattle.tag_population.specs.declared.waiting.Participation.TheVariants.{Waits, Called}
+use Rattle.waiting_tags.specs.Waiting.{participation_at, slot_in, is_called, IsNextCalled, AreSlots}
+use Rattle.waiting_tags.specs.declared.waiting.Participation.{Participation}
+use Rattle.waiting_tags.specs.declared.waiting.Participation.TheVariants.{Waits, Called}
 
 pub sum-zero : (n : ℕ) → n ≡ n + 0
 sum-zero n = omega arith
@@ -225,10 +224,6 @@ called_tag participation seat is = ap (λ (s : Option Participation). tag_seated
 pub called_outcome : (misses : Bool) (command : Command) (participation : Option Participation) (tag : TagValue) → participation ≡ Some Called → outcome_called misses command participation tag ≡ outcome_unless misses command tag
 called_outcome misses command participation tag is = ap (λ (s : Option Participation). outcome_called misses command s tag) is
 
-pub step_most : (misses : Bool) → (if misses then 0 else 1) ≤ 1
-step_most true = omega arith
-step_most false = omega arith
-
 not_this : (participations : List (Option Participation)) (number other : ℕ) → participation_at participations number ≡ Some Called → (suc number ≤ other) ⊎ (participation_at participations other ≢ Some Called) → other ≢ number
 not_this participations number other called (inl past) = λ same. omega (arith, same, past)
 not_this participations number other called (inr apart) = λ same. apart (ap (λ n. participation_at participations n) same ∙ called)
@@ -238,55 +233,56 @@ still_free : (participations : List (Option Participation)) (number other : ℕ)
 still_free participations number other (inl past) = inl (omega (arith, past))
 still_free participations number other (inr apart) = inr apart
 
+-- what comes of the command for the tag of a number
+abbrev pub outcome_now : Bool → BeforeHearing → HeardSoFar → ℕ → Outcome
+outcome_now misses before now number = outcome_unless misses before.command (get_or now.seats number no_tag)
+
 -- one called tag more heard the command, or missed it
 pub record HearsNext (before : BeforeHearing) (number : ℕ) (now after : HeardSoFar) : Type 0 where
   pub misses : Bool
-  pub seat : TagValue
-  pub other : TagValue
-  pub new : TagValue
   pub participation : Option Participation
   pub called : participation_at before.participations number ≡ Some Called
-  pub at : seat ≡ get_or now.seats number other
   pub missed : misses ≡ is_missed number before.entry
-  pub is : new ≡ (outcome_unless misses before.command seat).tag
-  pub legal : IsLegalTag new
-  pub takes : participation ≡ participation_in new.state
+  pub seats_are : after.seats ≡ set now.seats number (outcome_now misses before now number).tag
+  pub legal : AreLegalTags after.seats
+  pub takes : participation ≡ participation_in (outcome_now misses before now number).tag.state
   pub put : after.participations ≡ set now.participations number participation
-  pub counted : after.steps ≡ now.steps + (if misses then 0 else 1)
+  pub counted : after.steps ≤ now.steps + 1
 
 -- what came of it for that tag
 heard_outcome : (before : BeforeHearing) (number : ℕ) (now after : HeardSoFar) → length before.participations ≡ length before.seats → HeardUpto before number now
     → (h : HearsNext before number now after)
-    → outcome_unless h.misses before.command h.seat ≡ outcome_unless (is_missed number before.entry) before.command (get_or before.seats number no_tag)
+    → outcome_now h.misses before now number ≡ outcome_unless (is_missed number before.entry) before.command (get_or before.seats number no_tag)
 heard_outcome before number now after same so_far h =
-    let within : number < length before.seats = rw (← same) (participation_inside before.participations number Called h.called) in
-    let here : number < length now.seats = rw so_far.seats_whole within in
-    let seat_is : h.seat ≡ get_or before.seats number no_tag = h.at ∙ get_or_default now.seats number h.other no_tag here ∙ (so_far.left number (inl (omega arith))).0 in
-    ap (λ (b : Bool). outcome_unless b before.command h.seat) h.missed ∙ ap (λ (t : TagValue). outcome_unless (is_missed number before.entry) before.command t) seat_is
+    ap (λ (b : Bool). outcome_now b before now number) h.missed
+    ∙ ap (λ (t : TagValue). outcome_unless (is_missed number before.entry) before.command t) (so_far.left number (inl (omega arith))).0
 
 pub heard_next : (before : BeforeHearing) (number : ℕ) (now after : HeardSoFar) → length before.participations ≡ length before.seats → HeardUpto before number now
-    → (h : HearsNext before number now after)
-    → HeardUpto before (suc number) (record { participations = after.participations; seats = set now.seats number h.new; steps = after.steps })
+    → (h : HearsNext before number now after) → HeardUpto before (suc number) after
 heard_next before number now after same so_far h =
     let within : number < length before.seats = rw (← same) (participation_inside before.participations number Called h.called) in
     let here : number < length now.seats = rw so_far.seats_whole within in
     let there : number < length now.participations = rw so_far.whole within in
     let outcome = heard_outcome before number now after same so_far h in
+    let new : TagValue = (outcome_now h.misses before now number).tag in
+    let at : get_or after.seats number no_tag ≡ new = ap (λ (l : List TagValue). get_or l number no_tag) h.seats_are ∙ get_or-set_same now.seats number new no_tag here in
+    let others : (other : ℕ) → other ≢ number → get_or after.seats other no_tag ≡ get_or now.seats other no_tag = λ other apart.
+    ap (λ (l : List TagValue). get_or l other no_tag) h.seats_are ∙ get_or-set_other now.seats number other new no_tag apart in
     record {
       whole = ap (λ (l : List (Option Participation)). length l) h.put ∙ length-set now.participations number h.participation ∙ so_far.whole;
-      seats_whole = length-set now.seats number h.new ∙ so_far.seats_whole;
+      seats_whole = ap (λ (l : List TagValue). length l) h.seats_are ∙ length-set now.seats number new ∙ so_far.seats_whole;
       inside = omega (arith, within);
       heard = λ other below is_called.
           elim (eqb_tells other number) [
             | inl one ↦
                 rw one.1 (
-                  get_or-set_same now.seats number h.new no_tag here ∙ h.is ∙ ap (λ (o : Outcome). o.tag) outcome,
+                  at ∙ ap (λ (o : Outcome). o.tag) outcome,
                   ap (λ (l : List (Option Participation)). participation_at l number) h.put ∙ get_or-set_same now.participations number h.participation None there ∙ h.takes
-                      ∙ ap (λ (t : TagValue). participation_in t.state) (sym (get_or-set_same now.seats number h.new no_tag here)),
+                      ∙ ap (λ (t : TagValue). participation_in t.state) (sym at),
                 )
             | inr apart ↦
                 let was = so_far.heard other (omega (arith, below, apart.1)) is_called in
-                let stays : get_or (set now.seats number h.new) other no_tag ≡ get_or now.seats other no_tag = get_or-set_other now.seats number other h.new no_tag apart.1 in (
+                let stays : get_or after.seats other no_tag ≡ get_or now.seats other no_tag = others other apart.1 in (
                   stays ∙ was.0,
                   ap (λ (l : List (Option Participation)). participation_at l other) h.put ∙ get_or-set_other now.participations number other h.participation None apart.1 ∙ was.1
                       ∙ ap (λ (t : TagValue). participation_in t.state) (sym stays),
@@ -295,11 +291,11 @@ heard_next before number now after same so_far h =
       left = λ other free.
           let apart : other ≢ number = not_this before.participations number other h.called free in
           let was = so_far.left other (still_free before.participations number other free) in (
-            get_or-set_other now.seats number other h.new no_tag apart ∙ was.0,
+            others other apart ∙ was.0,
             ap (λ (l : List (Option Participation)). participation_at l other) h.put ∙ get_or-set_other now.participations number other h.participation None apart ∙ was.1,
           );
-      steps_are = omega (arith, so_far.steps_are, called_here before.participations number h.called, h.counted, step_most h.misses);
-      legal = legal-set now.seats number h.new so_far.legal h.legal;
+      steps_are = omega (arith, so_far.steps_are, called_here before.participations number h.called, h.counted);
+      legal = h.legal;
     }
 
 silent_tag : (misses : Bool) (command : Command) (participation : Option Participation) (tag : TagValue) → participation ≢ Some Called → tag ≡ (outcome_called misses command participation tag).tag
@@ -392,12 +388,12 @@ replied_upto before from = replies_from 0 (take from (outcomes_called 0 before.c
 -- one tag more
 pub replied_next : (before : BeforeHearing) (number : ℕ) (now after : HeardSoFar) → length before.participations ≡ length before.seats → HeardUpto before number now
     → (h : HearsNext before number now after)
-    → replied_upto before number ++ reply_of number (outcome_unless h.misses before.command h.seat).answer ≡ replied_upto before (suc number)
+    → replied_upto before number ++ reply_of number (outcome_now h.misses before now number).answer ≡ replied_upto before (suc number)
 replied_next before number now after same so_far h =
     let tags : List TagValue = tags_of before.participations before.seats in
     let tags_same : length before.participations ≡ length tags = same ∙ sym (length-tags_of before.participations before.seats same) in
     let within : number < length before.seats = rw (← same) (participation_inside before.participations number Called h.called) in
-    let outcome : outcome_unless h.misses before.command h.seat ≡ outcome_is 0 before.command before.entry before.participations tags number =
+    let outcome : outcome_now h.misses before now number ≡ outcome_is 0 before.command before.entry before.participations tags number =
     heard_outcome before number now after same so_far h
     ∙ sym (called_outcome (is_missed number before.entry) before.command (participation_at before.participations number) (get_or before.seats number no_tag) h.called)
     ∙ ap (λ (t : TagValue). outcome_called (is_missed number before.entry) before.command (participation_at before.participations number) t)

@@ -14,8 +14,8 @@ use Rattle.tag_machine.specs.Exchange.{AreLegalTags, Replied, outcome_unless, is
 use Rattle.tag_population.specs.Hearing.{hearing_from}
 use Rattle.tag_population.specs.Seated.{tag_seated, tags_of, participation_in, outcome_seated, HearsSeated}
 use Rattle.tag_population.specs.Seats.{no_tag}
-use Rattle.tag_population.specs.Waiting.{participation_at}
-use Rattle.tag_population.specs.declared.waiting.Participation.{Participation}
+use Rattle.waiting_tags.specs.Waiting.{participation_at}
+use Rattle.waiting_tags.specs.declared.waiting.Participation.{Participation}
 
 -- what comes of a command for the tag of a number
 abbrev pub outcome_of : Command → Entry → List TagValue → ℕ → Outcome

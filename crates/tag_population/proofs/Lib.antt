@@ -1,8 +1,4 @@
 pub mod EventsOnTags
-pub mod WheelLinks
-pub mod KeptPlaces
-pub mod TagSetBits
-pub mod SlotPlaces
 pub mod SeatedTags
 pub mod HeardByCalled
 pub mod QueryRepCalls
@@ -10,6 +6,7 @@ pub mod TagsAtRest
 pub mod HeardByEach
 pub mod OneExchange
 pub mod HeardInSeats
-pub mod DrawnSlots
 pub mod AdjustCalls
-pub mod SeatsKept
+pub mod WordsKept
+pub mod ToldTags
+pub mod MarkedDraws

@@ -16,14 +16,14 @@ use Rattle.tag_machine.specs.Step.{step}
 use Rattle.tag_machine.specs.TagValue.{StateValue, ReadyState, ArbitrateState, ReplyState, AcknowledgedState, OpenState, SecuredState, KilledState, UnpoweredState, BodyValue, TagValue}
 use Rattle.tag_population.proofs.HeardByCalled.{participation_of_tag, sum-zero, zero-sum, later}
 use Rattle.tag_population.proofs.SeatedTags.{length-tags_of, tag_at}
-use Rattle.tag_population.proofs.SlotPlaces.{same_waits}
+use Rattle.waiting_tags.proofs.SlotPlaces.{same_waits}
 use Rattle.tag_machine.specs.Exchange.{outcome_unless, is_missed, is_busy, busy_from}
 use Rattle.tag_population.specs.Hearing.{hearing_from}
 use Rattle.tag_population.specs.Seated.{with_slot, tag_seated, tags_of, participation_in, participations_of, called_in, outcome_called, outcomes_called, AreAtRest, AreCalledFor, CallsTags, IsMissedCalled, IsDueCalled}
 use Rattle.tag_population.specs.Seats.{no_tag}
-use Rattle.tag_population.specs.Waiting.{participation_at, is_called, waits_in, counted_down}
-use Rattle.tag_population.specs.declared.waiting.Participation.{Participation}
-use Rattle.tag_population.specs.declared.waiting.Participation.TheVariants.{Waits, Called}
+use Rattle.waiting_tags.specs.Waiting.{participation_at, is_called, waits_in, counted_down}
+use Rattle.waiting_tags.specs.declared.waiting.Participation.{Participation}
+use Rattle.waiting_tags.specs.declared.waiting.Participation.TheVariants.{Waits, Called}
 
 -- a tag that isn't called stays as it is at a command that doesn't reach all
 stays : (command : Command) (state : StateValue) (body : BodyValue) → reaches_waiting command ≡ false → is_called (participation_in state) ≡ false → step command state body ≡ silent state body

@@ -10,9 +10,9 @@ use Rattle.tag_machine.specs.TagValue.{StateValue, ReadyState, ArbitrateState, R
 use Rattle.tag_machine.specs.Exchange.{AreLegalTags, is_missed}
 use Rattle.tag_population.specs.Seated.{tag_seated, tags_of, participation_in, seats_written_back, steps_back, called_in, CallsTags, IsMissedCalled}
 use Rattle.tag_population.specs.Seats.{no_tag}
-use Rattle.tag_population.specs.Waiting.{participation_at, is_called, waits_in}
-use Rattle.tag_population.specs.declared.waiting.Participation.{Participation}
-use Rattle.tag_population.specs.declared.waiting.Participation.TheVariants.{Waits, Called}
+use Rattle.waiting_tags.specs.Waiting.{participation_at, is_called, waits_in}
+use Rattle.waiting_tags.specs.declared.waiting.Participation.{Participation}
+use Rattle.waiting_tags.specs.declared.waiting.Participation.TheVariants.{Waits, Called}
 
 pub length-tags_of : (participations : List (Option Participation)) (seats : List TagValue) → length participations ≡ length seats → length (tags_of participations seats) ≡ length seats
 length-tags_of [] [] same = refl

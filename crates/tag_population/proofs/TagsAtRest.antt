@@ -1,28 +1,24 @@
 -- Tags between commands: each takes part as its state says.
-use Rattle.std.proofs.Common.{◌≡◌, ◌≢◌, ℕ, zero, suc, ◌+◌, ◌<◌, ◌≤◌, inl, inr, List, [], ◌∷◌, ◌++◌, length, take, drop, Option, Some, None, get_or, set, refl, sym, ap, ◌∙◌, subst, arith, take_all}
+use Rattle.std.proofs.Common.{◌≡◌, ◌≢◌, ℕ, zero, suc, ◌+◌, ◌<◌, ◌≤◌, inl, inr, List, [], ◌∷◌, length, Option, Some, None, get_or, set, refl, sym, ap, ◌∙◌, subst, arith}
 use Rattle.std.specs.Prelude.{slice_get}
 use Rattle.std.proofs.lemmas.Bool.Decides.{eqb_tells}
 use Rattle.std.proofs.lemmas.Option.{same_Some}
-use Rattle.std.proofs.lemmas.List.{get_or-set_same, get_or-set_other, get_or_default, set-get_or, set-set, length-set, map-set, take-append-le, ext_get_or, length-map}
+use Rattle.std.proofs.lemmas.List.{get_or-set_same, get_or-set_other, set-get_or, set-set, length-set, map-set, ext_get_or, length-map}
 use Rattle.air_events.specs.TagNumbers.{most_tags}
 use Rattle.air_events.specs.declared.Event.{Event}
 use Rattle.tag_machine.specs.Events.{tag_after_event}
-use Rattle.tag_machine.specs.TagValue.{StateValue, ReadyState, ArbitrateState, ReplyState, AcknowledgedState, OpenState, SecuredState, KilledState, UnpoweredState, TagValue, IsLegalState, IsLegalTag}
+use Rattle.tag_machine.specs.TagValue.{StateValue, ReadyState, ArbitrateState, ReplyState, AcknowledgedState, OpenState, SecuredState, KilledState, UnpoweredState, TagValue, IsLegalState}
 use Rattle.tag_population.proofs.QueryRepCalls.{with_slot_twice}
 use Rattle.tag_population.proofs.HeardByCalled.{participation_of_tag}
-use Rattle.tag_population.proofs.EventsOnTags.{befallen_at, legal-set, length-tags_after_event}
+use Rattle.tag_population.proofs.EventsOnTags.{befallen_at, length-tags_after_event}
 use Rattle.tag_population.proofs.SeatedTags.{length-tags_of, tag_at, tags-set, seated_as_is, called_in-set, back_and_called}
 use Rattle.tag_machine.specs.Exchange.{AreLegalTags, tags_after_event}
 use Rattle.tag_population.specs.Hearing.{tags_after_events}
 use Rattle.tag_population.specs.Seated.{tag_seated, tags_of, participation_in, participations_of, seats_written_back, steps_back, called_in, AreAtRest, CallsTags}
 use Rattle.tag_population.specs.Seats.{no_tag}
-use Rattle.tag_population.specs.Waiting.{participation_at, slot_in, AreSlots}
-use Rattle.tag_population.specs.declared.waiting.Participation.{Participation}
-use Rattle.tag_population.specs.declared.waiting.Participation.TheVariants.{Waits, Called}
-
--- a list that was written over whole
-pub refilled : (len : ℕ) (new old : List TagValue) → length new ≡ len → take len (new ++ drop (length new) old) ≡ new
-refilled len new old same = take-append-le len new (drop (length new) old) (omega (arith, same)) ∙ take_all len new (omega (arith, same))
+use Rattle.waiting_tags.specs.Waiting.{participation_at, slot_in, AreSlots}
+use Rattle.waiting_tags.specs.declared.waiting.Participation.{Participation}
+use Rattle.waiting_tags.specs.declared.waiting.Participation.TheVariants.{Waits, Called}
 
 seated_twice : (participation : Option Participation) (seat : TagValue) → tag_seated participation (tag_seated participation seat) ≡ tag_seated participation seat
 seated_twice None seat = refl
@@ -43,64 +39,42 @@ back_tags participations seats number same within =
 -- what is known once it is
 pub record WrittenBack : Type 0 where
   pub participations : List (Option Participation)
-  -- the seats, those that were written to, and those afterwards
+  -- the seats before and afterwards
   pub items : List TagValue
-  pub slice : List TagValue
   pub new : List TagValue
   pub number : ℕ
-  pub len : ℕ
   pub rest : AreAtRest participations items
   pub within : number < length items
-  pub slice_is : slice ≡ items
-  pub new_is : new ≡ seats_written_back participations number slice
-  pub legal : AreLegalTags slice → AreLegalTags new
-  pub len_is : length items ≡ len
+  pub new_is : new ≡ seats_written_back participations number items
+  pub legal : AreLegalTags items → AreLegalTags new
 
-back_is : (back : WrittenBack) → take back.len (back.new ++ drop (length back.new) back.items) ≡ seats_written_back back.participations back.number back.items
-back_is back =
-    let written : back.new ≡ seats_written_back back.participations back.number back.items = back.new_is ∙ ap (λ (l : List TagValue). seats_written_back back.participations back.number l) back.slice_is in
-    refilled back.len back.new back.items
-    (ap (λ (l : List TagValue). length l) written ∙ length-set back.items back.number (tag_seated (participation_at back.participations back.number) (get_or back.items back.number no_tag)) ∙ back.len_is)
-    ∙ written
-
-pub back_kept : (back : WrittenBack) → tags_of back.participations (take back.len (back.new ++ drop (length back.new) back.items)) ≡ tags_of back.participations back.items
+pub back_kept : (back : WrittenBack) → tags_of back.participations back.new ≡ tags_of back.participations back.items
 back_kept back =
-    ap (λ (l : List TagValue). tags_of back.participations l) (back_is back) ∙ back_tags back.participations back.items back.number back.rest.whole back.within
+    ap (λ (l : List TagValue). tags_of back.participations l) back.new_is ∙ back_tags back.participations back.items back.number back.rest.whole back.within
 
-pub back_rest : (back : WrittenBack) → AreAtRest back.participations (take back.len (back.new ++ drop (length back.new) back.items))
+pub back_rest : (back : WrittenBack) → AreAtRest back.participations back.new
 back_rest back =
-    let written : back.new ≡ seats_written_back back.participations back.number back.items = back.new_is ∙ ap (λ (l : List TagValue). seats_written_back back.participations back.number l) back.slice_is in
     let seat : TagValue = tag_seated (participation_at back.participations back.number) (get_or back.items back.number no_tag) in
-    let legal : AreLegalTags (seats_written_back back.participations back.number back.items) =
-    subst (λ (l : List TagValue). AreLegalTags l) written (back.legal (subst (λ (l : List TagValue). AreLegalTags l) (sym back.slice_is) back.rest.legal)) in
-    subst (λ (l : List TagValue). AreAtRest back.participations l) (sym (back_is back))
-    (record {
-      few = rw (length-set back.items back.number seat) back.rest.few;
-      whole = back.rest.whole ∙ sym (length-set back.items back.number seat);
-      legal = legal;
+    let long : length back.new ≡ length back.items = ap (λ (l : List TagValue). length l) back.new_is ∙ length-set back.items back.number seat in
+    record {
+      few = omega (arith, long, back.rest.few);
+      whole = back.rest.whole ∙ sym long;
+      legal = back.legal back.rest.legal;
       slots = back.rest.slots;
-      settled = back.rest.settled ∙ ap (λ (l : List TagValue). participations_of l) (sym (back_tags back.participations back.items back.number back.rest.whole back.within));
-    })
-
--- the seats then
-abbrev pub items_back : WrittenBack → List TagValue
-items_back back = take back.len (back.new ++ drop (length back.new) back.items)
-
--- ... and where one of them lends its tag and stays as it is
-pub back_same : (back : WrittenBack) (at : ℕ) (lender lent d : TagValue) → lender ≡ lent → lent ≡ get_or (items_back back) at d → set (items_back back) at lender ≡ items_back back
-back_same back at lender lent d kept is = ap (λ (t : TagValue). set (items_back back) at t) (kept ∙ is) ∙ set-get_or (items_back back) at d
+      settled = back.rest.settled ∙ ap (λ (l : List TagValue). participations_of l) (sym (back_kept back));
+    }
 
 slice_at : (tags : List TagValue) (number : ℕ) (d : TagValue) → number < length tags → slice_get tags number ≡ Some (get_or tags number d)
 slice_at [] number d within = absurd (omega (arith, within))
 slice_at (tag ∷ tags) zero d within = refl
 slice_at (tag ∷ tags) (suc number) d within = slice_at tags number d (omega (arith, within))
 
-pub back_lent : (back : WrittenBack) (lent d : TagValue) → lent ≡ get_or (take back.len (back.new ++ drop (length back.new) back.items)) back.number d → slice_get (tags_of back.participations back.items) back.number ≡ Some lent
-back_lent back lent d is =
+pub back_lent : (back : WrittenBack) (lent : TagValue) → lent ≡ get_or back.new back.number no_tag → slice_get (tags_of back.participations back.items) back.number ≡ Some lent
+back_lent back lent is =
     let seat : TagValue = tag_seated (participation_at back.participations back.number) (get_or back.items back.number no_tag) in
     let inside : back.number < length (tags_of back.participations back.items) = rw (length-tags_of back.participations back.items back.rest.whole) back.within in
     let seated : lent ≡ seat =
-    is ∙ ap (λ (l : List TagValue). get_or l back.number d) (back_is back) ∙ get_or-set_same back.items back.number seat d back.within in
+    is ∙ ap (λ (l : List TagValue). get_or l back.number no_tag) back.new_is ∙ get_or-set_same back.items back.number seat no_tag back.within in
     slice_at (tags_of back.participations back.items) back.number no_tag inside
     ∙ ap (λ (t : TagValue). Some t) (tag_at back.participations back.items back.number no_tag back.rest.whole back.within ∙ sym seated)
 
@@ -113,90 +87,82 @@ pub record Befalls : Type 0 where
   pub participations : List (Option Participation)
   pub called : List (Option Participation)
   pub after : List (Option Participation)
-  -- the seats, those that were written to, and those once the tag is called
+  -- the seats before, once the tag is called, and after the event
   pub items : List TagValue
-  pub slice : List TagValue
   pub seated : List TagValue
+  pub became : List TagValue
   pub number : ℕ
-  pub len : ℕ
   pub event : Event
   pub steps : ℕ
   pub stepped : ℕ
-  -- the tag before the event and after it
-  pub seat : TagValue
-  pub new : TagValue
-  pub other : TagValue
   pub participation : Option Participation
   pub rest : AreAtRest participations items
   pub within : number < length items
-  pub slice_is : slice ≡ items
-  pub len_is : length items ≡ len
-  pub calls : CallsTags participations slice steps called seated stepped
+  pub calls : CallsTags participations items steps called seated stepped
   pub called_is : called ≡ set participations number (Some Called)
-  pub seat_is : seat ≡ get_or (take len (seated ++ drop (length seated) items)) number other
-  pub new_is : new ≡ tag_after_event event seat.state seat.body
-  pub new_legal : IsLegalTag new
-  pub participation_is : participation ≡ participation_in new.state
+  pub became_is : became ≡ set seated number (tag_after_event event (get_or seated number no_tag).state (get_or seated number no_tag).body)
+  pub legal : AreLegalTags became
+  pub participation_is : participation ≡ participation_in (get_or became number no_tag).state
   pub after_is : after ≡ set called number participation
   pub slots : AreSlots after
 
-befalls_is : (b : Befalls) → take b.len (b.seated ++ drop (length b.seated) b.items) ≡ b.seated
-befalls_is b =
-    refilled b.len b.seated b.items (b.calls.seats_whole ∙ ap (λ (l : List TagValue). length l) b.slice_is ∙ b.len_is)
+-- the tag afterwards
+abbrev befallen_tag : Befalls → TagValue
+befallen_tag b = tag_after_event b.event (get_or b.seated b.number no_tag).state (get_or b.seated b.number no_tag).body
 
-pub befalls_tags : (b : Befalls) → tags_of b.after (set (take b.len (b.seated ++ drop (length b.seated) b.items)) b.number b.new) ≡ tags_after_event 0 b.event b.number (tags_of b.participations b.items)
+befallen_participation : (b : Befalls) → b.participation ≡ participation_in (befallen_tag b).state
+befallen_participation b =
+    let room : b.number < length b.seated = rw b.calls.seats_whole b.within in
+    b.participation_is
+    ∙ ap (λ (l : List TagValue). participation_in (get_or l b.number no_tag).state) b.became_is
+    ∙ ap (λ (t : TagValue). participation_in t.state) (get_or-set_same b.seated b.number (befallen_tag b) no_tag room)
+
+befallen_long : (b : Befalls) → length b.called ≡ length b.seated
+befallen_long b = b.calls.whole ∙ b.rest.whole ∙ sym b.calls.seats_whole
+
+befallen_list : (b : Befalls) → tags_of b.after b.became ≡ set (tags_of b.participations b.items) b.number (befallen_tag b)
+befallen_list b =
+    let new : TagValue = befallen_tag b in
+    ap (λ (l : List TagValue). tags_of b.after l) b.became_is
+    ∙ ap (λ (l : List (Option Participation)). tags_of l (set b.seated b.number new)) b.after_is
+    ∙ tags-set b.called b.seated b.number b.participation new (befallen_long b)
+    ∙ ap (λ (s : Option Participation). set (tags_of b.called b.seated) b.number (tag_seated s new)) (befallen_participation b)
+    ∙ ap (λ (t : TagValue). set (tags_of b.called b.seated) b.number t) (seated_as_is new)
+    ∙ ap (λ (l : List TagValue). set l b.number new) b.calls.tags
+
+pub befalls_tags : (b : Befalls) → tags_of b.after b.became ≡ tags_after_event 0 b.event b.number (tags_of b.participations b.items)
 befalls_tags b =
-    let full = befalls_is b in
-    let seated_long : length b.seated ≡ length b.items = b.calls.seats_whole ∙ ap (λ (l : List TagValue). length l) b.slice_is in
-    let called_long : length b.called ≡ length b.seated = b.calls.whole ∙ b.rest.whole ∙ sym seated_long in
-    let room : b.number < length b.seated = rw seated_long b.within in
+    let new : TagValue = befallen_tag b in
+    let seat : TagValue = get_or b.seated b.number no_tag in
+    let room : b.number < length b.seated = rw b.calls.seats_whole b.within in
     let participation_room : b.number < length b.participations = rw b.rest.whole b.within in
-    let tags : tags_of b.called b.seated ≡ tags_of b.participations b.items = b.calls.tags ∙ ap (λ (l : List TagValue). tags_of b.participations l) b.slice_is in
     let called_here : participation_at b.called b.number ≡ Some Called =
     ap (λ (l : List (Option Participation)). participation_at l b.number) b.called_is ∙ get_or-set_same b.participations b.number (Some Called) None participation_room in
-    let seat_at : b.seat ≡ get_or (tags_of b.participations b.items) b.number no_tag =
-    b.seat_is
-    ∙ ap (λ (l : List TagValue). get_or l b.number b.other) full
-    ∙ get_or_default b.seated b.number b.other no_tag room
-    ∙ ap (λ (s : Option Participation). tag_seated s (get_or b.seated b.number no_tag)) (sym called_here)
-    ∙ sym (tag_at b.called b.seated b.number no_tag called_long room)
-    ∙ ap (λ (l : List TagValue). get_or l b.number no_tag) tags in
-    ap (λ (l : List TagValue). tags_of b.after (set l b.number b.new)) full
-    ∙ ap (λ (l : List (Option Participation)). tags_of l (set b.seated b.number b.new)) b.after_is
-    ∙ tags-set b.called b.seated b.number b.participation b.new called_long
-    ∙ ap (λ (s : Option Participation). set (tags_of b.called b.seated) b.number (tag_seated s b.new)) b.participation_is
-    ∙ ap (λ (t : TagValue). set (tags_of b.called b.seated) b.number t) (seated_as_is b.new)
-    ∙ ap (λ (l : List TagValue). set l b.number b.new) tags
-    ∙ befallen_at b.number b.event (tags_of b.participations b.items) b.seat b.new no_tag (rw (length-tags_of b.participations b.items b.rest.whole) b.within) seat_at b.new_is
+    let seat_at : seat ≡ get_or (tags_of b.participations b.items) b.number no_tag =
+    ap (λ (s : Option Participation). tag_seated s seat) (sym called_here)
+    ∙ sym (tag_at b.called b.seated b.number no_tag (befallen_long b) room)
+    ∙ ap (λ (l : List TagValue). get_or l b.number no_tag) b.calls.tags in
+    befallen_list b
+    ∙ befallen_at b.number b.event (tags_of b.participations b.items) seat new no_tag (rw (length-tags_of b.participations b.items b.rest.whole) b.within) seat_at refl
 
-pub befalls_rest : (b : Befalls) → AreAtRest b.after (set (take b.len (b.seated ++ drop (length b.seated) b.items)) b.number b.new)
+pub befalls_rest : (b : Befalls) → AreAtRest b.after b.became
 befalls_rest b =
-    let full = befalls_is b in
-    let seated_long : length b.seated ≡ length b.items = b.calls.seats_whole ∙ ap (λ (l : List TagValue). length l) b.slice_is in
-    let called_long : length b.called ≡ length b.seated = b.calls.whole ∙ b.rest.whole ∙ sym seated_long in
-    let tags : tags_of b.called b.seated ≡ tags_of b.participations b.items = b.calls.tags ∙ ap (λ (l : List TagValue). tags_of b.participations l) b.slice_is in
-    let legal : AreLegalTags b.seated = b.calls.legal (subst (λ (l : List TagValue). AreLegalTags l) (sym b.slice_is) b.rest.legal) in
-    let after_tags : tags_of b.after (set b.seated b.number b.new) ≡ set (tags_of b.participations b.items) b.number b.new =
-    ap (λ (l : List (Option Participation)). tags_of l (set b.seated b.number b.new)) b.after_is
-    ∙ tags-set b.called b.seated b.number b.participation b.new called_long
-    ∙ ap (λ (s : Option Participation). set (tags_of b.called b.seated) b.number (tag_seated s b.new)) b.participation_is
-    ∙ ap (λ (t : TagValue). set (tags_of b.called b.seated) b.number t) (seated_as_is b.new)
-    ∙ ap (λ (l : List TagValue). set l b.number b.new) tags in
+    let new : TagValue = befallen_tag b in
+    let became_long : length b.became ≡ length b.seated = ap (λ (l : List TagValue). length l) b.became_is ∙ length-set b.seated b.number new in
     let after_stands : b.after ≡ set b.participations b.number b.participation =
     b.after_is ∙ ap (λ (l : List (Option Participation)). set l b.number b.participation) b.called_is ∙ set-set b.participations b.number (Some Called) b.participation in
-    subst (λ (l : List TagValue). AreAtRest b.after (set l b.number b.new)) (sym full)
-    (record {
-      few = rw (length-set b.seated b.number b.new, seated_long) b.rest.few;
-      whole = ap (λ (l : List (Option Participation)). length l) b.after_is ∙ length-set b.called b.number b.participation ∙ called_long ∙ sym (length-set b.seated b.number b.new);
-      legal = legal-set b.seated b.number b.new legal b.new_legal;
+    record {
+      few = omega (arith, became_long, b.calls.seats_whole, b.rest.few);
+      whole = ap (λ (l : List (Option Participation)). length l) b.after_is ∙ length-set b.called b.number b.participation ∙ befallen_long b ∙ sym became_long;
+      legal = b.legal;
       slots = b.slots;
       settled =
           after_stands
           ∙ ap (λ (l : List (Option Participation)). set l b.number b.participation) b.rest.settled
-          ∙ ap (λ (s : Option Participation). set (participations_of (tags_of b.participations b.items)) b.number s) b.participation_is
-          ∙ sym (map-set (λ (t : TagValue). participation_in t.state) (tags_of b.participations b.items) b.number b.new)
-          ∙ ap (λ (l : List TagValue). participations_of l) (sym after_tags);
-    })
+          ∙ ap (λ (s : Option Participation). set (participations_of (tags_of b.participations b.items)) b.number s) (befallen_participation b)
+          ∙ sym (map-set (λ (t : TagValue). participation_in t.state) (tags_of b.participations b.items) b.number new)
+          ∙ ap (λ (l : List TagValue). participations_of l) (sym (befallen_list b));
+    }
 
 pub befalls_steps : (participations called : List (Option Participation)) (number steps stepped : ℕ) → number < length participations → called ≡ set participations number (Some Called)
     → stepped + called_in participations ≤ steps + called_in called → stepped ≤ steps + 1

@@ -1,11 +1,6 @@
 pub mod AnswersTaken
 pub mod Seats
-pub mod Drawings
 pub mod LentSeats
 pub mod Hearing
 pub mod Lent
-pub mod Wheel
-pub mod KeptPlaces
-pub mod TagSets
-pub mod Waiting
 pub mod Seated

@@ -11,9 +11,9 @@ use Rattle.tag_machine.specs.Exchange.{AreLegalTags, outcome_unless, is_missed, 
 use Rattle.tag_machine.specs.Reach.{DrawsAgain}
 use Rattle.tag_population.specs.Hearing.{hearing_from}
 use Rattle.tag_population.specs.Seats.{no_tag}
-use Rattle.tag_population.specs.Waiting.{participation_at, is_called, waits_in, AreSlots}
-use Rattle.tag_population.specs.declared.waiting.Participation.{Participation}
-use Rattle.tag_population.specs.declared.waiting.Participation.TheVariants.{Waits, Called}
+use Rattle.waiting_tags.specs.Waiting.{participation_at, is_called, waits_in, AreSlots}
+use Rattle.waiting_tags.specs.declared.waiting.Participation.{Participation}
+use Rattle.waiting_tags.specs.declared.waiting.Participation.TheVariants.{Waits, Called}
 
 -- a state with another slot counter, where it has one
 abbrev pub with_slot : ℕ → StateValue → StateValue
@@ -150,3 +150,14 @@ pub record HearsAtRest (command : Command) (entry : Entry) (participations : Lis
   pub tags : tags_of after seated ≡ tags_after (hearing_from 0 command entry (tags_of participations seats))
   pub counted : stepped ≤ steps + 2 * length seats
   pub rest : AreAtRest after seated
+
+-- of a tag that waits in the session and is marked: it drew its slot again, and lost its mark, or it is as it was
+abbrev pub IsDrawnOrLeft : ℕ → UpDn → Option Participation → TagValue → ℕ → Option Participation → TagValue → ℕ → Type 0
+IsDrawnOrLeft session updn before tag mark after new left =
+    ((left ≡ mark) × (after ≡ before) × (new ≡ tag))
+    ⊎ ((mark ≢ 0) × (left ≡ 0) × ((slot : ℕ) × (after ≡ Some (Waits session slot)) × DrawsAgain session updn tag slot new))
+
+abbrev pub AreDrawnOrLeft : ℕ → UpDn → List (Option Participation) → List TagValue → List ℕ → List (Option Participation) → List TagValue → List ℕ → Type 0
+AreDrawnOrLeft session updn participations tags marks after drawn left =
+    (number : ℕ) → number < length tags
+    → IsDrawnOrLeft session updn (participation_at participations number) (get_or tags number no_tag) (get_or marks number 0) (participation_at after number) (get_or drawn number no_tag) (get_or left number 0)

@@ -10,14 +10,11 @@ ghost use Rattle.tag_population.specs.AnswersTaken.{TookFew};
 ghost use Rattle.tag_population.specs.Hearing.{hearing_from, tags_after_events};
 ghost use Rattle.tag_population.specs.Lent.{KeepsPopulation};
 ghost use Rattle.tag_population.specs.Seated.{AdjustsOne, AreAtRest, AreCalledFor, AreUncalledSettled, CallsTags, HearsAtRest, HearsSeated, AreAdjusted, IsDueCalled, IsMissedCalled, called_in, outcome_seated, outcomes_called, seats_written_back, participations_of, steps_back, tags_of};
-ghost use Rattle.tag_population.specs.TagSets.{IsSetOf};
-ghost use Rattle.tag_population.specs.Waiting.{participation_at, waits_in};
+ghost use Rattle.waiting_tags.specs.TagSets.{IsSetOf};
+ghost use Rattle.waiting_tags.specs.Waiting.{participation_at, waits_in};
 
-use crate::adjusting::Adjusting;
-use crate::answering::{AnswerTaker, hear, hear_when_called};
-use crate::seat::Seat;
-use crate::tag_set::TagSet;
-use crate::waiting::{Participation, Waiting};
+use crate::answering::AnswerTaker;
+use crate::seats::Seats;
 use air_events::TagNumber;
 use bit_strings::{Bits, OutOfMemory, Session};
 use command_grammar::{Command, UpDn};
@@ -25,6 +22,7 @@ use std::alloc::Global;
 use std::marker::Model;
 use std::sync::ledger::Ledger;
 use tag_machine::{AnyTag, Entry, Event, Steps, reaches_waiting};
+use waiting_tags::{Participation, TagSet, Waiting, next_marked};
 
 /// How many bits of an answer there is room for: more than the 8,225 of the longest reply.
 const REPLY_ROOM: u32 = 8240;
@@ -37,8 +35,10 @@ const REPLY_ROOM: u32 = 8240;
 /// A contract sees the list of the tags.
 #[derive(Drop)]
 pub struct Population {
-    seats: Vec<Seat>,
+    seats: Seats,
     waiting: Waiting,
+    /// For each tag whether it is marked, while tags draw slots at a QueryAdjust.
+    marks: Vec<u16>,
     /// The tags that miss a command, while the others hear it, and else none.
     missed: TagSet,
     /// Where the bits of a tag's answer stand until they are taken.
@@ -46,17 +46,17 @@ pub struct Population {
 }
 
 impl Model for Population {
-    ghost use Rattle.std.specs.Prelude.{List, ◌≤◌};
+    ghost use Rattle.std.specs.Prelude.{List, ◌≡◌, ◌≤◌, length};
     ghost use Rattle.reply_grammar.specs.Table.{reply_room};
     ghost use Rattle.tag_machine.specs.TagValue.{TagValue};
     ghost use Rattle.tag_population.specs.Seated.{AreAtRest, tags_of};
-    ghost use Rattle.tag_population.specs.TagSets.{HasNone};
+    ghost use Rattle.waiting_tags.specs.TagSets.{HasNone};
 
     ghost Value = { List TagValue };
 
-    ghost view = { λ a. tags_of a.waiting a.seats.items };
+    ghost view = { λ a. tags_of a.waiting a.seats };
 
-    ghost invariant = { λ a. AreAtRest a.waiting a.seats.items × HasNone a.missed × (reply_room ≤ a.room.capacity) };
+    ghost invariant = { λ a. AreAtRest a.waiting a.seats × (length a.marks.items ≡ length a.seats) × HasNone a.missed × (reply_room ≤ a.room.capacity) };
 }
 
 impl Population {
@@ -66,14 +66,17 @@ impl Population {
         requires { vec_len tags ≤ most_tags }
         ensures { IfOk result (λ population. population ≡ map tag_value_of tags.items) }
     {
-        let seats = seats_of(alloc, tags)?;
-        let mut waiting = Waiting::new(alloc, seats.len())?;
-        settle(seats.as_slice(), &mut waiting);
+        let seats = Seats::new(alloc, tags)?;
+        let count = seats.len();
+        let mut waiting = Waiting::new(alloc, count)?;
+        settle(&seats, &mut waiting);
+        let marks = vec![in alloc; 0; count]?;
         let missed = TagSet::new(alloc)?;
         let room = Bits::new(alloc, REPLY_ROOM)?;
         Ok(Population {
             seats,
             waiting,
+            marks,
             missed,
             room,
         })
@@ -96,11 +99,10 @@ impl Population {
         ensures legal { IsLegalTag (tag_value_of result.now) }
         ensures counted { steps.new ≤ steps.old + 1 }
     {
-        let seats = self.seats.as_mut_slice();
+        let waiting = &self.waiting;
         let number = TagNumber::of(number);
-        write_back(seats, &self.waiting, number, steps);
-        let at = number.index();
-        self.seats[at].tag()
+        write_back(&mut self.seats, waiting, number, steps);
+        self.seats.tag(number)
     }
 
     /// Lets an event befall the tag with this number.
@@ -111,13 +113,11 @@ impl Population {
         ensures few { length self.new ≤ most_tags }
         ensures counted { steps.new ≤ steps.old + 1 }
     {
-        let seats = self.seats.as_mut_slice();
+        let seats = &mut self.seats;
         let number = TagNumber::of(number);
         call(seats, &mut self.waiting, number, steps);
-        let at = number.index();
-        let seat = &mut self.seats[at];
-        seat.befall(event);
-        self.waiting.put(number, seat.participation());
+        let participation = seats.befall(number, event);
+        self.waiting.put(number, participation);
     }
 
     /// Lets each of these events befall its tag, in order.
@@ -151,8 +151,9 @@ impl Population {
     {
         self.missed.insert_all(entry.missed.as_slice());
         hear_at_rest(
-            self.seats.as_mut_slice(),
+            &mut self.seats,
             &mut self.waiting,
+            self.marks.as_mut_slice(),
             command,
             entry,
             &self.missed,
@@ -164,33 +165,21 @@ impl Population {
     }
 }
 
-/// Seats for these tags, in this order.
-fn seats_of(alloc: Global, tags: Vec<AnyTag>) -> Result<Vec<Seat>, OutOfMemory>
-    ensures items { IfOk result (λ seats. seats.items ≡ map tag_value_of tags.items) }
-    ensures legal { IfOk result (λ seats. AreLegalTags seats.items) }
-{
-    let mut seats = Vec::with_capacity(alloc, tags.len())?;
-    for tag in tags {
-        let seat = Seat::new(alloc, tag)?;
-        seats.push_reserved(seat);
-    }
-    Ok(seats)
-}
-
 /// Lets each tag take part as its state says.
-fn settle(seats: &[Seat], waiting: &mut Waiting)
+fn settle(seats: &Seats, waiting: &mut Waiting)
     requires whole { length waiting.old ≡ length seats.now }
     requires few { length seats.now ≤ most_tags }
     ensures { waiting.new ≡ participations_of seats.now }
 {
     for at in 0..seats.len() {
-        waiting.put(TagNumber::from_index(at), seats[at].participation());
+        let number = TagNumber::from_index(at);
+        waiting.put(number, seats.participation(number));
     }
 }
 
 /// Writes the slot counter of a tag that waits back into its seat.
 fn write_back<L: Ledger>(
-    seats: &mut [Seat],
+    seats: &mut Seats,
     waiting: &Waiting,
     number: TagNumber,
     steps: &mut Steps<L>,
@@ -202,14 +191,13 @@ fn write_back<L: Ledger>(
     ensures legal { AreLegalTags seats.old → AreLegalTags seats.new }
 {
     if let Some(slot) = waiting.slot(number) {
-        let at = number.index();
-        seats[at].set_slot(slot, steps);
+        seats.set_slot(number, slot, steps);
     }
 }
 
 /// Calls a tag to the next command.
 fn call<L: Ledger>(
-    seats: &mut [Seat],
+    seats: &mut Seats,
     waiting: &mut Waiting,
     number: TagNumber,
     steps: &mut Steps<L>,
@@ -226,8 +214,9 @@ fn call<L: Ledger>(
 /// Lets each tag hear a command, unless it misses it, in the order of their numbers. Only tags that may change or answer
 /// are asked.
 fn hear_at_rest<A: AnswerTaker, L: Ledger>(
-    seats: &mut [Seat],
+    seats: &mut Seats,
     waiting: &mut Waiting,
+    marks: &mut [u16],
     command: &Command,
     entry: &Entry,
     missed: &TagSet,
@@ -235,7 +224,8 @@ fn hear_at_rest<A: AnswerTaker, L: Ledger>(
     answers: &mut A,
     steps: &mut Steps<L>,
 )
-    requires marks { IsSetOf missed.now entry.now.missed }
+    requires of { IsSetOf missed.now entry.now.missed }
+    requires marks { length marks.old ≡ length seats.old }
     requires rest { AreAtRest waiting.old seats.old }
     requires room { reply_room ≤ room.old.capacity }
     requires begun { A.took answers.old [] answers.old }
@@ -249,7 +239,7 @@ fn hear_at_rest<A: AnswerTaker, L: Ledger>(
         call_hearers(seats, waiting, *session, entry, steps);
         hear_called(seats, waiting, command, entry, missed, room, answers, steps);
     } else if let Command::QueryAdjust { session, updn } = command {
-        adjust_waiting(seats, waiting, *session, *updn, entry, steps);
+        adjust_waiting(seats, waiting, marks, *session, *updn, entry, steps);
         hear_called(seats, waiting, command, entry, missed, room, answers, steps);
     } else if reaches_waiting(command) {
         waiting.unlink();
@@ -261,7 +251,7 @@ fn hear_at_rest<A: AnswerTaker, L: Ledger>(
 
 /// Calls the tags that have to hear a QueryRep of a session, or stay as they are where the session is counted down.
 fn call_hearers<L: Ledger>(
-    seats: &mut [Seat],
+    seats: &mut Seats,
     waiting: &mut Waiting,
     session: Session,
     entry: &Entry,
@@ -270,6 +260,7 @@ fn call_hearers<L: Ledger>(
     requires rest { AreAtRest waiting.old seats.old }
     requires missed { All (λ tag. tag < length seats.old) entry.now.missed }
     ensures called { AreCalledFor (Command.QueryRep session) entry.now (tags_of waiting.old seats.old) waiting.new seats.new }
+    ensures seats_whole { length seats.new ≡ length seats.old }
     ensures counted { steps.new + called_in waiting.old ≤ steps.old + called_in waiting.new }
     ensures bound { called_in waiting.new ≤ busy_from 0 (Command.QueryRep session) entry.now (tags_of waiting.old seats.old) }
 {
@@ -280,70 +271,81 @@ fn call_hearers<L: Ledger>(
 
 /// Lets the tags that wait in a session draw their slots again at its QueryAdjust, and calls those that draw 0, and those that miss it.
 fn adjust_waiting<L: Ledger>(
-    seats: &mut [Seat],
+    seats: &mut Seats,
     waiting: &mut Waiting,
+    marks: &mut [u16],
     session: Session,
     updn: UpDn,
     entry: &Entry,
     steps: &mut Steps<L>,
 )
     requires rest { AreAtRest waiting.old seats.old }
+    requires marks { length marks.old ≡ length seats.old }
     requires missed { All (λ tag. tag < length seats.old) entry.now.missed }
     ensures called { AreCalledFor (Command.QueryAdjust session updn) entry.now (tags_of waiting.old seats.old) waiting.new seats.new }
+    ensures seats_whole { length seats.new ≡ length seats.old }
     ensures counted { steps.new ≤ steps.old + length seats.old }
 {
     call_missed(seats, waiting, session, entry, steps);
     waiting.unlink();
-    draw_all(seats, waiting, session, updn, steps);
+    draw_all(seats, waiting, marks, session, updn, steps);
 }
 
 /// Lets the tags that wait in a session draw their slots again, and calls those that draw 0.
-// Its loop over all tags stands apart, so that the registers are its own.
-#[inline(never)]
 fn draw_all<L: Ledger>(
-    seats: &mut [Seat],
+    seats: &mut Seats,
     waiting: &mut Waiting,
+    marks: &mut [u16],
     session: Session,
     updn: UpDn,
     steps: &mut Steps<L>,
 )
     requires whole { length waiting.old ≡ length seats.old }
+    requires marks { length marks.old ≡ length seats.old }
     requires few { length seats.old ≤ most_tags }
     requires legal { AreLegalTags seats.old }
+    requires uncalled { AreUncalledSettled waiting.old (tags_of waiting.old seats.old) }
     ensures adjusted { AreAdjusted session updn waiting.old (tags_of waiting.old seats.old) waiting.new (tags_of waiting.new seats.new) }
     ensures whole { length waiting.new ≡ length seats.new }
+    ensures seats_whole { length seats.new ≡ length seats.old }
     ensures counted { steps.new + called_in waiting.old ≤ steps.old + length waiting.old }
     ensures legal { AreLegalTags seats.new }
 {
-    let mut adjusting = Adjusting::new(updn);
-    for at in 0..seats.len() {
-        let number = TagNumber::from_index(at);
-        if waiting.waits_in(number, session) {
-            draw_or_call(seats, waiting, number, session, &mut adjusting, steps);
-        }
+    waiting.mark_waiting(session, marks);
+    seats.draw_marked(waiting, marks, session, updn, steps);
+    // Most tags drew their slots.
+    let mut at = next_marked(marks, 0);
+    while at < marks.len() {
+        draw_or_call(
+            seats,
+            waiting,
+            TagNumber::from_index(at),
+            session,
+            updn,
+            steps,
+        );
+        at = next_marked(marks, at + 1);
     }
 }
 
 /// Lets a tag that waits in a session draw its slot again, and calls it where it draws 0.
-#[inline(always)]
 fn draw_or_call<L: Ledger>(
-    seats: &mut [Seat],
+    seats: &mut Seats,
     waiting: &mut Waiting,
     number: TagNumber,
     session: Session,
-    adjusting: &mut Adjusting,
+    updn: UpDn,
     steps: &mut Steps<L>,
 )
     requires whole { length waiting.old ≡ length seats.old }
     requires number { number < length seats.old }
     requires waits { waits_in session (participation_at waiting.old number) ≡ true }
-    ensures adjusts { AdjustsOne session adjusting.old number waiting.old (tags_of waiting.old seats.old) waiting.new (tags_of waiting.new seats.new) }
-    ensures same { adjusting.new ≡ adjusting.old }
+    ensures adjusts { AdjustsOne session updn number waiting.old (tags_of waiting.old seats.old) waiting.new (tags_of waiting.new seats.new) }
+    ensures seats_whole { length seats.new ≡ length seats.old }
     ensures counted { steps.new ≤ steps.old + 1 }
     ensures legal { AreLegalTags seats.old → AreLegalTags seats.new }
 {
-    let at = number.index();
-    match seats[at].draw_again(session, adjusting, steps) {
+    match seats.draw_again(number, session, updn, steps) {
         Some(slot) => waiting.wait_for(number, session, slot),
         None => call(seats, waiting, number, steps),
     }
@@ -351,7 +353,7 @@ fn draw_or_call<L: Ledger>(
 
 /// Calls the tags that wait in a session and miss its QueryRep, so that they aren't counted down.
 fn call_missed<L: Ledger>(
-    seats: &mut [Seat],
+    seats: &mut Seats,
     waiting: &mut Waiting,
     session: Session,
     entry: &Entry,
@@ -373,7 +375,7 @@ fn call_missed<L: Ledger>(
 
 /// Calls the tags whose slot comes next in a session.
 fn call_due<L: Ledger>(
-    seats: &mut [Seat],
+    seats: &mut Seats,
     waiting: &mut Waiting,
     session: Session,
     steps: &mut Steps<L>,
@@ -392,7 +394,7 @@ fn call_due<L: Ledger>(
 // Its loop over all tags stands apart, and what few of them need stands apart from it, so that the registers are its own.
 #[inline(never)]
 fn hear_all<A: AnswerTaker, L: Ledger>(
-    seats: &mut [Seat],
+    seats: &mut Seats,
     waiting: &mut Waiting,
     command: &Command,
     entry: &Entry,
@@ -421,7 +423,7 @@ fn hear_all<A: AnswerTaker, L: Ledger>(
 /// Lets a tag hear a command, unless it misses it, once its slot counter is written back. It takes part afterwards as its state says.
 #[inline(never)]
 fn hear_written_back<A: AnswerTaker, L: Ledger>(
-    seats: &mut [Seat],
+    seats: &mut Seats,
     waiting: &mut Waiting,
     number: TagNumber,
     misses: bool,
@@ -442,16 +444,14 @@ fn hear_written_back<A: AnswerTaker, L: Ledger>(
     ensures room { reply_room ≤ room.new.capacity }
 {
     write_back(seats, waiting, number, steps);
-    let at = number.index();
-    let seat = &mut seats[at];
-    hear(seat, number, misses, command, room, answers, steps);
-    waiting.put(number, seat.participation());
+    let participation = seats.hear(number, misses, command, room, answers, steps);
+    waiting.put(number, participation);
 }
 
 /// Lets each tag that is called hear a command, unless it misses it, in the order of their numbers. Each takes part
 /// afterwards as its state says.
 fn hear_called<A: AnswerTaker, L: Ledger>(
-    seats: &mut [Seat],
+    seats: &mut Seats,
     waiting: &mut Waiting,
     command: &Command,
     entry: &Entry,
@@ -477,10 +477,8 @@ fn hear_called<A: AnswerTaker, L: Ledger>(
     while let Some(number) = next {
         next = waiting.called_after(number);
         let misses = is_missed(number, entry, missed);
-        let at = number.index();
-        let seat = &mut seats[at];
-        hear_when_called(seat, number, misses, command, room, answers, steps);
-        waiting.put(number, seat.participation());
+        let participation = seats.hear_when_called(number, misses, command, room, answers, steps);
+        waiting.put(number, participation);
     }
 }
 

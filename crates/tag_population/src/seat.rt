@@ -1,6 +1,5 @@
 //! One place in a population, which has a tag.
-ghost use Rattle.std.specs.Prelude.{◌≡◌, ℕ, ◌+◌, ◌<◌, ◌≤◌, Some, None, true, false, if◌then◌else◌, IfOk, IsSome};
-ghost use Rattle.std.specs.Borrow.{sem};
+ghost use Rattle.std.specs.Prelude.{◌≡◌, ℕ, ◌+◌, ◌<◌, ◌≤◌, Some, None, true, false, length, if◌then◌else◌};
 ghost use Rattle.std.specs.Option.{is_some};
 ghost use Rattle.reply_grammar.specs.Table.{reply_room};
 ghost use Rattle.tag_machine.specs.Answers.{IsSent, bits_sent, silent};
@@ -10,69 +9,51 @@ ghost use Rattle.tag_machine.specs.Reach.{DrawsAgain};
 ghost use Rattle.tag_machine.specs.Step.{step};
 ghost use Rattle.tag_machine.specs.TagValue.{IsLegalTag};
 ghost use Rattle.tag_machine.specs.Exchange.{outcome_unless};
-ghost use Rattle.tag_population.specs.Drawings.{IsDrawnOf, tag_drawn};
-ghost use Rattle.tag_population.specs.LentSeats.{KeepsSeat};
 ghost use Rattle.tag_population.specs.Seated.{participation_in, with_slot};
-ghost use Rattle.tag_population.specs.Seats.{tag_in};
-ghost use Rattle.tag_population.specs.Waiting.{IsLegalParticipation};
+ghost use Rattle.tag_population.specs.Seats.{IsDrawnOf, IsInArbitrate, tag_drawn};
+ghost use Rattle.waiting_tags.specs.Waiting.{IsLegalParticipation};
 
-use crate::adjusting::Adjusting;
-use crate::drawing::{Drawing, drawing_of};
-use crate::waiting::Participation;
-use bit_strings::{Bits, OutOfMemory, Session};
-use command_grammar::Command;
-use std::alloc::Global;
+use bit_strings::{Bits, Session};
+use command_grammar::{Command, UpDn};
 use std::marker::Model;
 use std::sync::ledger::Ledger;
 use tag_machine::{Answered, AnyTag, Event, StateName, Steps};
+use waiting_tags::{Drawn, Participation};
 
 /// A seat of a population. It has a tag at all times, but while that tag hears or an event befalls it.
-///
-/// While the tag waits and hears QueryAdjusts, what it draws stands beside it, and its words too: the tag has all that far apart. It is
-/// written back before the tag hears another command.
 ///
 /// A contract sees the tag.
 #[derive(Drop)]
 pub(crate) struct Seat {
-    drawing: Option<Drawing>,
-    words: Vec<u16>,
     tag: Option<AnyTag>,
 }
 
 impl Model for Seat {
-    ghost use Rattle.tag_machine.specs.TagValue.{TagValue};
-    ghost use Rattle.tag_population.specs.Drawings.{IsSeat, tag_drawn};
+    ghost use Rattle.tag_machine.specs.TagValue.{TagValue, IsLegalTag};
     ghost use Rattle.tag_population.specs.Seats.{tag_in};
+    ghost use Rattle.std.specs.Prelude.{IsSome};
 
     ghost Value = { TagValue };
 
-    ghost view = { λ a. tag_drawn a.drawing (tag_in a.tag) };
+    ghost view = { λ a. tag_in a.tag };
 
-    ghost invariant = { λ a. IsSeat a.drawing a.words.items a.tag };
+    ghost invariant = { λ a. IsSome a.tag × IsLegalTag (tag_in a.tag) };
 }
 
 impl Seat {
     /// The seat of a tag.
-    pub(crate) fn new(alloc: Global, tag: AnyTag) -> Result<Seat, OutOfMemory>
-        ensures value { IfOk result (λ seat. seat ≡ tag_value_of tag) }
-        ensures legal { IfOk result (λ seat. IsLegalTag seat) }
+    pub(crate) fn new(tag: AnyTag) -> Seat
+        ensures value { result ≡ tag_value_of tag }
+        ensures legal { IsLegalTag result }
     {
-        let _state = tag.state();
-        let words = Vec::from_slice(alloc, tag.words())?;
-        Ok(Seat {
-            drawing: None,
-            words,
-            tag: Some(tag),
-        })
+        Seat { tag: Some(tag) }
     }
 
     /// The tag.
-    pub(crate) fn tag(&mut self) -> &AnyTag
-        ensures* same { sem 𝓛 (KeepsSeat self.entry) }
-        ensures value { tag_value_of result.now ≡ self.old }
-        ensures legal { IsLegalTag self.old }
+    pub(crate) fn tag(&self) -> &AnyTag
+        ensures value { tag_value_of result.now ≡ self.now }
+        ensures legal { IsLegalTag self.now }
     {
-        write_back(&mut self.drawing, &mut self.tag);
         match &self.tag {
             Some(tag) => tag,
             None => unreachable!(),
@@ -84,10 +65,7 @@ impl Seat {
         ensures value { result ≡ participation_in self.now.state }
         ensures legal { IsLegalParticipation result }
     {
-        if let Some(drawing) = self.drawing {
-            return Some(Participation::Waits(drawing.session.get(), drawing.slot));
-        }
-        let Some(tag) = &self.tag else { unreachable!() };
+        let tag = self.tag();
         match tag.state() {
             StateName::Arbitrate => Some(wait_of(tag)),
             StateName::InReply | StateName::Acknowledged | StateName::Opened | StateName::Secured =>
@@ -103,11 +81,6 @@ impl Seat {
         ensures counted { steps.new ≤ steps.old + 1 }
         ensures legal { IsLegalTag self.new }
     {
-        if let Some(drawing) = &mut self.drawing {
-            steps.tick();
-            drawing.slot = slot;
-            return;
-        }
         let Some(tag) = &mut self.tag else {
             unreachable!()
         };
@@ -121,7 +94,6 @@ impl Seat {
         ensures tag { self.new ≡ tag_after_event event self.old.state self.old.body }
         ensures legal { IsLegalTag self.new }
     {
-        write_back(&mut self.drawing, &mut self.tag);
         let Some(tag) = self.tag.take() else {
             unreachable!()
         };
@@ -143,7 +115,6 @@ impl Seat {
         ensures counted { steps.new ≡ steps.old + (if result then (if misses then 0 else 1) else 0) }
         ensures legal { IsLegalTag self.new }
     {
-        write_back(&mut self.drawing, &mut self.tag);
         let Some(tag) = &mut self.tag else {
             unreachable!()
         };
@@ -159,41 +130,47 @@ impl Seat {
     pub(crate) fn draw_again<L: Ledger>(
         &mut self,
         session: Session,
-        adjusting: &mut Adjusting,
+        updn: UpDn,
         steps: &mut Steps<L>,
     ) -> Option<u16>
-        ensures drawn { (slot : ℕ) → result ≡ Some slot → DrawsAgain session adjusting.old self.old slot self.new }
+        ensures drawn { (slot : ℕ) → result ≡ Some slot → DrawsAgain session updn self.old slot self.new }
         ensures left { result ≡ None → self.new ≡ self.old }
-        ensures same { adjusting.new ≡ adjusting.old }
         ensures counted { steps.new ≡ steps.old + (if is_some result then 1 else 0) }
         ensures legal { IsLegalTag self.new }
     {
-        let Some(drawing) = &mut self.drawing else {
-            return self.draw_first(session, adjusting, steps);
+        let Some(tag) = &mut self.tag else {
+            unreachable!()
         };
-        drawing.draw(self.words.as_slice(), session, adjusting, steps)
+        tag.draw_again(session, updn, steps)
     }
 
-    /// Does so where nothing that was drawn stands beside the tag.
-    #[inline(never)]
-    fn draw_first<L: Ledger>(
-        &mut self,
-        session: Session,
-        adjusting: &mut Adjusting,
-        steps: &mut Steps<L>,
-    ) -> Option<u16>
-        ensures drawn { (slot : ℕ) → result ≡ Some slot → DrawsAgain session adjusting.old self.old slot self.new }
-        ensures left { result ≡ None → self.new ≡ self.old }
-        ensures same { adjusting.new ≡ adjusting.old }
-        ensures counted { steps.new ≡ steps.old + (if is_some result then 1 else 0) }
-        ensures legal { IsLegalTag self.new }
+    /// Its Q and the place of its next draw, where the tag is in arbitrate.
+    pub(crate) fn drawn(&self) -> Option<Drawn>
+        ensures is { (drawn : Drawn) → result ≡ Some drawn → IsDrawnOf drawn self.now }
+        ensures legal { IsLegalTag self.now }
     {
-        write_back(&mut self.drawing, &mut self.tag);
-        let Some(tag) = &self.tag else { unreachable!() };
-        let mut drawing = drawing_of(tag)?;
-        let slot = drawing.draw(self.words.as_slice(), session, adjusting, steps)?;
-        self.drawing = Some(drawing);
-        Some(slot)
+        let tag = self.tag();
+        let _state = tag.state();
+        match tag {
+            AnyTag::Arbitrate(tag) => Some(Drawn {
+                q: tag.q(),
+                next: tag.next_draw() as u16,
+            }),
+            _ => None,
+        }
+    }
+
+    /// Gives the tag, which is in arbitrate, this Q and this place of its next draw.
+    pub(crate) fn keep(&mut self, drawn: Drawn)
+        requires waits { IsInArbitrate self.old }
+        requires legal { IsLegalTag (tag_drawn (Some drawn) self.old) }
+        ensures { self.new ≡ tag_drawn (Some drawn) self.old }
+    {
+        let Some(tag) = &mut self.tag else {
+            unreachable!()
+        };
+        let _state = tag.state();
+        keep(tag, drawn);
     }
 
     /// Lets the tag hear a command. The bits of its answer stand in `out` afterwards, and none where it sends nothing.
@@ -211,7 +188,6 @@ impl Seat {
         ensures legal { IsLegalTag self.new }
         ensures counted { steps.new ≡ steps.old + 1 }
     {
-        write_back(&mut self.drawing, &mut self.tag);
         let Some(tag) = self.tag.take() else {
             unreachable!()
         };
@@ -219,22 +195,6 @@ impl Seat {
         self.tag = Some(heard.tag);
         heard.answered
     }
-}
-
-/// Writes what was drawn back into its tag.
-fn write_back(drawing: &mut Option<Drawing>, tag: &mut Option<AnyTag>)
-    requires some { IsSome tag.old }
-    requires of { IsDrawnOf drawing.old tag.old }
-    requires legal { IsLegalTag (tag_drawn drawing.old (tag_in tag.old)) }
-    ensures none { drawing.new ≡ None }
-    ensures some { IsSome tag.new }
-    ensures tag { tag_in tag.new ≡ tag_drawn drawing.old (tag_in tag.old) }
-{
-    let Some(drawn) = drawing.take() else {
-        return;
-    };
-    let Some(tag) = tag else { unreachable!() };
-    drawn.write_to(tag);
 }
 
 /// How a tag waits in arbitrate.
@@ -258,6 +218,21 @@ fn set_slot<L: Ledger>(tag: &mut AnyTag, slot: u16, steps: &mut Steps<L>)
 {
     match tag {
         AnyTag::Arbitrate(tag) => tag.set_slot(slot, steps),
+        _ => unreachable!(),
+    }
+}
+
+/// Gives a tag in arbitrate this Q and this place of its next draw.
+fn keep(tag: &mut AnyTag, drawn: Drawn)
+    requires waits { typed_name_of tag.old ≡ StateName.Arbitrate }
+    requires inside { drawn.next < length (tag_value_of tag.old).body.words }
+    ensures { tag_value_of tag.new ≡ tag_drawn (Some drawn) (tag_value_of tag.old) }
+{
+    match tag {
+        AnyTag::Arbitrate(tag) => {
+            let slot = tag.slot();
+            tag.set_drawn(drawn.q, slot, usize::from(drawn.next));
+        }
         _ => unreachable!(),
     }
 }

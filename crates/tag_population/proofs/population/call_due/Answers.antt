@@ -1,7 +1,7 @@
 use Rattle.std.proofs.Common.{◌∙◌, ap, set, List, Option, Some}
 use Rattle.tag_population.proofs.SeatedTags.{due_smaller}
-use Rattle.tag_population.specs.declared.waiting.Participation.{Participation}
-use Rattle.tag_population.specs.declared.waiting.Participation.TheVariants.{Called}
+use Rattle.waiting_tags.specs.declared.waiting.Participation.{Participation}
+use Rattle.waiting_tags.specs.declared.waiting.Participation.TheVariants.{Called}
 use Rattle.tag_population.proofs.population.call_due.Goals as goal
 
 pub loop-number-smaller : goal.loop-number-smaller

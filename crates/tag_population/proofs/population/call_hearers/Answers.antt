@@ -1,4 +1,4 @@
-use Rattle.std.proofs.Common.{arith}
+use Rattle.std.proofs.Common.{◌∙◌, arith}
 use Rattle.tag_population.proofs.QueryRepCalls.{RepCalls, rep_called_for, rep_bound, called_counted}
 use Rattle.tag_population.proofs.population.call_hearers.Given.{Over}
 use Rattle.tag_population.proofs.population.call_hearers.Goals.{After-count_down}
@@ -32,3 +32,6 @@ pub returns-clause-bound : goal.returns-clause-bound
 returns-clause-bound g c =
     rw c.count_down.ensures
     (rep_bound c.args.session c.args.entry.now c.args.waiting.now c.args.seats.now c.call_due.new.waiting c.call_due.new.seats (rep_calls g c))
+
+pub returns-clause-seats_whole : goal.returns-clause-seats_whole
+returns-clause-seats_whole g c = c.call_due.ensures.calls.seats_whole ∙ c.call_missed.ensures.calls.seats_whole

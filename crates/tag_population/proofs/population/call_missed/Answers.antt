@@ -1,6 +1,6 @@
 use Rattle.std.proofs.Common.{ap, arith, length, ℕ, List}
 use Rattle.tag_population.proofs.SeatedTags.{missed_all, missed_fits}
-use Rattle.tag_population.specs.Waiting.{participation_at}
+use Rattle.waiting_tags.specs.Waiting.{participation_at}
 use Rattle.tag_population.proofs.population.call_missed.Goals as goal
 
 pub of-number-requires : goal.of-number-requires

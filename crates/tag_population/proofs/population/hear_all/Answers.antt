@@ -24,7 +24,7 @@ hear_written_back-requires-clause-few g c =
       replies = replied_below before c.loop-at.at;
       taken = c.loop-at.invariant.taken;
       few =
-          omega (arith, few_replies 0 c.loop-at.at (hearing_from 0 before.command before.entry (tags_of before.participations before.seats)), c.loop-at-test.true, c.requires.rest.few);
+          omega (arith, few_replies 0 c.loop-at.at (hearing_from 0 before.command before.entry (tags_of before.participations before.seats)), c.loop-at-test.true, c.len-at-end.ensures.count, c.requires.rest.few);
     }
 
 pub loop-at-preserved : goal.loop-at-preserved
@@ -34,7 +34,7 @@ loop-at-preserved g c =
     let after : HeardSoFar = record { participations = c.hear_written_back.new.waiting; seats = c.hear_written_back.new.seats; steps = c.hear_written_back.new.steps } in
     let now = c.loop-at.invariant in
     let number = c.loop-at.at in
-    let within : number < length c.args.seats.now = c.loop-at-test.true in
+    let within : number < length c.args.seats.now = omega (arith, c.loop-at-test.true, c.len-at-end.ensures.count) in
     let one : c.from_index-number.result ≡ number = c.from_index-number.ensures in
     let misses = c.is_missed-misses.result in
     let next : EachHearsNext before number heard_now after = record {
@@ -58,7 +58,7 @@ loop-at-preserved g c =
 pub returns-clause-heard : goal.returns-clause-heard
 returns-clause-heard g c =
     let heard = c.loop-at.invariant.heard in
-    let past : length c.loop-at.seats ≤ c.loop-at.at = omega (arith, c.loop-at-test.false, heard.seats_whole) in
+    let past : length c.loop-at.seats ≤ c.loop-at.at = omega (arith, c.loop-at-test.false, c.len-at-end.ensures.count, heard.seats_whole) in
     let settled = settled_all c.loop-at.seats c.loop-at.at c.loop-at.waiting c.loop-at.invariant.settled past in
     record {
       tags = new_tags c.loop-at.seats c.loop-at.waiting settled ∙ each_tags _ c.loop-at.at _ c.requires.rest.whole heard (omega (arith, past, heard.seats_whole));
@@ -70,4 +70,4 @@ pub returns-clause-replies : goal.returns-clause-replies
 returns-clause-replies g c =
     let before : BeforeHearing = record { command = c.args.command.now; entry = c.args.entry.now; participations = c.args.waiting.now; seats = c.args.seats.now; steps = c.args.steps.now } in
     subst (λ (l : List Replied). g.A.AnswerTaker.took c.args.answers.now l c.loop-at.answers)
-    (replied_by_each before c.loop-at.at c.requires.rest.whole (omega (arith, c.loop-at-test.false, c.loop-at.invariant.heard.seats_whole))) c.loop-at.invariant.taken
+    (replied_by_each before c.loop-at.at c.requires.rest.whole (omega (arith, c.loop-at-test.false, c.len-at-end.ensures.count, c.loop-at.invariant.heard.seats_whole))) c.loop-at.invariant.taken

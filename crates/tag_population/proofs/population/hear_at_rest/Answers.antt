@@ -13,7 +13,7 @@ returns-in-QueryRep-clause-heard g c =
     record {
       tags = c.hear_called.ensures.tags ∙ ap (λ (l : List Outcome). tags_after l) called.outcomes;
       counted =
-          omega (arith, c.hear_called.ensures.counted, c.call_hearers.ensures.counted, called_most c.call_hearers.new.waiting, c.call_hearers.ensures.called.whole, c.call_hearers.auto.seats);
+          omega (arith, c.hear_called.ensures.counted, c.call_hearers.ensures.counted, called_most c.call_hearers.new.waiting, c.call_hearers.ensures.called.whole, c.call_hearers.ensures.seats_whole);
       rest = c.hear_called.ensures.rest;
     }
 
@@ -60,7 +60,7 @@ returns-in-QueryAdjust-clause-heard g c =
             c.adjust_waiting.ensures.counted,
             called_most c.adjust_waiting.new.waiting,
             called.whole,
-            c.adjust_waiting.auto.seats,
+            c.adjust_waiting.ensures.seats_whole,
           );
       rest = c.hear_called-in-QueryAdjust.ensures.rest;
     }

@@ -1,10 +1,9 @@
-use Rattle.std.proofs.Common.{◌≡◌, ◌∙◌, ap, arith, get_or, length, subst, suc, ℕ, List, Option}
+use Rattle.std.proofs.Common.{◌≡◌, ◌∙◌, ap, arith, length, subst, suc, ℕ, List, Option}
 use Rattle.tag_machine.specs.Exchange.{Replied}
-use Rattle.tag_population.proofs.EventsOnTags.{legal_at}
 use Rattle.tag_population.proofs.HeardByCalled.{BeforeHearing, HeardSoFar, HearsNext, replied_upto, heard_none, heard_on, heard_at, heard_next, heard_end, heard_tags, heard_rest, next_is_called, next_from_start, next_smaller, few_replies, replied_on, replied_next, replied_all, upto}
 use Rattle.tag_population.proofs.SeatedTags.{participation_inside}
 use Rattle.tag_population.specs.Seated.{outcomes_called, tags_of}
-use Rattle.tag_population.specs.declared.waiting.Participation.TheVariants.{Called}
+use Rattle.waiting_tags.specs.declared.waiting.Participation.TheVariants.{Called}
 use Rattle.tag_population.proofs.population.hear_called.Goals as goal
 
 pub loop-next-init : goal.loop-next-init
@@ -23,8 +22,8 @@ called_after-next-requires g c =
     omega
     (arith, participation_inside c.args.waiting.now c.in-Some.number Called (c.loop-next.invariant.called c.in-Some.number c.in-Some.is), c.loop-next.invariant.heard.whole, c.requires.whole)
 
-pub hear_when_called-requires-clause-few : goal.hear_when_called-requires-clause-few
-hear_when_called-requires-clause-few g c =
+pub hear_when_called-participation-requires-clause-few : goal.hear_when_called-participation-requires-clause-few
+hear_when_called-participation-requires-clause-few g c =
     let before : BeforeHearing = record { command = c.args.command.now; entry = c.args.entry.now; participations = c.args.waiting.now; seats = c.args.seats.now; steps = c.args.steps.now } in
     let from : ℕ = upto (length c.args.seats.now) c.loop-next.next in
     let here : from ≡ c.in-Some.number = ap (λ n. upto (length c.args.seats.now) n) c.in-Some.is in
@@ -44,12 +43,6 @@ hear_when_called-requires-clause-few g c =
           );
     }
 
-pub hear_when_called-requires-clause-legal : goal.hear_when_called-requires-clause-legal
-hear_when_called-requires-clause-legal g c =
-    let within = participation_inside c.args.waiting.now c.in-Some.number Called (c.loop-next.invariant.called c.in-Some.number c.in-Some.is) in
-    legal_at c.loop-next.seats c.index-at.result c.index-seats-at.result c.loop-next.invariant.heard.legal
-    (omega (arith, c.index-at.ensures.value, within, c.loop-next.invariant.heard.seats_whole, c.requires.whole))
-
 pub loop-next-smaller : goal.loop-next-smaller
 loop-next-smaller g c =
     let so_far = heard_at _ c.in-Some.number c.loop-next.next _ c.loop-next.invariant.heard c.in-Some.is in
@@ -61,36 +54,31 @@ pub loop-next-preserved : goal.loop-next-preserved
 loop-next-preserved g c =
     let before : BeforeHearing = record { command = c.args.command.now; entry = c.args.entry.now; participations = c.args.waiting.now; seats = c.args.seats.now; steps = c.args.steps.now } in
     let now : HeardSoFar = record { participations = c.loop-next.waiting; seats = c.loop-next.seats; steps = c.loop-next.steps } in
-    let after : HeardSoFar = record { participations = c.put.new.self; seats = c.loop-next.seats; steps = c.hear_when_called.new.steps } in
+    let after : HeardSoFar = record { participations = c.put.new.self; seats = c.hear_when_called-participation.new.self; steps = c.hear_when_called-participation.new.steps } in
     let so_far = heard_at before c.in-Some.number c.loop-next.next now c.loop-next.invariant.heard c.in-Some.is in
     let further = next_from_start before c.in-Some.number c.called_after-next.result now so_far c.called_after-next.ensures in
     let next : HearsNext before c.in-Some.number now after = record {
       misses = c.is_missed-misses.result;
-      seat = get_or c.loop-next.seats c.index-at.result c.index-seats-at.result;
-      other = c.index-seats-at.result;
-      new = c.hear_when_called.new.seat;
-      participation = c.participation.result;
+      participation = c.hear_when_called-participation.result;
       called = c.loop-next.invariant.called c.in-Some.number c.in-Some.is;
-      at = ap (λ n. get_or c.loop-next.seats n c.index-seats-at.result) c.index-at.ensures.value;
       missed = c.is_missed-misses.ensures;
-      is = c.hear_when_called.ensures.tag;
-      legal = c.hear_when_called.ensures.legal;
-      takes = c.participation.ensures.value;
+      seats_are = c.hear_when_called-participation.ensures.tag;
+      legal = c.hear_when_called-participation.ensures.legal;
+      takes = c.hear_when_called-participation.ensures.takes_part;
       put = c.put.ensures.participations;
-      counted = c.hear_when_called.ensures.counted;
+      counted = c.hear_when_called-participation.ensures.counted;
     } in
     let heard = heard_next before c.in-Some.number now after c.requires.whole so_far next in
     let was : g.A.AnswerTaker.took c.args.answers.now (replied_upto before c.in-Some.number) c.loop-next.answers =
     subst (λ (n : Option ℕ). g.A.AnswerTaker.took c.args.answers.now (replied_upto before (upto (length c.args.seats.now) n)) c.loop-next.answers) c.in-Some.is c.loop-next.invariant.taken in
     let replied = replied_next before c.in-Some.number now after c.requires.whole so_far next ∙ replied_on before (suc c.in-Some.number) c.called_after-next.result c.requires.whole heard.inside further in
-    rw c.index-at.ensures.value
-    (record {
+    record {
       heard = heard_on before (suc c.in-Some.number) c.called_after-next.result _ c.requires.whole heard further;
-      taken = subst (λ (l : List Replied). g.A.AnswerTaker.took c.args.answers.now l c.hear_when_called.new.answers) replied (c.hear_when_called.ensures.took c.args.answers.now (replied_upto before c.in-Some.number) was);
-      room = c.hear_when_called.ensures.room;
+      taken = subst (λ (l : List Replied). g.A.AnswerTaker.took c.args.answers.now l c.hear_when_called-participation.new.answers) replied (c.hear_when_called-participation.ensures.took c.args.answers.now (replied_upto before c.in-Some.number) was);
+      room = c.hear_when_called-participation.ensures.room;
       called = next_is_called c.args.waiting.now (suc c.in-Some.number) c.called_after-next.result further;
       slots = c.put.ensures.slots;
-    })
+    }
 
 pub returns-clause-tags : goal.returns-clause-tags
 returns-clause-tags g c = heard_tags _ _ c.requires.whole (heard_end _ c.loop-next.next _ c.loop-next.invariant.heard c.in_default.is)

@@ -1,8 +1,8 @@
 use Rattle.std.proofs.Common.{◌≡◌, ◌+◌, ◌-◌, ◌≤◌, length, ℕ, Some}
 use Rattle.reply_grammar.specs.Table.{reply_room}
 use Rattle.tag_population.proofs.HeardByCalled.{HeardUpto, replied_upto, upto}
-use Rattle.tag_population.specs.Waiting.{participation_at, AreSlots}
-use Rattle.tag_population.specs.declared.waiting.Participation.TheVariants.{Called}
+use Rattle.waiting_tags.specs.Waiting.{participation_at, AreSlots}
+use Rattle.waiting_tags.specs.declared.waiting.Participation.TheVariants.{Called}
 use Rattle.tag_population.proofs.population.hear_called.Given as goal
 
 abbrev pub invariant-loop-next : goal.invariant-loop-next

@@ -1,26 +1,27 @@
-use Rattle.std.proofs.Common.{◌≡◌, ◌∙◌, ap, get_or, set, Option}
-use Rattle.tag_population.proofs.HeardInSeats.{HeardBack, back_heard}
-use Rattle.tag_population.specs.Seated.{participation_in}
-use Rattle.tag_population.specs.declared.waiting.Participation.{Participation}
+use Rattle.std.proofs.Common.{◌++◌, subst}
+use Rattle.tag_machine.specs.Exchange.{outcome_unless, reply_of}
+use Rattle.tag_machine.specs.TagValue.{TagValue}
+use Rattle.tag_population.proofs.HeardInSeats.{back_heard, back_seat}
 use Rattle.tag_population.proofs.population.hear_written_back.Goals as goal
 
 pub returns-clause-heard : goal.returns-clause-heard
 returns-clause-heard g c =
-    let number = c.args.number in
-    let put : c.put.new.self ≡ set c.args.waiting.now number (participation_in c.hear.new.seat.state) =
-    c.put.ensures.participations ∙ ap (λ (s : Option Participation). set c.args.waiting.now number s) c.participation.ensures.value in
-    let h : HeardBack c.args.waiting.now c.args.seats.now = record {
+    back_heard c.args.waiting.now c.args.seats.now c.put.new.self c.hear-participation.new.self
+    (record {
       command = c.args.command.now;
       misses = c.args.misses;
-      number = number;
+      number = c.args.number;
       between = c.write_back.new.seats;
-      seat = get_or c.write_back.new.seats c.index-at.result c.index-seats-at.result;
-      other = c.index-seats-at.result;
-      new = c.hear.new.seat;
+      participation = c.hear-participation.result;
       within = c.requires.number;
       back = c.write_back.ensures.seats;
-      at = ap (λ n. get_or c.write_back.new.seats n c.index-seats-at.result) c.index-at.ensures.value;
-      is = c.hear.ensures.tag;
-      legal = c.hear.ensures.legal;
-    } in
-    rw (c.index-at.ensures.value, put) (back_heard c.args.waiting.now c.args.seats.now h)
+      is = c.hear-participation.ensures.tag;
+      takes = c.hear-participation.ensures.takes_part;
+      put = c.put.ensures.participations;
+      legal = c.hear-participation.ensures.heard_legal;
+    })
+
+pub returns-clause-took : goal.returns-clause-took
+returns-clause-took g c = λ first replies taken.
+    subst (λ (t : TagValue). g.A.AnswerTaker.took first (replies ++ reply_of c.args.number (outcome_unless c.args.misses c.args.command.now t).answer) c.hear-participation.new.answers)
+    (back_seat c.args.waiting.now c.args.seats.now c.write_back.new.seats c.args.number c.requires.number c.write_back.ensures.seats) (c.hear-participation.ensures.took first replies taken)

@@ -1,6 +1,6 @@
 use Rattle.std.proofs.Common.{ℕ, ◌==◌, List, ap, sym}
 use Rattle.std.specs.List.{list_any}
-use Rattle.tag_population.proofs.TagSetBits.{same_true}
+use Rattle.waiting_tags.proofs.TagSetBits.{same_true}
 use Rattle.tag_machine.specs.Exchange.{is_missed}
 use Rattle.tag_population.proofs.population.is_missed.Goals as goal
 

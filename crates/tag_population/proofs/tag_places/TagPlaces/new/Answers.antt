@@ -1,9 +1,0 @@
-use Rattle.tag_population.proofs.KeptPlaces.{new_kept, new_stands}
-use Rattle.tag_population.proofs.tag_places.TagPlaces.new.Goals as goal
-
-pub invariant_of-result : goal.invariant_of-result
-invariant_of-result c =
-    new_kept c.args.count 0 131072 c.in_ok-wheel.wheel c.in_ok-places.places.items c.requires (c.in_ok-places.ensures.items_if_clones_equal (λ y is. is)) c.in_ok-wheel.ensures
-
-pub returns : goal.returns
-returns c = new_stands c.args.count c.in_ok-places.places.items (c.in_ok-places.ensures.items_if_clones_equal (λ y is. is))

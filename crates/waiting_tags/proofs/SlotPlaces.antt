@@ -1,0 +1,287 @@
+-- Places and slot counters.
+use Rattle.std.proofs.Common.{◌≡◌, ◌≢◌, ℕ, zero, suc, ◌+◌, ◌/◌, ◌%◌, ◌<◌, ◌≤◌, ◌==◌, inl, inr, Bool, List, [], ◌∷◌, length, map, Option, Some, None, get_or, set, replicate, refl, sym, ap, ◌∙◌, subst, arith, if◌then◌else◌}
+use Rattle.std.proofs.lemmas.Bool.Decides.{eqb_tells}
+use Rattle.std.proofs.lemmas.Bool.{ne_eqb}
+use Rattle.std.proofs.lemmas.List.{get_or-set_same, get_or-set_other, set-get_or, length-map, length-replicate, length-set}
+use Rattle.std.proofs.lemmas.Option.{same_Some}
+use Rattle.air_events.specs.TagNumbers.{most_tags}
+use Rattle.tag_machine.specs.Inventory.{slot_below}
+use Rattle.waiting_tags.specs.declared.waiting.Participation.{Participation}
+use Rattle.waiting_tags.specs.declared.waiting.Participation.TheVariants.{Waits, Called}
+use Rattle.waiting_tags.specs.TagSets.{bit_of, HasNone, IsIn, IsNextIn}
+use Rattle.waiting_tags.specs.KeptPlaces.{stand_of}
+use Rattle.waiting_tags.specs.Wheel.{most_places, place_of, IsTagOn}
+use Rattle.waiting_tags.proofs.KeptPlaces.{stands_none, stands_some}
+use Rattle.waiting_tags.proofs.WheelLinks.{stands_inside, stands_nowhere}
+use Rattle.waiting_tags.specs.Waiting.{participation_at, waits_in, IsNextCalled, IsDue, counted_down, called_place, slot_place, slot_behind, slot_in, participation_there, participation_on, participations_on, AreBases, AreCalled, AreSlots}
+
+-- the participation of the tag on a place
+pub participation_of_place : (bases : List ℕ) (places : List (Option ℕ)) (number : ℕ) → participation_at (participations_on bases places) number ≡ participation_on bases (place_of places number)
+participation_of_place bases [] number = refl
+participation_of_place bases (place ∷ places) zero = refl
+participation_of_place bases (place ∷ places) (suc number) = participation_of_place bases places number
+
+pub participations-set : (bases : List ℕ) (places : List (Option ℕ)) (number : ℕ) (place : Option ℕ)
+    → participations_on bases (set places number place) ≡ set (participations_on bases places) number (participation_on bases place)
+participations-set bases [] number place = refl
+participations-set bases (first ∷ places) zero place = refl
+participations-set bases (first ∷ places) (suc number) place = ap (λ (l : List (Option Participation)). participation_on bases first ∷ l) (participations-set bases places number place)
+
+pub map-none : (f : Option ℕ → Option Participation) (count : ℕ) → f None ≡ None → map f (replicate count None) ≡ replicate count None
+map-none f zero none = refl
+map-none f (suc count) none = rw (none, map-none f count none) refl
+
+-- numbers of sessions, slots and places
+session_of_place : (base session slot : ℕ) → slot_place base session slot / 32768 ≡ session
+session_of_place base session slot = omega arith
+
+slot_of_place : (base session slot : ℕ) → base < 32768 → slot < 32768 → slot_behind base (slot_place base session slot) ≡ slot
+slot_of_place base session slot below range = omega arith
+
+-- a tag that is put on the place of its slot waits for it
+pub waits_there : (bases : List ℕ) (base session slot : ℕ) → AreBases bases → base ≡ get_or bases session 0 → session ≤ 3 → slot < 32768
+    → participation_on bases (Some (slot_place base session slot)) ≡ Some (Waits session slot)
+waits_there bases base session slot are is few range =
+    let own = session_of_place base session slot in
+    let apart : slot_place base session slot ≢ called_place = λ same. omega (arith, same, few) in
+    let counter : slot_behind (get_or bases (slot_place base session slot / 32768) 0) (slot_place base session slot) ≡ slot =
+    ap (λ n. slot_behind (get_or bases n 0) (slot_place base session slot)) own
+    ∙ ap (λ n. slot_behind n (slot_place base session slot)) (sym is)
+    ∙ slot_of_place base session slot (rw is (are.each session)) range in
+    rw (ne_eqb (slot_place base session slot) called_place apart, counter, own) refl
+
+-- a tag waits in a session where its place is one of those of the session
+waits_by : (bases : List ℕ) (session place : ℕ) → session ≤ 3 → (place / 32768 == session) ≡ waits_in session (participation_on bases (stand_of place))
+waits_by bases session place few =
+    elim (eqb_tells place most_places) [
+      | inl nowhere ↦
+          ne_eqb (place / 32768) session (λ same. omega (arith, same, few, nowhere.1))
+          ∙ ap (λ (s : Option ℕ). waits_in session (participation_on bases s)) (sym (stands_none place nowhere.1))
+      | inr somewhere ↦
+          elim (eqb_tells place called_place) [
+            | inl w ↦
+                ne_eqb (place / 32768) session (λ same. omega (arith, same, few, w.1))
+                ∙ ap (λ (b : Bool). waits_in session (Some (if b then Called else Waits (place / 32768) (slot_behind (get_or bases (place / 32768) 0) place)))) (sym w.0)
+                ∙ ap (λ (s : Option ℕ). waits_in session (participation_on bases s)) (sym (stands_some place somewhere.1))
+            | inr w ↦
+                ap (λ (b : Bool). waits_in session (Some (if b then Called else Waits (place / 32768) (slot_behind (get_or bases (place / 32768) 0) place)))) (sym w.0)
+                ∙ ap (λ (s : Option ℕ). waits_in session (participation_on bases s)) (sym (stands_some place somewhere.1))
+          ]
+    ]
+
+pub waits_there_in : (bases : List ℕ) (places : List (Option ℕ)) (number session place : ℕ) → session ≤ 3 → stand_of place ≡ place_of places number
+    → (place / 32768 == session) ≡ waits_in session (participation_at (participations_on bases places) number)
+waits_there_in bases places number session place few stands =
+    waits_by bases session place few
+    ∙ ap (λ (s : Option ℕ). waits_in session (participation_on bases s)) stands
+    ∙ ap (λ (s : Option Participation). waits_in session s) (sym (participation_of_place bases places number))
+
+-- the counter falls by 1 where the base rises by 1
+counter_falls : (base place : ℕ) → base < 32768 → slot_behind ((base + 1) % 32768) place ≡ slot_below (slot_behind base place)
+counter_falls base place below =
+    elim (eqb_tells (slot_behind base place) 0) [
+      | inl w ↦ rw w.0 (omega (arith, w.1))
+      | inr w ↦ rw w.0 (omega (arith, w.1))
+    ]
+
+raised : (bases : List ℕ) (session base : ℕ) → List ℕ
+raised bases session base = set bases session ((base + 1) % 32768)
+
+counted_place : (bases : List ℕ) (session : ℕ) (place : ℕ) → AreBases bases → session < length bases
+    → participation_on (set bases session ((get_or bases session 0 + 1) % 32768)) (Some place) ≡ counted_down session (participation_on bases (Some place))
+counted_place bases session place are within =
+    let after : List ℕ = set bases session ((get_or bases session 0 + 1) % 32768) in
+    elim (eqb_tells place called_place) [
+      | inl w ↦ rw w.0 refl
+      | inr w ↦
+          elim (eqb_tells (place / 32768) session) [
+            | inl own ↦
+                let base : get_or after (place / 32768) 0 ≡ (get_or bases session 0 + 1) % 32768 =
+                ap (λ n. get_or after n 0) own.1 ∙ get_or-set_same bases session ((get_or bases session 0 + 1) % 32768) 0 within in
+                let base_was : get_or bases (place / 32768) 0 ≡ get_or bases session 0 = ap (λ n. get_or bases n 0) own.1 in
+                rw (w.0, base, base_was, own.0, counter_falls (get_or bases session 0) place (are.each session)) refl
+            | inr other ↦
+                let base : get_or after (place / 32768) 0 ≡ get_or bases (place / 32768) 0 =
+                get_or-set_other bases session (place / 32768) ((get_or bases session 0 + 1) % 32768) 0 other.1 in
+                rw (w.0, base, other.0) refl
+          ]
+    ]
+
+pub counted_places : (bases : List ℕ) (session : ℕ) (places : List (Option ℕ)) → AreBases bases → session < length bases
+    → participations_on (set bases session ((get_or bases session 0 + 1) % 32768)) places ≡ map (counted_down session) (participations_on bases places)
+counted_places bases session [] are within = refl
+counted_places bases session (None ∷ places) are within = ap (λ (l : List (Option Participation)). None ∷ l) (counted_places bases session places are within)
+counted_places bases session (Some place ∷ places) are within =
+    rw (counted_place bases session place are within, counted_places bases session places are within) refl
+
+-- The calls of a waiting list. Tags that take part so stand on places behind these bases.
+pub record OnPlaces (participations : List (Option Participation)) : Type 0 where
+  pub bases : List ℕ
+  pub places : List (Option ℕ)
+  pub are : AreBases bases
+  pub same : participations_on bases places ≡ participations
+
+pub counted_all : (participations : List (Option Participation)) (on : OnPlaces participations) (session at raised : ℕ) → at ≡ session → session ≤ 3
+    → raised ≡ (get_or on.bases at 0 + 1) % 32768 → participations_on (set on.bases at raised) on.places ≡ map (counted_down session) participations
+counted_all participations on session at raised here few is =
+    ap (λ n. participations_on (set on.bases n raised) on.places) here
+    ∙ ap (λ n. participations_on (set on.bases session n) on.places) (is ∙ ap (λ n. (get_or on.bases n 0 + 1) % 32768) here)
+    ∙ counted_places on.bases session on.places on.are (omega (arith, on.are.count, few))
+    ∙ ap (λ (l : List (Option Participation)). map (counted_down session) l) on.same
+
+pub put_waits : (participations : List (Option Participation)) (on : OnPlaces participations) (after : List (Option ℕ)) (number session slot : ℕ) → session ≤ 3 → slot < 32768
+    → after ≡ set on.places number (Some (slot_place (get_or on.bases session 0) session slot))
+    → participations_on on.bases after ≡ set participations number (Some (Waits session slot))
+put_waits participations on after number session slot few range put =
+    ap (λ (l : List (Option ℕ)). participations_on on.bases l) put
+    ∙ participations-set on.bases on.places number (Some (slot_place (get_or on.bases session 0) session slot))
+    ∙ ap (λ (s : Option Participation). set (participations_on on.bases on.places) number s) (waits_there on.bases (get_or on.bases session 0) session slot on.are refl few range)
+    ∙ ap (λ (l : List (Option Participation)). set l number (Some (Waits session slot))) on.same
+
+pub put_called : (participations : List (Option Participation)) (on : OnPlaces participations) (after : List (Option ℕ)) (number : ℕ) → after ≡ set on.places number (Some called_place)
+    → participations_on on.bases after ≡ set participations number (Some Called)
+put_called participations on after number put =
+    ap (λ (l : List (Option ℕ)). participations_on on.bases l) put
+    ∙ participations-set on.bases on.places number (Some called_place)
+    ∙ ap (λ (l : List (Option Participation)). set l number (Some Called)) on.same
+
+pub put_none : (participations : List (Option Participation)) (on : OnPlaces participations) (after : List (Option ℕ)) (number : ℕ) → after ≡ set on.places number None
+    → participations_on on.bases after ≡ set participations number None
+put_none participations on after number put =
+    ap (λ (l : List (Option ℕ)). participations_on on.bases l) put
+    ∙ participations-set on.bases on.places number None
+    ∙ ap (λ (l : List (Option Participation)). set l number None) on.same
+
+pub length-participations : (bases : List ℕ) (places : List (Option ℕ)) (now : List (Option Participation)) → participations_on bases places ≡ now → length places ≡ length now
+length-participations bases places now same = sym (length-map places (λ place. participation_on bases place)) ∙ ap (λ (l : List (Option Participation)). length l) same
+
+-- a tag waits with a counter exactly where it stands on the place of it
+pub same_waits : (own slot session counter : ℕ) → Some (Waits own slot) ≡ Some (Waits session counter) → (own ≡ session) × (slot ≡ counter)
+same_waits own slot session counter same = (cc, cc)
+
+waits_called : (session slot : ℕ) → Some (Waits session slot) ≡ Some Called → ⊥
+waits_called session slot same = cc
+
+not_called : (session slot : ℕ) → Some Called ≡ Some (Waits session slot) → ⊥
+not_called session slot same = cc
+
+place_of_slot : (bases : List ℕ) (place session slot : ℕ) → AreBases bases → participation_on bases (Some place) ≡ Some (Waits session slot)
+    → place ≡ slot_place (get_or bases session 0) session slot
+place_of_slot bases place session slot are is =
+    elim (eqb_tells place called_place) [
+      | inl w ↦ absurd (not_called session slot (sym (ap (λ (b : Bool). Some (if b then Called else Waits (place / 32768) (slot_behind (get_or bases (place / 32768) 0) place))) w.0) ∙ is))
+      | inr w ↦
+          let same = same_waits (place / 32768) (slot_behind (get_or bases (place / 32768) 0) place) session slot
+          (sym (ap (λ (b : Bool). Some (if b then Called else Waits (place / 32768) (slot_behind (get_or bases (place / 32768) 0) place))) w.0) ∙ is) in
+          let counter : slot_behind (get_or bases session 0) place ≡ slot = sym (ap (λ n. slot_behind (get_or bases n 0) place) same.0) ∙ same.1 in
+          omega (arith, same.0, counter, are.each session)
+    ]
+
+not_due : (bases : List ℕ) (places : List (Option ℕ)) (session number : ℕ) (stands : Option ℕ) → AreBases bases → IsTagOn places (slot_place (get_or bases session 0) session 1) None
+    → place_of places number ≡ stands → participation_on bases stands ≢ Some (Waits session 1)
+not_due bases places session number None are none is = λ same. cc
+not_due bases places session number (Some own) are none is = λ same. none number (is ∙ ap (λ n. Some n) (place_of_slot bases own session 1 are same))
+
+pub due_there : (bases : List ℕ) (places : List (Option ℕ)) (session place : ℕ) (found : Option ℕ) → AreBases bases → session ≤ 3
+    → place ≡ slot_place (get_or bases session 0) session 1 → IsTagOn places place found → IsDue (participations_on bases places) session found
+due_there bases places session place None are few there none = λ number waits.
+    not_due bases places session number (place_of places number) are (subst (λ p. IsTagOn places p None) there none) refl (sym (participation_of_place bases places number) ∙ waits)
+due_there bases places session place (Some due) are few there next =
+    participation_of_place bases places due ∙ ap (λ p. participation_on bases p) (next ∙ ap (λ n. Some n) there) ∙ waits_there bases (get_or bases session 0) session 1 are refl few (omega arith)
+
+-- the called tags
+called_there : (bases : List ℕ) (places : List (Option ℕ)) (number : ℕ) → place_of places number ≡ Some called_place → participation_at (participations_on bases places) number ≡ Some Called
+called_there bases places number is = participation_of_place bases places number ∙ ap (λ p. participation_on bases p) is
+
+-- one that is called already
+pub called_again : (participations : List (Option Participation)) (on : OnPlaces participations) (number place : ℕ) → stand_of place ≡ place_of on.places number → place ≡ called_place
+    → participations ≡ set participations number (Some Called)
+called_again participations on number place stands is =
+    let there : place_of on.places number ≡ Some called_place = sym stands ∙ ap (λ n. stand_of n) is ∙ stands_some called_place (λ same. omega (arith, same)) in
+    sym (set-get_or participations number None)
+    ∙ ap (λ (s : Option Participation). set participations number s)
+    (ap (λ (l : List (Option Participation)). participation_at l number) (sym on.same) ∙ called_there on.bases on.places number there)
+
+not_there : (bases : List ℕ) (places : List (Option ℕ)) (number : ℕ) (stands : Option ℕ) → place_of places number ≡ stands → place_of places number ≢ Some called_place
+    → participation_on bases stands ≢ Some Called
+not_there bases places number None is apart = λ same. cc
+not_there bases places number (Some place) is apart =
+    elim (eqb_tells place called_place) [
+      | inl w ↦ absurd (apart (is ∙ ap (λ n. Some n) w.1))
+      | inr w ↦ λ same.
+          waits_called (place / 32768) (slot_behind (get_or bases (place / 32768) 0) place)
+          (sym (ap (λ (b : Bool). Some (if b then Called else Waits (place / 32768) (slot_behind (get_or bases (place / 32768) 0) place))) w.0) ∙ same)
+    ]
+
+not_called_there : (bases : List ℕ) (places : List (Option ℕ)) (number : ℕ) → place_of places number ≢ Some called_place → participation_at (participations_on bases places) number ≢ Some Called
+not_called_there bases places number apart = λ called.
+    not_there bases places number (place_of places number) refl apart (sym (participation_of_place bases places number) ∙ called)
+
+not_in : (bit : ℕ) → bit ≡ 0 → bit ≢ 1
+not_in bit out = λ one. omega (arith, out, one)
+
+not_called_in : (numbers : List ℕ) (places : List (Option ℕ)) (number : ℕ) → AreCalled numbers places → bit_of numbers number ≡ 0 → place_of places number ≢ Some called_place
+not_called_in numbers places number are out = λ is. not_in (bit_of numbers number) out (are.called number is)
+
+-- where no tag stands on a place, none is called
+pub none_called : (count : ℕ) (numbers : List ℕ) (places : List (Option ℕ)) → count ≤ most_tags → places ≡ replicate count None → HasNone numbers → AreCalled numbers places
+none_called count numbers places few nowhere none = record {
+  few = rw (nowhere, length-replicate {A = Option ℕ} count None) few;
+  called = λ number stands. absurd (stands_nowhere count number called_place (sym (ap (λ (l : List (Option ℕ)). place_of l number) nowhere) ∙ stands));
+  only = λ number one. absurd (not_in (bit_of numbers number) (none number) one);
+}
+
+pub next_called : (bases numbers : List ℕ) (places : List (Option ℕ)) (from : ℕ) (found : Option ℕ) → AreCalled numbers places → IsNextIn numbers from found
+    → IsNextCalled (participations_on bases places) from found
+next_called bases numbers places from None are none = λ number least.
+    not_called_there bases places number
+    (λ is. not_called_in numbers places number are (none number least (omega (arith, are.few, stands_inside places number called_place is))) is)
+next_called bases numbers places from (Some next) are is = (
+  is.0,
+  called_there bases places next (are.only next is.2),
+  λ number least most. not_called_there bases places number (not_called_in numbers places number are (is.3 number least most)),
+)
+
+-- each slot counter has 15 bits
+no_slot : (slot : ℕ) → None ≡ Some slot → ⊥
+no_slot slot e = cc
+
+slot_there : (bases : List ℕ) (place slot : ℕ) → slot_in (Some (participation_there bases place)) ≡ Some slot → slot < 32768
+slot_there bases place slot is =
+    elim (eqb_tells place called_place) [
+      | inl w ↦
+          absurd
+          (no_slot slot
+          (sym (ap (λ (b : Bool). slot_in (Some (if b then Called else Waits (place / 32768) (slot_behind (get_or bases (place / 32768) 0) place)))) w.0) ∙ is))
+      | inr w ↦
+          let same : slot_behind (get_or bases (place / 32768) 0) place ≡ slot =
+          same_Some (slot_behind (get_or bases (place / 32768) 0) place) slot
+          (sym (ap (λ (b : Bool). slot_in (Some (if b then Called else Waits (place / 32768) (slot_behind (get_or bases (place / 32768) 0) place)))) w.0) ∙ is) in
+          omega (arith, same)
+    ]
+
+slot_on : (bases : List ℕ) (stands : Option ℕ) (slot : ℕ) → slot_in (participation_on bases stands) ≡ Some slot → slot < 32768
+slot_on bases None slot is = absurd (no_slot slot is)
+slot_on bases (Some place) slot is = slot_there bases place slot is
+
+pub are_slots : (bases : List ℕ) (places : List (Option ℕ)) (now : List (Option Participation)) → participations_on bases places ≡ now → AreSlots now
+are_slots bases places now same = λ number slot is.
+    slot_on bases (place_of places number) slot
+    (ap (λ (s : Option Participation). slot_in s) (sym (participation_of_place bases places number) ∙ ap (λ (l : List (Option Participation)). participation_at l number) same) ∙ is)
+
+pub called_placed : (numbers after : List ℕ) (places : List (Option ℕ)) (number : ℕ) → AreCalled numbers places → number < length places → IsIn after number
+    → ((other : ℕ) → other ≢ number → bit_of after other ≡ bit_of numbers other) → AreCalled after (set places number (Some called_place))
+called_placed numbers after places number are within there others = record {
+  few = rw (length-set places number (Some called_place)) are.few;
+  called = λ other stands.
+      elim (eqb_tells other number) [
+        | inl same ↦ ap (λ n. bit_of after n) same.1 ∙ there
+        | inr apart ↦
+            others other apart.1 ∙ are.called other (sym (get_or-set_other places number other (Some called_place) None apart.1) ∙ stands)
+      ];
+  only = λ other one.
+      elim (eqb_tells other number) [
+        | inl same ↦ ap (λ n. place_of (set places number (Some called_place)) n) same.1 ∙ get_or-set_same places number (Some called_place) None within
+        | inr apart ↦ get_or-set_other places number other (Some called_place) None apart.1 ∙ are.only other (sym (others other apart.1) ∙ one)
+      ];
+}

@@ -1,0 +1,212 @@
+//! Which tags wait for their slots, and which are called.
+ghost use Rattle.std.specs.Prelude.{◌≡◌, ◌≢◌, ◌==◌, ℕ, ◌+◌, ◌<◌, ◌≤◌, true, false, Some, None, length, map, replicate, slice_set, get_or, if◌then◌else◌, IfOk};
+ghost use Rattle.air_events.specs.TagNumbers.{most_tags};
+ghost use Rattle.waiting_tags.specs.Waiting.{AreSlots, IsDue, IsLegalParticipation, IsNextCalled, counted_down, slot_in, slot_place, participation_at, waits_in};
+
+use crate::tag_places::TagPlaces;
+use crate::tag_set::TagSet;
+use air_events::TagNumber;
+use bit_strings::{OutOfMemory, Session};
+use std::alloc::Global;
+use std::marker::Model;
+
+/// How many values a slot counter has: 15 bits (6.3.2.4.8 Slot counter).
+const SLOTS: usize = 32_768;
+
+/// The place of the tags that are called, behind those of the slots of the four sessions.
+const CALLED: usize = 131_072;
+
+/// How a tag takes part in a round.
+#[derive(Clone, Copy)]
+pub enum Participation {
+    /// It waits in a round of the session with this number, and has this slot counter.
+    Waits(u8, u16),
+    /// It is called: it has to hear the next command.
+    Called,
+}
+
+/// Tags, of which some wait for their slots and some are called. All waiting tags of a session are
+/// counted down at once: each stands at the place that its slot counter has behind the base of the session, and
+/// the base moves. Called tags stand at a place of their own, and are kept as a set too, since they hear in the order of
+/// their numbers.
+///
+/// A contract sees for each tag how it takes part.
+#[derive(Drop)]
+pub struct Waiting {
+    bases: [u16; 4],
+    tags: TagPlaces,
+    called: TagSet,
+}
+
+impl Model for Waiting {
+    ghost use Rattle.std.specs.Prelude.{List, Option};
+    ghost use Rattle.waiting_tags.specs.declared.waiting.Participation.{Participation};
+    ghost use Rattle.waiting_tags.specs.Waiting.{AreBases, AreCalled, participations_on};
+
+    ghost Value = { List (Option Participation) };
+
+    ghost view = { λ a. participations_on a.bases a.tags };
+
+    ghost invariant = { λ a. AreBases a.bases × AreCalled a.called a.tags };
+}
+
+impl Waiting {
+    /// So many tags, none of which takes part.
+    pub fn new(alloc: Global, count: usize) -> Result<Waiting, OutOfMemory>
+        requires { count ≤ most_tags }
+        ensures { IfOk result (λ waiting. waiting ≡ replicate count None) }
+    {
+        let tags = TagPlaces::new(alloc, count)?;
+        let called = TagSet::new(alloc)?;
+        Ok(Waiting {
+            bases: [0; 4],
+            tags,
+            called,
+        })
+    }
+
+    /// The slot counter of a tag that waits.
+    pub fn slot(&self, number: TagNumber) -> Option<u16>
+        requires { number < length self.now }
+        ensures value { result ≡ slot_in (participation_at self.now number) }
+        ensures range { (slot : ℕ) → result ≡ Some slot → slot < 32768 }
+    {
+        let place = self.tags.place(number)?;
+        if place == CALLED {
+            return None;
+        }
+        let base = usize::from(self.bases[place / SLOTS]);
+        Some(((place % SLOTS + SLOTS - base) % SLOTS) as u16)
+    }
+
+    /// Whether a tag waits in a round of this session.
+    pub fn waits_in(&self, number: TagNumber, session: Session) -> bool
+        requires { number < length self.now }
+        ensures { result ≡ waits_in session (participation_at self.now number) }
+    {
+        self.tags.place_number(number) / SLOTS == usize::from(session.get())
+    }
+
+    /// Lets a tag take part as is said.
+    pub fn put(&mut self, number: TagNumber, participation: Option<Participation>)
+        requires number { number < length self.old }
+        requires legal { IsLegalParticipation participation }
+        ensures participations { self.new ≡ slice_set self.old number participation }
+        ensures slots { AreSlots self.new }
+    {
+        match participation {
+            Some(participation) => self.put_on_place(number, participation),
+            None => {
+                self.tags.take(number);
+                self.called.remove(number);
+            }
+        }
+    }
+
+    /// Puts a tag on the place of its slot counter, or on that of called tags.
+    fn put_on_place(&mut self, number: TagNumber, participation: Participation)
+        requires number { number < length self.old }
+        requires legal { IsLegalParticipation (Some participation) }
+        ensures participations { self.new ≡ slice_set self.old number (Some participation) }
+        ensures slots { AreSlots self.new }
+    {
+        match participation {
+            Participation::Waits(session, slot) => {
+                let place = slot_place(self.bases[usize::from(session)], session, slot);
+                self.tags.put(number, place);
+                self.called.remove(number);
+            }
+            Participation::Called => {
+                // A tag beyond arbitrate is called to each command.
+                let place = self.tags.place_number(number);
+                if place == CALLED {
+                    return;
+                }
+                self.tags.put(number, CALLED);
+                self.called.insert(number);
+            }
+        }
+    }
+
+    /// Lets a tag that waits in a session wait there for another slot.
+    #[inline]
+    pub fn wait_for(&mut self, number: TagNumber, session: Session, slot: u16)
+        requires number { number < length self.old }
+        requires waits { waits_in session (participation_at self.old number) ≡ true }
+        requires slot { slot < 32768 }
+        ensures { self.new ≡ slice_set self.old number (Some (Participation.Waits session slot)) }
+    {
+        let session = session.get();
+        let place = slot_place(self.bases[usize::from(session)], session, slot);
+        self.tags.put(number, place);
+    }
+
+    /// The first tag that is called, in the order of their numbers.
+    pub fn first_called(&self) -> Option<TagNumber>
+        ensures next { IsNextCalled self.now 0 result }
+        ensures slots { AreSlots self.now }
+    {
+        self.called.first()
+    }
+
+    /// The next tag behind this one that is called.
+    pub fn called_after(&self, number: TagNumber) -> Option<TagNumber>
+        requires { number < length self.now }
+        ensures { IsNextCalled self.now (number + 1) result }
+    {
+        self.called.next_after(number)
+    }
+
+    /// A tag whose slot comes next in a session; none exactly where there is no such tag.
+    pub fn due(&mut self, session: Session) -> Option<TagNumber>
+        ensures same { self.new ≡ self.old }
+        ensures due { IsDue self.old session result }
+    {
+        let session = session.get();
+        let base = self.bases[usize::from(session)];
+        self.tags.tag_on(slot_place(base, session, 1))
+    }
+
+    /// Lets tags go to other places at less cost, until one is asked for whose slot comes next.
+    pub fn unlink(&mut self)
+        ensures { self.new ≡ self.old }
+    {
+        self.tags.unlink();
+    }
+
+    /// Marks the tags that wait in a session by 1, and all others by 0.
+    pub fn mark_waiting(&self, session: Session, marks: &mut [u16])
+        requires { length marks.old ≡ length self.now }
+        ensures { (number : ℕ) → get_or marks.new number 0 ≡ (if waits_in session (participation_at self.now number) then 1 else 0) }
+    {
+        self.tags.mark(session, marks);
+    }
+
+    /// Lets tags that wait in a session wait there for other slots: those of which a slot is told that isn't 0.
+    pub fn wait_for_all(&mut self, session: Session, slots: &[u16])
+        requires whole { length slots.now ≡ length self.old }
+        requires small { (number : ℕ) → get_or slots.now number 0 < 32768 }
+        requires waits { (number : ℕ) → get_or slots.now number 0 ≢ 0 → waits_in session (participation_at self.old number) ≡ true }
+        ensures whole { length self.new ≡ length self.old }
+        ensures each { (number : ℕ) → participation_at self.new number ≡ (if get_or slots.now number 0 == 0 then participation_at self.old number else Some (Participation.Waits session (get_or slots.now number 0))) }
+    {
+        let base = self.bases[usize::from(session.get())];
+        self.tags.move_all(base, session, slots);
+    }
+
+    /// Counts the slot counters of all tags down that wait in a session.
+    pub fn count_down(&mut self, session: Session)
+        ensures { self.new ≡ map (counted_down session) self.old }
+    {
+        let at = usize::from(session.get());
+        self.bases[at] = ((usize::from(self.bases[at]) + 1) % SLOTS) as u16;
+    }
+}
+
+/// The place of a slot counter in a session, behind the base of that session.
+fn slot_place(base: u16, session: u8, slot: u16) -> usize
+    requires session { session ≤ 3 }
+    ensures { result ≡ slot_place base session slot }
+{
+    usize::from(session) * SLOTS + (usize::from(base) + usize::from(slot)) % SLOTS
+}

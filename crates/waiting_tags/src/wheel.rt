@@ -1,0 +1,102 @@
+//! Places on which tags stand, and the links between the tags of one place.
+ghost use Rattle.std.specs.Prelude.{◌≡◌, ◌<◌, ◌≤◌, Some, None, length, replicate, slice_set, IfOk};
+ghost use Rattle.air_events.specs.TagNumbers.{most_tags};
+ghost use Rattle.waiting_tags.specs.Wheel.{most_places, IsTagOn};
+
+use air_events::{MOST_TAGS, TagNumber};
+use bit_strings::OutOfMemory;
+use std::alloc::Global;
+use std::marker::Model;
+
+/// How many places there are: one for each of the 32,768 values of a slot counter in each of the four sessions,
+/// and one more.
+const PLACES: usize = 131_073;
+
+/// Tags, each of which stands on one place or on none. The tags of one place are linked in both directions.
+///
+/// A contract sees for each tag the place where it stands, or none.
+#[derive(Drop)]
+pub(crate) struct Wheel {
+    /// For each place the number of the first tag there, and then for each tag that of the next one on its place. `MOST_TAGS` is the number
+    /// of none.
+    links: Vec<u16>,
+    /// For each tag that stands on a place, which link leads to it. One more is written where a link leads to none.
+    backs: Vec<usize>,
+    places: Vec<Option<usize>>,
+}
+
+impl Model for Wheel {
+    ghost use Rattle.std.specs.Prelude.{ℕ, List, Option};
+    ghost use Rattle.waiting_tags.specs.Wheel.{IsLinked};
+
+    ghost Value = { List (Option ℕ) };
+
+    ghost view = { λ a. a.places.items };
+
+    ghost invariant = { λ a. IsLinked a.places.items a.links.items a.backs.items };
+}
+
+impl Wheel {
+    /// So many tags, which stand on no place.
+    pub(crate) fn new(alloc: Global, count: usize) -> Result<Wheel, OutOfMemory>
+        requires { count ≤ most_tags }
+        ensures { IfOk result (λ wheel. wheel ≡ replicate count None) }
+    {
+        let links = vec![in alloc; MOST_TAGS; PLACES + usize::from(MOST_TAGS)]?;
+        let backs = vec![in alloc; 0; usize::from(MOST_TAGS) + 1]?;
+        let mut places = Vec::with_capacity(alloc, count)?;
+        for _number in 0..count {
+            places.push_reserved(None);
+        }
+        Ok(Wheel {
+            links,
+            backs,
+            places,
+        })
+    }
+
+    /// A tag on a place; none exactly where no tag stands there.
+    pub(crate) fn tag_on(&self, place: usize) -> Option<TagNumber>
+        requires { place < most_places }
+        ensures { IsTagOn self.now place result }
+    {
+        let first = usize::from(self.links[place]);
+        if first < self.places.len() {
+            Some(TagNumber::from_index(first))
+        } else {
+            None
+        }
+    }
+
+    /// Lets a tag stand on a place, and nowhere else.
+    pub(crate) fn put(&mut self, number: TagNumber, place: usize)
+        requires number { number < length self.old }
+        requires place { place < most_places }
+        ensures { self.new ≡ slice_set self.old number (Some place) }
+    {
+        self.take(number);
+        let at = number.index();
+        let behind = PLACES + at;
+        let first = self.links[place];
+        self.links[behind] = first;
+        self.backs[usize::from(first)] = behind;
+        self.links[place] = number.get();
+        self.backs[at] = place;
+        self.places[at] = Some(place);
+    }
+
+    /// Lets a tag stand nowhere.
+    pub(crate) fn take(&mut self, number: TagNumber)
+        requires { number < length self.old }
+        ensures { self.new ≡ slice_set self.old number None }
+    {
+        let at = number.index();
+        if self.places[at].is_some() {
+            let next = self.links[PLACES + at];
+            let back = self.backs[at];
+            self.links[back] = next;
+            self.backs[usize::from(next)] = back;
+            self.places[at] = None;
+        }
+    }
+}
