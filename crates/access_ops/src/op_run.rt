@@ -62,7 +62,7 @@ impl OpRun {
             Stage::Begin => self.begin(list, next),
             Stage::Number(purpose) => self.take_number(list, purpose, answer, next),
             Stage::Last => self.end_operation(answer, next),
-            Stage::Done => *next = OpNext::End,
+            Stage::Done => self.end(next),
         }
     }
 

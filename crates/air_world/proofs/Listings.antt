@@ -9,11 +9,11 @@ use Rattle.pie_line.specs.Link.{LinkValue}
 use Rattle.reply_grammar.specs.Reception.{Reception, no_stream, whole_reply, no_such_reply}
 use Rattle.reply_grammar.specs.declared.expected.Reply.TheVariants as replies
 use Rattle.bounded_list.specs.ItemList.{ItemList}
-use Rattle.report_lines.specs.Kept.{is_of_exchanges}
+use Rattle.report_lines.specs.Kept.{is_of_exchanges, is_of_trace}
 use Rattle.report_lines.specs.Line.{line_of}
 use Rattle.report_lines.specs.declared.line.Line.{Line}
 use Rattle.report_lines.specs.declared.line.Line.TheVariants as told
-use Rattle.report_lines.specs.ReportLine.{ReportLine, ExchangeLine, MissedLine, AnswerLine, GivenLine, OpLine, RoundLine}
+use Rattle.report_lines.specs.ReportLine.{ReportLine, BlfLine, ExchangeLine, MissedLine, AnswerLine, TxLine, RxLine, GivenLine, OpLine, RoundLine}
 use Rattle.report_lines.specs.declared.mode.PlayFault.{PlayFault}
 use Rattle.report_lines.specs.declared.mode.PlayFault.TheVariants.{OutOfMemory}
 use Rattle.runs.specs.Listing.{Listed, reception_of_ack, listed_by, listed_from, listing_of}
@@ -28,17 +28,25 @@ pairs-append [] more = refl
 pairs-append (line ∷ lines) more =
     ap (λ (pairs : List (ℕ × List ℕ)). pair_told line ++ pairs) (pairs-append lines more) ∙ sym (append_assoc (pair_told line) (pairs_told lines) (pairs_told more))
 
--- a line that says who said what in an exchange lists nothing
-pair-untold : (line : ReportLine) → is_of_exchanges line ≡ true → pair_told line ≡ []
-pair-untold (ExchangeLine exchange command) is = refl
-pair-untold (MissedLine exchange tag) is = refl
-pair-untold (AnswerLine exchange tag extended reply) is = refl
-pair-untold (GivenLine given) is = refl
-pair-untold line is = absurd (cc)
+-- a line more that lists nothing
+pub pairs-skipped : (lines : List ReportLine) (line : ReportLine) → pair_told line ≡ [] → pairs_told (lines ++ line ∷ []) ≡ pairs_told lines
+pairs-skipped lines line none =
+    pairs-append lines (line ∷ []) ∙ ap (λ (pairs : List (ℕ × List ℕ)). pairs_told lines ++ (pairs ++ [])) none ∙ append-nil (pairs_told lines)
 
-pub pairs-skipped : (lines : List ReportLine) (line : ReportLine) → is_of_exchanges line ≡ true → pairs_told (lines ++ line ∷ []) ≡ pairs_told lines
-pairs-skipped lines line is =
-    pairs-append lines (line ∷ []) ∙ ap (λ (pairs : List (ℕ × List ℕ)). pairs_told lines ++ (pairs ++ [])) (pair-untold line is) ∙ append-nil (pairs_told lines)
+-- a line that says who said what in an exchange lists nothing
+pub said-untold : (line : ReportLine) → is_of_exchanges line ≡ true → pair_told line ≡ []
+said-untold (ExchangeLine exchange command) is = refl
+said-untold (MissedLine exchange tag) is = refl
+said-untold (AnswerLine exchange tag extended reply) is = refl
+said-untold (GivenLine given) is = refl
+said-untold line is = absurd (cc)
+
+-- nor does one that a trace alone has
+pub frame-untold : (line : ReportLine) → is_of_trace line ≡ true → pair_told line ≡ []
+frame-untold (BlfLine numerator denominator) is = refl
+frame-untold (TxLine exchange intervals) is = refl
+frame-untold (RxLine exchange count levels) is = refl
+frame-untold line is = absurd (cc)
 
 -- nor does any line but one that lists a tag
 line-untold : (line : Line) → ((round slot pc : ℕ) (epc : Bor (List ℕ)) → line ≡ told.List round slot pc epc → ⊥) → pair_told (line_of line) ≡ []
@@ -58,9 +66,7 @@ line-untold told.Done other = refl
 
 pub pairs-other : (lines : List ReportLine) (line : Line) → ((round slot pc : ℕ) (epc : Bor (List ℕ)) → line ≡ told.List round slot pc epc → ⊥)
     → pairs_told (lines ++ line_of line ∷ []) ≡ pairs_told lines
-pairs-other lines line other =
-    pairs-append lines (line_of line ∷ [])
-    ∙ ap (λ (pairs : List (ℕ × List ℕ)). pairs_told lines ++ (pairs ++ [])) (line-untold line other) ∙ append-nil (pairs_told lines)
+pairs-other lines line other = pairs-skipped lines (line_of line) (line-untold line other)
 
 -- lines that are made of items, none of which lists anything
 pairs-made : {A : Type 0} (make : A → ReportLine) → ((item : A) → pair_told (make item) ≡ []) → (items : List A) (more : List ReportLine) → pairs_told (map make items ++ more) ≡ pairs_told more
@@ -145,9 +151,9 @@ hears-then lines more first old new before behind =
     ∙ ap (λ (items : List (ℕ × List ℕ)). record first { items = items }) (append_assoc first.items (pairs_told lines) (pairs_told more) ∙ ap (λ (pairs : List (ℕ × List ℕ)). first.items ++ pairs) (sym joined))
 
 -- a line that lists nothing
-pub hears-skipped : (lines : List ReportLine) (line : ReportLine) (first now : ItemList (ℕ × List ℕ)) → is_of_exchanges line ≡ true → HearsPairs lines first now → HearsPairs (lines ++ line ∷ []) first now
-hears-skipped lines line first now is heard =
-    subst (λ (pairs : List (ℕ × List ℕ)). length first.items + length pairs ≤ first.capacity → now ≡ record first { items = first.items ++ pairs }) (sym (pairs-skipped lines line is)) heard
+pub hears-skipped : (lines : List ReportLine) (line : ReportLine) (first now : ItemList (ℕ × List ℕ)) → pair_told line ≡ [] → HearsPairs lines first now → HearsPairs (lines ++ line ∷ []) first now
+hears-skipped lines line first now none heard =
+    subst (λ (pairs : List (ℕ × List ℕ)). length first.items + length pairs ≤ first.capacity → now ≡ record first { items = first.items ++ pairs }) (sym (pairs-skipped lines line none)) heard
 
 pub hears-other : (line : Line) (list : ItemList (ℕ × List ℕ)) → ((round slot pc : ℕ) (epc : Bor (List ℕ)) → line ≡ told.List round slot pc epc → ⊥) → HearsPairs (line_of line ∷ []) list list
 hears-other line list other =

@@ -1,7 +1,9 @@
 -- What the exchanges of a slot make of a run.
-use Rattle.std.proofs.Common.{◌≡◌, ℕ, ◌+◌, ◌≤◌, ◌<◌, ◌^◌, Bool, List, [], ◌∷◌, ◌++◌, map, Option, Some, None, refl, sym, ◌∙◌, ap, subst, arith, append_assoc}
+use Rattle.std.proofs.Common.{◌≡◌, ℕ, ◌+◌, ◌≤◌, ◌<◌, ◌^◌, Bool, true, false, List, [], ◌∷◌, ◌++◌, map, Option, Some, None, refl, sym, ◌∙◌, ap, subst, arith, append_assoc}
 use Rattle.std.proofs.lemmas.List.{append-nil}
-use Rattle.access_ops.specs.Operations.{dialogue_of}
+use Rattle.std.specs.Prelude.{if◌then◌else◌}
+use Rattle.access_ops.specs.Operations.{Dialogue, denials, dialogue_of, done, is_for, operations_from_rn16}
+use Rattle.access_ops.specs.declared.Op.{Op}
 use Rattle.access_ops.specs.declared.OpList.{OpList}
 use Rattle.air_channel.specs.Air.{AirValue}
 use Rattle.air_events.specs.declared.Entry.{Entry}
@@ -198,6 +200,19 @@ pub ack-with : (start : Start) (operations : OpList) (round slot rn : ℕ) (past
     ≡ past_behind_dialogue start round slot 1 (dialogue_of operations pair.1 rn) (past_behind_command start round slot (commands.Ack rn) past)
 ack-with start operations round slot rn past pair found =
     whole-listing start operations round slot rn (ack_reception start round slot rn past) pair (past_behind_command start round slot (commands.Ack rn) past) found
+
+-- without operations nothing is done with a tag
+nothing-done : (mine : Bool) (ops : List Op) (rn : ℕ) → ops ≡ [] → (if mine then operations_from_rn16 ops rn else denials ops) ≡ done
+nothing-done true [] rn none = refl
+nothing-done false [] rn none = refl
+nothing-done mine (op ∷ ops) rn none = absurd (cc)
+
+pub ack-alone : (start : Start) (operations : OpList) (round slot rn : ℕ) (past : List Item) (pair : ℕ × List ℕ) → pair_received (ack_reception start round slot rn past) ≡ Some pair
+    → operations.ops ≡ [] → past_behind_ack start operations round slot rn past ≡ past_behind_command start round slot (commands.Ack rn) past
+ack-alone start operations round slot rn past pair found none =
+    ack-with start operations round slot rn past pair found
+    ∙ ap (λ (rest : Dialogue). past_behind_dialogue start round slot 1 rest (past_behind_command start round slot (commands.Ack rn) past))
+    (nothing-done (is_for operations.only pair.1) operations.ops rn none)
 
 -- room for one exchange more
 pub room-behind : (start : Start) (round slot : ℕ) (command : Command) (past : List Item) (more : ℕ) → HasRoom (1 + more) past → HasRoom more (past_behind_command start round slot command past)

@@ -183,6 +183,10 @@ impl<'h> Listener for PairListener<'h> {
         false
     }
 
+    fn wants_frames(&self) -> bool {
+        false
+    }
+
     ghost nothing = { λ listener. (refl, hears-no-pair listener.heard.now) };
 }
 

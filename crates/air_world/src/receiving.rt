@@ -23,6 +23,10 @@ pub(crate) fn receive_last(
     ensures room { bits.new.capacity ≡ bits.old.capacity }
     ensures received { (received : Received) × (answer.new ≡ Got received) × IsReceived (table_of air.now.link.code) (extended || air.now.link.trext) expect.now air.now.stream received }
 {
+    // The room of what was received before is taken over as it is.
+    if let Answer::Got(received) = answer {
+        return receive_stream(air, expect, extended, bits, received);
+    }
     *answer = Answer::Got(Received::Refused(0));
     match answer {
         Answer::Got(received) => receive_stream(air, expect, extended, bits, received),

@@ -228,6 +228,10 @@ impl<'a, L: Ledger> Run<'a, L> {
                 None => {}
                 Some((pc, epc)) => {
                     tell_listed(round, slot, pc, &epc, report);
+                    // Most rounds have no operations.
+                    if operations.ops.is_empty() {
+                        return;
+                    }
                     self.operate(air, round, slot, operations, &epc, rn, report);
                 }
             },
@@ -262,6 +266,9 @@ fn tell_listed<R: Listener>(round: u32, slot: u32, pc: u16, epc: &EpcWords, repo
 fn tell_exchange<R: Listener>(air: &Air, report: &mut R)
     ensures { (before : List ReportLine) → Passes R.hears before report.old report.new (before ++ last_exchange_lines air.now) }
 {
+    if !report.wants_frames() {
+        return;
+    }
     report.tell(&Line::Tx {
         exchange: air.exchanges(),
         intervals: air.intervals().as_slice(),

@@ -81,5 +81,9 @@ impl<'r, R: Listener> Listener for SeenListener<'r, R> {
         self.report.wants_exchanges()
     }
 
+    fn wants_frames(&self) -> bool {
+        self.report.wants_frames()
+    }
+
     ghost nothing = { λ listener. (refl, refl, R.nothing listener.report.now, λ fresh enough. fresh) };
 }

@@ -52,7 +52,7 @@ fn raised_words(alloc: Global, words: &DrawWords, by: u32) -> Result<DrawWords, 
     for word in draws {
         changed.push_reserved(raised(*word, by));
     }
-    DrawWords::new(alloc, changed.as_slice())
+    Ok(DrawWords::of(changed))
 }
 
 /// The copy of this number of a tag: the last word of its EPC, the last of its TID and each draw word are raised by the number.

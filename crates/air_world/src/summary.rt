@@ -73,6 +73,10 @@ impl Listener for Counting {
         false
     }
 
+    fn wants_frames(&self) -> bool {
+        false
+    }
+
     ghost nothing = { λ counting. counts-nothing counting.summary };
 }
 

@@ -3,9 +3,9 @@ ghost use Rattle.std.specs.Prelude.{◌≡◌, ◌+◌, ◌*◌, ◌<◌, ◌≤
 ghost use Rattle.bit_strings.specs.Words.{bits_of_words};
 
 use crate::list::List;
-use crate::words::write_words;
 use std::alloc::{AllocError, Global};
 use std::marker::Model;
+use std::mem;
 use thiserror::Error;
 
 /// The answer of a call that wants memory where there is none. Nothing else is ever meant by it.
@@ -49,6 +49,16 @@ impl Bits {
             bits,
             room: capacity,
         })
+    }
+
+    /// Takes the list out of its place, where an empty one without room stays.
+    #[inline(always)]
+    pub fn take(&mut self) -> Bits
+        ensures taken { result ≡ self.old }
+        ensures left { self.new ≡ record { items = []; capacity = 0 } }
+    {
+        let bits = Vec::new(*self.bits.allocator());
+        mem::replace(self, Bits { bits, room: 0 })
     }
 
     /// How many bits the list has.
@@ -127,15 +137,24 @@ impl Bits {
         self.bits.push_reserved(bit);
     }
 
+    /// Adds these bits, all at once, to a list that has room for them.
+    #[inline(always)]
+    pub fn put_all_reserved(&mut self, bits: &[bool])
+        requires { length self.old.items + length bits.now ≤ self.old.capacity }
+        ensures { self.new ≡ record self.old { items = self.old.items ++ bits.now } }
+    {
+        // There is room for each bit.
+        let _ = self.bits.extend_from_slice(bits);
+    }
+
     /// Adds the bits of words, one word behind the other, to a list that has room for them.
     pub fn put_words_reserved(&mut self, words: &[u16])
         requires { length self.old.items + 16 * length words.now ≤ self.old.capacity }
         ensures { self.new ≡ record self.old { items = self.old.items ++ bits_of_words words.now } }
     {
-        let from = self.bits.len();
-        // There is room for each bit.
-        let _ = self.bits.resize(from + 16 * words.len(), false);
-        write_words(words, &mut self.bits[from..]);
+        for word in words {
+            self.put_u16_reserved(*word);
+        }
     }
 
     /// Puts this many zeros in place of what the list holds.

@@ -3,7 +3,7 @@ ghost use Rattle.std.specs.Prelude.{◌≡◌, ◌+◌, ◌^◌, ◌<◌, ◌≤
 ghost use Rattle.bit_strings.specs.Numbers.{value_of, field_of, part_of};
 
 use crate::bits::{Bits, Full};
-use crate::words::word_of;
+use crate::words::{bits_of, word_of};
 
 impl Bits {
     /// Adds the `width` bits of `value`. `Full` comes exactly where fewer than `width` places are
@@ -47,11 +47,12 @@ impl Bits {
     }
 
     /// Adds the 16 bits of a word to a list that has room for them.
+    #[inline]
     pub fn put_u16_reserved(&mut self, value: u16)
         requires { length self.old.items + 16 ≤ self.old.capacity }
         ensures { self.new ≡ record self.old { items = self.old.items ++ field_of value 16 } }
     {
-        self.put_words_reserved(&[value]);
+        self.put_all_reserved(&bits_of(value));
     }
 
     /// The number that the `width` bits from the place `from` on are. None comes exactly where

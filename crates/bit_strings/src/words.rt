@@ -1,7 +1,6 @@
 //! Words and the 16 bits of each, all at once (6.3.1.4 Transmission order).
 ghost use Rattle.std.specs.Prelude.{◌≡◌, ◌*◌, length, map};
 ghost use Rattle.bit_strings.specs.Numbers.{digit_of, value_of, field_of};
-ghost use Rattle.bit_strings.specs.Words.{bits_of_words};
 
 use std::simd::prelude::{SimdPartialEq, u8x16};
 
@@ -60,24 +59,15 @@ fn digits_of(word: u16) -> [u8; 16]
         .to_array()
 }
 
-/// Writes the 16 bits of a word over others.
+/// The 16 bits of a word.
 #[inline]
-fn write_word(word: u16, bits: &mut [bool])
-    requires { length bits.old ≡ 16 }
-    ensures { bits.new ≡ field_of word 16 }
+pub(crate) fn bits_of(word: u16) -> [bool; 16]
+    ensures { result ≡ field_of word 16 }
 {
     let digits = digits_of(word);
+    let mut bits = [false; 16];
     for at in 0..16 {
         bits[at] = digits[at] == 1;
     }
-}
-
-/// Writes the bits of words, one word behind the other, over others.
-pub(crate) fn write_words(words: &[u16], bits: &mut [bool])
-    requires { length bits.old ≡ 16 * length words.now }
-    ensures { bits.new ≡ bits_of_words words.now }
-{
-    for (at, word) in words.iter().enumerate() {
-        write_word(*word, &mut bits[16 * at..16 * at + 16]);
-    }
+    bits
 }

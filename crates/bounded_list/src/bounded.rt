@@ -1,5 +1,5 @@
 //! A list of items with a capacity.
-ghost use Rattle.std.specs.Prelude.{◌≡◌, ◌<◌, ◌≤◌, ◌↔◌, [], ◌∷◌, ◌++◌, length, IsErr, IsNone, IsTrue, OnErr, IfOk, option_copied, slice_get};
+ghost use Rattle.std.specs.Prelude.{◌≡◌, ◌<◌, ◌≤◌, ◌+◌, ◌↔◌, [], ◌∷◌, ◌++◌, length, IsErr, IsNone, IsTrue, OnErr, IfOk, option_copied, slice_get};
 ghost use Rattle.std.specs.List.Sorted.{IsPermutation, IsSorted};
 
 use bit_strings::{Full, OutOfMemory};
@@ -83,6 +83,18 @@ impl<T> Bounded<T> {
         ensures { self.new ≡ record self.old { items = self.old.items ++ item ∷ [] } }
     {
         self.items.push_reserved(item);
+    }
+}
+
+impl<T: Copy> Bounded<T> {
+    /// Adds these items, all at once, to a list that has room for them.
+    #[inline(always)]
+    pub fn push_all_reserved(&mut self, items: &[T])
+        requires { length self.old.items + length items.now ≤ self.old.capacity }
+        ensures { self.new ≡ record self.old { items = self.old.items ++ items.now } }
+    {
+        // There is room for each item.
+        let _ = self.items.extend_from_slice(items);
     }
 }
 

@@ -23,6 +23,7 @@ pub(crate) fn put(out: &mut Bits, value: u32, width: u32)
 }
 
 /// Writes the code of a command, in place of what stood in `out` (6.3.2.11, Table 6.18).
+#[inline]
 pub(crate) fn begin_with_code(out: &mut Bits, code: &[bool])
     requires { length code.now ≤ out.old.capacity }
     ensures { out.new ≡ record out.old { items = code.now } }
@@ -32,15 +33,14 @@ pub(crate) fn begin_with_code(out: &mut Bits, code: &[bool])
 }
 
 /// Adds these bits.
+#[inline]
 pub(crate) fn put_bits(out: &mut Bits, bits: &[bool])
     requires { length out.old.items + length bits.now ≤ out.old.capacity }
     ensures items { out.new.items ≡ out.old.items ++ bits.now }
     ensures count { length out.new.items ≡ length out.old.items + length bits.now }
     ensures capacity { out.new.capacity ≡ out.old.capacity }
 {
-    for bit in bits {
-        out.push_reserved(*bit);
-    }
+    out.put_all_reserved(bits);
 }
 
 /// Adds the 16 bits of a word.

@@ -1,5 +1,5 @@
 -- The register after a message and its CRC-16, and after nothing else.
-use Rattle.std.proofs.Common.{◌≡◌, ℕ, zero, suc, Bool, true, false, not, List, [], ◌∷◌, ◌++◌, length, replicate, refl, sym, ◌∙◌, ap, arith}
+use Rattle.std.proofs.Common.{◌≡◌, ℕ, zero, suc, ◌+◌, Bool, true, false, not, List, [], ◌∷◌, ◌++◌, length, length-append, append_assoc, replicate, refl, sym, ◌∙◌, ap, arith}
 use Rattle.std.specs.Prelude.{map}
 use Rattle.std.proofs.lemmas.List.{same_from_push}
 use Rattle.gen2_crc.specs.Crc.{differ, minus, divide, remainder_of, others16, preset16, register_of, crc16_of, residue}
@@ -97,6 +97,20 @@ taken_off register last p q =
     ap (λ (bits : List Bool). divide (length last) others16 bits) (moved last register (replicate (length register) false) (q ∙ sym p))
     ∙ ap (λ n. divide n others16 (minus (replicate n false ++ replicate (length register) false) (minus last register))) q
     ∙ ap (λ n. divide 16 others16 (minus (replicate 16 false ++ replicate n false) (minus last register))) (sym off)
+
+-- a shorter message too, with zeros behind it
+pub octet_taken_off : (register last : List Bool) → length register ≡ 16 → length last ≡ 8 → remainder_of register others16 last ≡ remainder_of (minus (last ++ replicate 8 false) register) others16 (replicate 8 false)
+octet_taken_off register last p q =
+    let whole : List Bool = last ++ replicate 8 false in
+    let long : length whole ≡ 16 = length-append last (replicate 8 false) ∙ ap (λ n. n + 8) q in
+    let off : length (minus whole register) ≡ 16 = length-minus whole register ∙ long in
+    let padded : last ++ replicate 16 false ≡ whole ++ replicate 8 false = sym (append_assoc last (replicate 8 false) (replicate 8 false)) in
+    ap (λ n. divide n others16 (minus (last ++ replicate (length register) false) register)) q
+    ∙ ap (λ n. divide 8 others16 (minus (last ++ replicate n false) register)) p
+    ∙ ap (λ (bits : List Bool). divide 8 others16 (minus bits register)) padded
+    ∙ ap (λ (bits : List Bool). divide 8 others16 bits) (moved whole register (replicate 8 false) (long ∙ sym p))
+    ∙ ap (λ n. divide 8 others16 (minus (replicate n false ++ replicate 8 false) (minus whole register))) long
+    ∙ ap (λ n. divide 8 others16 (minus (replicate 8 false ++ replicate n false) (minus whole register))) (sym off)
 
 ones-residue : remainder_of (replicate 16 true) others16 (replicate 16 false) ≡ residue
 unfolding divide

@@ -1,15 +1,16 @@
--- The register 16 bits at a time: what 16 steps make of it is linear, and is compared on the two bytes of a word.
-use Rattle.std.proofs.Common.{◌≡◌, ℕ, zero, suc, ◌+◌, ◌-◌, ◌*◌, ◌/◌, ◌%◌, ◌^◌, ◌<◌, ◌≤◌, Bool, true, false, List, [], ◌∷◌, ◌++◌, length, take, drop, length-take, length-drop, replicate, refl, sym, ◌∙◌, ap, inl, inr, arith, pow_pos}
+-- The register 16 and 8 bits at a time: what so many steps make of it is linear, and is compared on its two bytes.
+use Rattle.std.proofs.Common.{◌≡◌, ℕ, zero, suc, ◌+◌, ◌-◌, ◌*◌, ◌/◌, ◌%◌, ◌^◌, ◌<◌, ◌≤◌, Bool, true, false, List, [], ◌∷◌, ◌++◌, length, take, drop, get_or, length-append, length-take, length-drop, replicate, refl, sym, ◌∙◌, ap, inl, inr, arith, pow_pos}
 use Rattle.std.specs.Prelude.{bit_xor}
 use Rattle.std.proofs.lemmas.Bool.{cases_lt, le-leb, lt-leb, eqb-true, agree_below_at}
 use Rattle.std.proofs.lemmas.Nat.{xor_lt, xor_shr, xor_mod, xor_block, xor_comm}
 use Rattle.std.specs.Int.Bits.{xor_assoc, xor_zero_l, xor_zero_r}
 use Rattle.bit_strings.specs.Numbers.{value_of, field_of}
-use Rattle.bit_strings.specs.laws.Numbers.{length-field_of, value_of-field, field_of-value_of}
+use Rattle.bit_strings.specs.laws.Numbers.{length-field_of, value_of-field, value_of-append, field_of-value_of, same_from_value}
 use Rattle.gen2_crc.specs.Crc.{minus, remainder_of, others16, preset16, RegisterStandsFor, register_of}
+use Rattle.gen2_crc.specs.declared.tables.TheConstants.{BEHIND_LOWER, BEHIND_UPPER}
 use Rattle.gen2_crc.specs.laws.Division.{first-bit, remainder_of-none, remainder_of-append}
 use Rattle.gen2_crc.proofs.Registers.{field_of-xor, differs16, same16, stands-field}
-use Rattle.gen2_crc.proofs.Residue.{taken_off}
+use Rattle.gen2_crc.proofs.Residue.{taken_off, octet_taken_off}
 use Rattle.std.specs.List.{slice_range}
 use Rattle.std.proofs.Math.Seq.{take-add}
 use lib.Dec.{eqb}
@@ -47,10 +48,6 @@ linear_times k a b =
     let right : b * 2 ^ k + 0 ≡ b * 2 ^ k = omega arith in
     let whole : bit_xor a b * 2 ^ k + bit_xor 0 0 ≡ bit_xor a b * 2 ^ k = omega arith in
     sym whole ∙ sym block ∙ ap (λ n. bit_xor n (b * 2 ^ k + 0)) left ∙ ap (λ n. bit_xor (a * 2 ^ k) n) right
-
--- a shift to the left within 16 bits
-linear_shl : (k : ℕ) → IsLinear (λ x. x * 2 ^ k % 65536)
-linear_shl k = linear_then (λ x. x * 2 ^ k) (λ x. x % 2 ^ 16) (linear_times k) (linear_low 16)
 
 -- the register one 0 later
 abbrev shift : ℕ → ℕ
@@ -103,36 +100,13 @@ shifts_are (suc n) register fits =
     ∙ ap (λ (bits : List Bool). remainder_of bits others16 (replicate n false)) (shift_is register fits)
     ∙ sym (first-bit (field_of register 16) others16 false (replicate n false) (omega (arith, length-field_of register 16)) (omega (arith, length-field_of register 16)))
 
--- what the code makes of the register for 16 zeros
-abbrev quotient : ℕ → ℕ
-quotient register =
-    bit_xor (bit_xor (bit_xor (bit_xor register (register / 16)) (register / 256)) (register / 2048)) (register / 4096)
+-- the tables have what 16 zeros make of each byte
+agree_low : (n : ℕ) → n < 256 → get_or BEHIND_LOWER n 0 ≡ shifts 16 n
+agree_low n within = eqb-true (get_or BEHIND_LOWER n 0) (shifts 16 n) (agree_below_at (λ k. eqb (get_or BEHIND_LOWER k 0) (shifts 16 k)) (λ k. true) 256 n refl within)
 
-abbrev by_word : ℕ → ℕ
-by_word register = bit_xor (bit_xor (quotient register) (quotient register * 32 % 65536)) (quotient register * 4096 % 65536)
-
-linear_quotient : IsLinear quotient
-linear_quotient =
-    linear_both (λ x. bit_xor (bit_xor (bit_xor x (x / 16)) (x / 256)) (x / 2048)) (λ x. x / 4096)
-    (linear_both (λ x. bit_xor (bit_xor x (x / 16)) (x / 256)) (λ x. x / 2048)
-    (linear_both (λ x. bit_xor x (x / 16)) (λ x. x / 256) (linear_both (λ x. x) (λ x. x / 16) linear_same (linear_shr 4)) (linear_shr 8))
-    (linear_shr 11))
-    (linear_shr 12)
-
-linear_by_word : IsLinear by_word
-linear_by_word =
-    linear_then quotient (λ x. bit_xor (bit_xor x (x * 32 % 65536)) (x * 4096 % 65536)) linear_quotient
-    (linear_both (λ x. bit_xor x (x * 32 % 65536)) (λ x. x * 4096 % 65536)
-    (linear_both (λ x. x) (λ x. x * 32 % 65536) linear_same (linear_shl 5))
-    (linear_shl 12))
-
--- both are computed for each byte, below and above
-agree_low : (n : ℕ) → n < 256 → by_word n ≡ shifts 16 n
-agree_low n within = eqb-true (by_word n) (shifts 16 n) (agree_below_at (λ k. eqb (by_word k) (shifts 16 k)) (λ k. true) 256 n refl within)
-
-agree_high : (n : ℕ) → n < 256 → by_word (n * 256) ≡ shifts 16 (n * 256)
+agree_high : (n : ℕ) → n < 256 → get_or BEHIND_UPPER n 0 ≡ shifts 16 (n * 256)
 agree_high n within =
-    eqb-true (by_word (n * 256)) (shifts 16 (n * 256)) (agree_below_at (λ k. eqb (by_word (k * 256)) (shifts 16 (k * 256))) (λ k. true) 256 n refl within)
+    eqb-true (get_or BEHIND_UPPER n 0) (shifts 16 (n * 256)) (agree_below_at (λ k. eqb (get_or BEHIND_UPPER k 0) (shifts 16 (k * 256))) (λ k. true) 256 n refl within)
 
 two_bytes : (x : ℕ) → bit_xor (x / 256 * 256) (x % 256) ≡ x
 two_bytes x =
@@ -142,17 +116,32 @@ two_bytes x =
     sym (ap (λ n. bit_xor n (0 * 2 ^ 8 + x % 256)) left ∙ ap (λ n. bit_xor (x / 256 * 256) n) right) ∙ block
     ∙ omega (arith, xor_zero_r (x / 256), xor_zero_l (x % 256))
 
-by_word_is : (x : ℕ) → x < 65536 → by_word x ≡ shifts 16 x
-by_word_is x fits =
-    let high = x / 256 * 256 in
-    let low = x % 256 in
-    ap by_word (sym (two_bytes x)) ∙ linear_by_word high low
-    ∙ ap (λ n. bit_xor n (by_word low)) (agree_high (x / 256) (omega arith))
-    ∙ ap (λ n. bit_xor (shifts 16 high) n) (agree_low low (omega arith))
-    ∙ sym (linear_shifts 16 high low) ∙ ap (shifts 16) (two_bytes x)
+-- what the code makes of the register for 16 zeros
+by_bytes_is : (x : ℕ) → x < 65536 → bit_xor (get_or BEHIND_UPPER (x / 256) 0) (get_or BEHIND_LOWER (x % 256) 0) ≡ shifts 16 x
+by_bytes_is x fits =
+    ap (λ n. bit_xor n (get_or BEHIND_LOWER (x % 256) 0)) (agree_high (x / 256) (omega arith))
+    ∙ ap (λ n. bit_xor (shifts 16 (x / 256 * 256)) n) (agree_low (x % 256) (omega arith))
+    ∙ sym (linear_shifts 16 (x / 256 * 256) (x % 256)) ∙ ap (shifts 16) (two_bytes x)
 
-pub word_later : (register : ℕ) → register < 65536 → field_of (by_word register) 16 ≡ remainder_of (field_of register 16) others16 (replicate 16 false)
-word_later register fits = ap (λ n. field_of n 16) (by_word_is register fits) ∙ shifts_are 16 register fits
+pub word_later : (register : ℕ) → register < 65536 → field_of (bit_xor (get_or BEHIND_UPPER (register / 256) 0) (get_or BEHIND_LOWER (register % 256) 0)) 16 ≡ remainder_of (field_of register 16) others16 (replicate 16 false)
+word_later register fits = ap (λ n. field_of n 16) (by_bytes_is register fits) ∙ shifts_are 16 register fits
+
+-- ... and of 8 zeros
+octet_high : (n : ℕ) → n < 256 → get_or BEHIND_LOWER n 0 ≡ shifts 8 (n * 256)
+octet_high n within =
+    eqb-true (get_or BEHIND_LOWER n 0) (shifts 8 (n * 256)) (agree_below_at (λ k. eqb (get_or BEHIND_LOWER k 0) (shifts 8 (k * 256))) (λ k. true) 256 n refl within)
+
+octet_low : (n : ℕ) → n < 256 → 256 * n ≡ shifts 8 n
+octet_low n within = eqb-true (256 * n) (shifts 8 n) (agree_below_at (λ k. eqb (256 * k) (shifts 8 k)) (λ k. true) 256 n refl within)
+
+by_octet_is : (x : ℕ) → x < 65536 → bit_xor (get_or BEHIND_LOWER (x / 256) 0) (256 * (x % 256)) ≡ shifts 8 x
+by_octet_is x fits =
+    ap (λ n. bit_xor n (256 * (x % 256))) (octet_high (x / 256) (omega arith))
+    ∙ ap (λ n. bit_xor (shifts 8 (x / 256 * 256)) n) (octet_low (x % 256) (omega arith))
+    ∙ sym (linear_shifts 8 (x / 256 * 256) (x % 256)) ∙ ap (shifts 8) (two_bytes x)
+
+pub octet_later : (register : ℕ) → register < 65536 → field_of (bit_xor (get_or BEHIND_LOWER (register / 256) 0) (256 * (register % 256))) 16 ≡ remainder_of (field_of register 16) others16 (replicate 8 false)
+octet_later register fits = ap (λ n. field_of n 16) (by_octet_is register fits) ∙ shifts_are 8 register fits
 
 -- a register with a word more, where what it differs in from the word is shifted by 16 zeros
 pub record IsShifted (register word result : ℕ) : Type 0 where
@@ -169,6 +158,35 @@ stands_word register word result bits shifted stands =
     shifted.later
     ∙ ap (λ (r : List Bool). remainder_of r others16 (replicate 16 false)) apart
     ∙ sym (taken_off (field_of register 16) last (length-field_of register 16) (length-field_of word 16))
+    ∙ ap (λ (r : List Bool). remainder_of r others16 last) held
+    ∙ sym (remainder_of-append preset16 others16 bits last (omega arith) (omega arith)) in
+    record { is_remainder = sym (value_of-field result 16 shifted.fits) ∙ ap value_of whole }
+
+-- eight places further on, the bits of a number have zeros behind them
+field_of-octet : (octet : ℕ) → octet < 256 → field_of (256 * octet) 16 ≡ field_of octet 8 ++ replicate 8 false
+field_of-octet octet fits =
+    let zeros : List Bool = replicate 8 false in
+    let times : octet * 256 + 0 ≡ 256 * octet = omega arith in
+    same_from_value (field_of (256 * octet) 16) (field_of octet 8 ++ zeros)
+    (length-field_of (256 * octet) 16 ∙ sym (length-append (field_of octet 8) zeros ∙ ap (λ n. n + 8) (length-field_of octet 8)))
+    (value_of-field (256 * octet) 16 (omega (arith, fits)) ∙ sym (value_of-append (field_of octet 8) zeros ∙ ap (λ n. n * 256 + 0) (value_of-field octet 8 (omega (arith, fits))) ∙ times))
+
+-- a register with an octet more, where what it differs in from the octet's bits is shifted by 8 zeros
+pub record IsShiftedByOctet (register octet result : ℕ) : Type 0 where
+  pub fits : result < 65536
+  pub later : field_of result 16 ≡ remainder_of (field_of (bit_xor register (256 * octet)) 16) others16 (replicate 8 false)
+
+pub stands_octet : (register octet result : ℕ) (bits : List Bool) → octet < 256 → IsShiftedByOctet register octet result → RegisterStandsFor register bits → RegisterStandsFor result (bits ++ field_of octet 8)
+unfolding register_of
+stands_octet register octet result bits small shifted stands =
+    let held : field_of register 16 ≡ register_of bits = stands-field register bits stands in
+    let last : List Bool = field_of octet 8 in
+    let apart : field_of (bit_xor register (256 * octet)) 16 ≡ minus (last ++ replicate 8 false) (field_of register 16) =
+    ap (λ n. field_of n 16) (xor_comm register (256 * octet)) ∙ field_of-xor (256 * octet) register 16 ∙ ap (λ (l : List Bool). minus l (field_of register 16)) (field_of-octet octet small) in
+    let whole : field_of result 16 ≡ register_of (bits ++ last) =
+    shifted.later
+    ∙ ap (λ (r : List Bool). remainder_of r others16 (replicate 8 false)) apart
+    ∙ sym (octet_taken_off (field_of register 16) last (length-field_of register 16) (length-field_of octet 8))
     ∙ ap (λ (r : List Bool). remainder_of r others16 last) held
     ∙ sym (remainder_of-append preset16 others16 bits last (omega arith) (omega arith)) in
     record { is_remainder = sym (value_of-field result 16 shifted.fits) ∙ ap value_of whole }

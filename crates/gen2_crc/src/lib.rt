@@ -11,6 +11,7 @@ use bit_strings::Bits;
 mod laws;
 mod register;
 mod register5;
+mod tables;
 
 pub use laws::crc_laws;
 pub use register::Crc16;

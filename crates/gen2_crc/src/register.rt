@@ -1,9 +1,10 @@
 //! The CRC-16, bit by bit and word by word.
-ghost use Rattle.std.specs.Prelude.{◌≡◌, ◌↔◌, List, Bool, false, [], ◌∷◌, ◌++◌, replicate, IsTrue};
+ghost use Rattle.std.specs.Prelude.{◌≡◌, ◌↔◌, List, Bool, false, [], ◌∷◌, ◌++◌, length, replicate, IsTrue};
 ghost use Rattle.bit_strings.specs.Numbers.{value_of, field_of};
 ghost use Rattle.bit_strings.specs.Words.{bits_of_words};
 ghost use Rattle.gen2_crc.specs.Crc.{crc16_of, register_of, remainder_of, others16, residue, RegisterStandsFor};
 
+use crate::tables::{BEHIND_LOWER, BEHIND_UPPER};
 use bit_strings::word_of;
 use std::marker::Model;
 
@@ -59,6 +60,14 @@ impl Crc16 {
         self.register = shifted_by_word(self.register ^ word);
     }
 
+    /// Stands for the 8 bits of an octet more.
+    #[inline]
+    fn push_octet(&mut self, octet: u8)
+        ensures { (bits : List Bool) → RegisterStandsFor self.old bits → RegisterStandsFor self.new (bits ++ field_of octet 8) }
+    {
+        self.register = shifted_by_octet(self.register ^ 256 * u16::from(octet));
+    }
+
     /// Stands for the bits of these words more.
     pub fn push_words(&mut self, words: &[u16])
         ensures { (front : List Bool) → RegisterStandsFor self.old front → RegisterStandsFor self.new (front ++ bits_of_words words.now) }
@@ -68,7 +77,7 @@ impl Crc16 {
         }
     }
 
-    /// Stands for these bits more. They are taken 16 at a time.
+    /// Stands for these bits more. They are taken 16 at a time, as far as they go.
     pub fn push_all(&mut self, bits: &[bool])
         ensures { (front : List Bool) → RegisterStandsFor self.old front → RegisterStandsFor self.new (front ++ bits.now) }
     {
@@ -76,7 +85,28 @@ impl Crc16 {
         for at in 0..words {
             self.push_word(word_of(&bits[16 * at..16 * at + 16]));
         }
-        for bit in &bits[16 * words..] {
+        self.push_few(&bits[16 * words..]);
+    }
+
+    /// Stands for these bits more, which are fewer than 16. The first eight are taken at once, where there are as many.
+    #[inline]
+    fn push_few(&mut self, bits: &[bool])
+        ensures { (front : List Bool) → RegisterStandsFor self.old front → RegisterStandsFor self.new (front ++ bits.now) }
+    {
+        if bits.len() < 8 {
+            return self.push_each(bits);
+        }
+        let (octet, rest) = bits.split_at(8);
+        self.push_octet(octet_of(octet));
+        self.push_each(rest);
+    }
+
+    /// Stands for these bits more, taken one by one.
+    #[inline]
+    fn push_each(&mut self, bits: &[bool])
+        ensures { (front : List Bool) → RegisterStandsFor self.old front → RegisterStandsFor self.new (front ++ bits.now) }
+    {
+        for bit in bits {
             self.push(*bit);
         }
     }
@@ -108,16 +138,35 @@ fn shifted16(register: u16, bit: bool) -> u16
     }
 }
 
-/// The register 16 zeros later: what long division leaves of it with 16 zeros behind. The quotient comes first; then all that it takes
-/// off is taken off at once.
+/// The register 16 zeros later. Long division takes differences to differences, so that each byte has a table of its own.
 #[inline]
 fn shifted_by_word(register: u16) -> u16
     ensures { field_of result 16 ≡ remainder_of (field_of register 16) others16 (replicate 16 false) }
 {
-    let quotient = register
-        ^ (register >> 4)
-        ^ (register >> 8)
-        ^ (register >> 11)
-        ^ (register >> 12);
-    quotient ^ (quotient << 5) ^ (quotient << 12)
+    let upper = (register >> 8) as usize;
+    let lower = (register % 256) as usize;
+    BEHIND_UPPER[upper] ^ BEHIND_LOWER[lower]
+}
+
+/// The number that 8 bits are, read as a word whose upper 8 bits are 0.
+#[inline]
+fn octet_of(bits: &[bool]) -> u8
+    requires { length bits.now ≡ 8 }
+    ensures { result ≡ value_of bits.now }
+{
+    let word = [
+        false, false, false, false, false, false, false, false, bits[0], bits[1], bits[2], bits[3],
+        bits[4], bits[5], bits[6], bits[7],
+    ];
+    word_of(&word) as u8
+}
+
+/// The register 8 zeros later. Its lower byte is then the upper one.
+#[inline]
+fn shifted_by_octet(register: u16) -> u16
+    ensures { field_of result 16 ≡ remainder_of (field_of register 16) others16 (replicate 8 false) }
+{
+    let upper = (register >> 8) as usize;
+    let lower = register % 256;
+    BEHIND_LOWER[upper] ^ 256 * lower
 }

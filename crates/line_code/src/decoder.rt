@@ -27,11 +27,14 @@ pub fn decode<C: LineCode>(trext: bool, levels: &Levels, out: &mut Bits) -> Resu
     ensures flip { (sent : List Bool) (at : ℕ) → Streams C.table trext sent → at < length sent → levels.now.items ≡ with_level_flipped sent at → IsErr result }
     ensures no_lead { (c : Context) (bits : List Bool) → levels.now.items ≡ blocks C.table c bits → IsErr result }
 {
-    out.clear();
-    let read = read::<C>(trext, levels.as_slice(), out);
+    // In a list of its own the compiler keeps in registers where the next bit goes: no write of a bit can change that.
+    let mut bits = out.take();
+    bits.clear();
+    let read = read::<C>(trext, levels.as_slice(), &mut bits);
     if read.is_err() {
-        out.clear();
+        bits.clear();
     }
+    *out = bits;
     read
 }
 

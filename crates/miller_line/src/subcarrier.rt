@@ -1,13 +1,16 @@
 //! What the three codes share. The number `m` is M of the standard: a symbol has `2 * m` levels, two
 //! halves of `m` levels each, and the subcarrier inverts at each level.
-ghost use Rattle.std.specs.Prelude.{◌≡◌, ◌≢◌, ◌*◌, ◌<◌, ◌≤◌, Bool, false, true, [], ◌∷◌, Some, IfSome, IfNone, length};
+ghost use Rattle.std.specs.Prelude.{◌≡◌, ◌≢◌, ℕ, ◌-◌, ◌*◌, ◌<◌, ◌≤◌, Bool, false, true, [], ◌∷◌, Some, IfSome, IfNone, length, get_or};
 ghost use Rattle.bit_strings.specs.Numbers.{field_of};
+ghost use Rattle.line_code.specs.Table.{Context};
 ghost use Rattle.line_code.specs.TableFacts.{longest_lead};
 ghost use Rattle.miller_line.specs.Miller.{miller, IsOneOfThree, symbol, start_phase, middle_phase, miller_lead, miller_block, miller_next};
+ghost use Rattle.miller_line.specs.FourSymbols.{symbols};
 ghost use Rattle.line_code.specs.Stream.{blocks};
 ghost use Rattle.line_code.specs.States.{context_after};
 ghost use Rattle.miller_line.specs.SymbolContext.{context};
 
+use crate::words::{last_four, number_of_word, word_of_levels, word_of_symbols};
 use line_code::same_levels;
 
 /// The symbol before a bit's block.
@@ -277,7 +280,7 @@ pub fn block_bit(m: u32, before: SymbolBefore, levels: &[bool]) -> Option<bool>
 /// number.
 fn four_symbols(m: u32, start: bool, number: u16) -> &'static [bool]
     requires { IsOneOfThree m }
-    ensures { result.now ≡ blocks (miller m) (record { before = true; phase = start }) (field_of number 4) }
+    ensures { result.now ≡ symbols m start (field_of number 4) }
 {
     let row = 16 * (start as usize) + (number % 16) as usize;
     match m {
@@ -287,46 +290,50 @@ fn four_symbols(m: u32, start: bool, number: u16) -> &'static [bool]
     }
 }
 
+/// The phase at the start of the first of four symbols, whose bits are the last four of a number.
+fn start_of_four(before: SymbolBefore, number: u16) -> bool
+    ensures { (m : ℕ) → symbols m result (field_of number 4) ≡ blocks (miller m) (context before) (field_of number 4) }
+{
+    phase_at_start(before, number / 8 % 2 == 1)
+}
+
 /// The levels of the blocks of the last four bits of a number, one behind the other, and what stands before the bit that follows them.
 pub fn four_blocks(m: u32, before: SymbolBefore, number: u16) -> (&'static [bool], SymbolBefore)
     requires { IsOneOfThree m }
     ensures levels { result.0.now ≡ blocks (miller m) (context before) (field_of number 4) }
     ensures mark { context result.1 ≡ context_after (miller m) (context before) (field_of number 4) }
 {
-    let start = phase_at_start(before, number / 8 % 2 == 1);
+    let start = start_of_four(before, number);
     let levels = four_symbols(m, start, number);
-    // The last level of a half tells its phase, since a half has an even number of levels.
-    let last = SymbolBefore {
-        bit: number % 2 == 1,
-        phase: levels[(8 * m - 1) as usize],
-    };
-    (levels, last)
+    let last_level = levels[(8 * m - 1) as usize];
+    (levels, behind_four(number, last_level))
 }
 
-/// The number whose last four bits these are.
-fn number_of(first: bool, second: bool, third: bool, fourth: bool) -> u16
-    ensures { field_of result 4 ≡ first ∷ second ∷ third ∷ fourth ∷ [] }
+/// What stands before the bit that follows four symbols, by the last of their levels and by their bits, which are the last four of a number.
+fn behind_four(number: u16, last_level: bool) -> SymbolBefore
+    ensures { (m : ℕ) (c : Context) → IsOneOfThree m → last_level ≡ get_or (blocks (miller m) c (field_of number 4)) (8 * m - 1) false → context result ≡ context_after (miller m) c (field_of number 4) }
 {
-    8 * (first as u16) + 4 * (second as u16) + 2 * (third as u16) + fourth as u16
+    // The last level of a half tells its phase, since a half has an even number of levels.
+    SymbolBefore {
+        bit: number % 2 == 1,
+        phase: last_level,
+    }
 }
 
 /// The four bits whose blocks, one behind the other, the levels are, and what stands before the bit that follows them; none exactly where
 /// they are no such blocks.
+#[inline(always)]
 pub fn four_bits(m: u32, before: SymbolBefore, levels: &[bool]) -> Option<([bool; 4], SymbolBefore)>
     requires factor { IsOneOfThree m }
     requires whole { length levels.now ≡ 4 * (2 * m) }
     ensures some { IfSome result (λ it. (levels.now ≡ blocks (miller m) (context before) it.0) × (context it.1 ≡ context_after (miller m) (context before) it.0)) }
     ensures none { IfNone result ((first second third fourth : Bool) → levels.now ≢ blocks (miller m) (context before) (first ∷ second ∷ third ∷ fourth ∷ [])) }
 {
-    let size = (2 * m) as usize;
-    let first = bit_of_symbol(m, &levels[..size]);
-    let second = bit_of_symbol(m, &levels[size..2 * size]);
-    let third = bit_of_symbol(m, &levels[2 * size..3 * size]);
-    let fourth = bit_of_symbol(m, &levels[3 * size..]);
-    let number = number_of(first, second, third, fourth);
-    let (blocks, behind) = four_blocks(m, before, number);
-    if same_levels(levels, blocks) {
-        Some(([first, second, third, fourth], behind))
+    let word = word_of_levels(m, levels);
+    let number = number_of_word(m, word);
+    let start = start_of_four(before, number);
+    if word == word_of_symbols(m, start, number) {
+        Some((*last_four(number), behind_four(number, word % 2 == 1)))
     } else {
         None
     }

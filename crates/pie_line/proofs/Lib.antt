@@ -1,5 +1,6 @@
 pub mod Bounds
 pub mod Completions
+pub mod DataPairs
 pub mod Decisions
 pub mod DecoderStandsFor
 pub mod Decoding
@@ -8,6 +9,8 @@ pub mod GoneOver
 pub mod Headers
 pub mod Leads
 pub mod OneAnswer
+pub mod SymbolLanes
 pub mod Symbols
 pub mod TakenSymbols
+pub mod VectorLanes
 pub mod Writing

@@ -1,12 +1,12 @@
 -- Data symbols that are taken a pair of intervals at a time.
-use Rattle.std.proofs.Common.{◌≡◌, ℕ, ◌+◌, ◌*◌, ◌≤◌, ◌<◌, Bool, Some, None, List, [], ◌∷◌, ◌++◌, ◌-◌, length, take, drop, get_or, refl, sym, ◌∙◌, ap, subst, arith, append_assoc, length-append}
+use Rattle.std.proofs.Common.{◌≡◌, ℕ, ◌+◌, ◌*◌, ◌≤◌, ◌<◌, Bool, Some, None, List, [], ◌∷◌, ◌++◌, ◌-◌, length, map, take, drop, get_or, refl, sym, ◌∙◌, ap, subst, arith, append_assoc, length-append}
 use Rattle.std.proofs.lemmas.List.{append-nil, take_all}
 use Rattle.pie_line.specs.declared.frame.FrameKind.{FrameKind}
 use Rattle.pie_line.specs.declared.frame_state.FrameState.TheVariants.{High, Low}
-use Rattle.pie_line.specs.Pie.{bit_of}
+use Rattle.pie_line.specs.Pie.{bit_of, pair_sums}
 use Rattle.pie_line.specs.FrameState.{IsHeader, rtcal_of, Moves}
 use Rattle.pie_line.specs.Edges.{LeadsToState}
-use Rattle.pie_line.specs.DataSymbols.{IsDataSymbol, TakesSymbols}
+use Rattle.pie_line.specs.DataSymbols.{IsDataSymbol, AreDataSymbols, TakesSymbols}
 use Rattle.pie_line.proofs.Leads.{leads-moves}
 use Rattle.pie_line.proofs.Symbols.{symbol-moves}
 use Rattle.pie_line.specs.laws.IntervalsLeft.{behind_two}
@@ -68,32 +68,21 @@ takes_pair kind before after intervals high low behind symbol so_far =
     (take_all (length (high ∷ low ∷ behind) - 2) behind (omega arith))
     (takes_more kind before after intervals (high ∷ low ∷ behind) (omega arith) symbol so_far)
 
--- two symbols more are taken
-pub takes_two : (kind : FrameKind) (before after : List Bool) (intervals rest : List ℕ) → 4 ≤ length rest
-    → IsDataSymbol (rtcal_of kind) (get_or rest 0 0) (get_or rest 1 0) → IsDataSymbol (rtcal_of kind) (get_or rest 2 0) (get_or rest 3 0)
-    → TakesSymbols kind before after intervals rest
-    → TakesSymbols kind before
-    ((after ++ bit_of (rtcal_of kind) (get_or rest 0 0 + get_or rest 1 0) ∷ []) ++ bit_of (rtcal_of kind) (get_or rest 2 0 + get_or rest 3 0) ∷ [])
-    intervals (take (length rest - 4) (drop 4 rest))
-takes_two kind before after intervals [] four first second so_far = absurd (omega (arith, four))
-takes_two kind before after intervals (high ∷ []) four first second so_far = absurd (omega (arith, four))
-takes_two kind before after intervals (high ∷ low ∷ []) four first second so_far = absurd (omega (arith, four))
-takes_two kind before after intervals (high ∷ low ∷ next_high ∷ []) four first second so_far = absurd (omega (arith, four))
-takes_two kind before after intervals (high ∷ low ∷ next_high ∷ next_low ∷ behind) four first second so_far =
-    let one = takes_pair kind before after intervals high low (next_high ∷ next_low ∷ behind) first so_far in
-    subst (λ left. TakesSymbols kind before
-    ((after ++ bit_of (rtcal_of kind) (high + low) ∷ []) ++ bit_of (rtcal_of kind) (next_high + next_low) ∷ []) intervals left)
-    (sym (take_all (length (high ∷ low ∷ next_high ∷ next_low ∷ behind) - 4) behind (omega arith)))
-    (takes_pair kind before (after ++ bit_of (rtcal_of kind) (high + low) ∷ []) intervals next_high next_low behind second one)
+-- several symbols more are taken
+pub takes_symbols : (kind : FrameKind) (before after : List Bool) (intervals symbols behind : List ℕ)
+    → AreDataSymbols (rtcal_of kind) symbols → TakesSymbols kind before after intervals (symbols ++ behind)
+    → TakesSymbols kind before (after ++ map (bit_of (rtcal_of kind)) (pair_sums symbols)) intervals behind
+takes_symbols kind before after intervals [] behind symbols so_far =
+    subst (λ bits. TakesSymbols kind before bits intervals behind) (sym (append-nil after)) so_far
+takes_symbols kind before after intervals (high ∷ []) behind symbols so_far = absurd symbols
+takes_symbols kind before after intervals (high ∷ low ∷ rest) behind symbols so_far =
+    let bit = bit_of (rtcal_of kind) (high + low) in
+    let one = takes_pair kind before after intervals high low (rest ++ behind) symbols.0 so_far in
+    subst (λ bits. TakesSymbols kind before bits intervals behind) (append_assoc after (bit ∷ []) (map (bit_of (rtcal_of kind)) (pair_sums rest)))
+    (takes_symbols kind before (after ++ bit ∷ []) intervals rest behind symbols.1 one)
 
 -- there is room for one more bit
 pub room_left : (kind : FrameKind) (before after : List Bool) (intervals rest : List ℕ) (capacity : ℕ) → 2 ≤ length rest
     → length before + length intervals ≤ capacity → TakesSymbols kind before after intervals rest → length after < capacity
 room_left kind before after intervals rest capacity two room so_far =
     omega (arith, two, room, so_far.few, ap length so_far.cut, length-append so_far.taken rest)
-
--- there is room for two more bits
-pub room_for_two : (kind : FrameKind) (before after : List Bool) (intervals rest : List ℕ) (capacity : ℕ) → 4 ≤ length rest
-    → length before + length intervals ≤ capacity → TakesSymbols kind before after intervals rest → length after + 1 < capacity
-room_for_two kind before after intervals rest capacity four room so_far =
-    omega (arith, four, room, so_far.few, ap length so_far.cut, length-append so_far.taken rest)

@@ -1,19 +1,13 @@
--- What a walk over the bits keeps, and that what it has written at the end is a frame.
-use Rattle.std.proofs.Common.{◌≡◌, ℕ, ◌+◌, ◌-◌, ◌*◌, ◌≤◌, Bool, true, false, List, [], ◌∷◌, length, take, map, refl, subst, arith}
+-- What is written is a frame.
+use Rattle.std.proofs.Common.{◌≡◌, ℕ, ◌+◌, ◌-◌, ◌*◌, ◌≤◌, Bool, true, false, List, [], ◌∷◌, map, refl, subst, arith}
 use Rattle.std.specs.List.{flat_map}
 use Rattle.std.proofs.lemmas.Bool.{le-leb, lt-leb}
-use Rattle.std.proofs.lemmas.List.{take_all}
 use Rattle.std.proofs.lemmas.List.Elements.{All-nil}
 use Rattle.pie_line.specs.declared.frame.Lead.{Lead}
 use Rattle.pie_line.specs.declared.frame.Lead.TheVariants.{Preamble as preamble, FrameSync as frame_sync}
 use Rattle.pie_line.specs.Link.{LinkValue, IsLegalLink}
 use Rattle.pie_line.specs.Pie.{IsFrame, ArePairs, AreSymbols, IsNoTrCal, bit_of, pair_sums, pair_of, sum_of, wave_of, kind_of}
 use Rattle.pie_line.proofs.Symbols.{symbols-more}
-
--- the buffer has the header and the symbols of the bits before this place
-pub record IsWriting (link : LinkValue) (lead : Lead) (bits : List Bool) (items : List ℕ) (at : ℕ) : Type 0 where
-  pub wave : items ≡ wave_of link lead (take at bits)
-  pub written : length items ≤ 7 + 2 * at
 
 -- a pair that is written lasts as long as it is meant to
 pair-sum : (pw sum : ℕ) → pw ≤ sum → (sum - pw) + pw ≡ sum
@@ -87,8 +81,6 @@ wave-frame link legal preamble bits =
       },
     )
 
-pub written-frame : (link : LinkValue) (lead : Lead) (bits : List Bool) (items : List ℕ) (at : ℕ) → IsLegalLink link → IsWriting link lead bits items at → length bits ≤ at →
+pub written-frame : (link : LinkValue) (lead : Lead) (bits : List Bool) (items : List ℕ) → IsLegalLink link → items ≡ wave_of link lead bits →
     IsFrame (kind_of link lead) bits items
-written-frame link lead bits items at legal w end =
-    let all : take at bits ≡ bits = take_all at bits end in
-    rw (w.wave, all) (wave-frame link legal lead bits)
+written-frame link lead bits items legal written = rw written (wave-frame link legal lead bits)

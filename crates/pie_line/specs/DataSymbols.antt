@@ -1,5 +1,5 @@
 -- Data symbols that are taken from the front of some intervals (6.3.1.2.3, 6.3.1.2.8).
-use Rattle.std.specs.Prelude.{◌≡◌, ℕ, ◌+◌, ◌*◌, ◌≤◌, Bool, Ok, List, ◌++◌, length}
+use Rattle.std.specs.Prelude.{◌≡◌, ℕ, ◌+◌, ◌*◌, ◌≤◌, Bool, Ok, List, [], ◌∷◌, ◌++◌, length}
 use Rattle.pie_line.specs.declared.frame.FrameKind.{FrameKind}
 use Rattle.pie_line.specs.declared.frame_state.FrameState.TheVariants.{High}
 use Rattle.pie_line.specs.FrameState.{rtcal_of}
@@ -10,6 +10,12 @@ pub record IsDataSymbol (rtcal high low : ℕ) : Type 0 where
   pub lasts_high : 1 ≤ high
   pub lasts_low : 1 ≤ low
   pub within : high + low ≤ 4 * rtcal
+
+-- pairs of a high and a low that make data symbols, one behind the other
+abbrev pub AreDataSymbols : ℕ → List ℕ → Type 0
+AreDataSymbols rtcal [] = Unit {0}
+AreDataSymbols rtcal (high ∷ []) = ⊥
+AreDataSymbols rtcal (high ∷ low ∷ rest) = IsDataSymbol rtcal high low × AreDataSymbols rtcal rest
 
 -- a decoder stands before a data symbol, and the next two intervals make one
 pub record IsBeforeSymbol (edges : EdgesValue) (high low : ℕ) : Type 0 where

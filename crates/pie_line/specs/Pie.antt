@@ -84,6 +84,10 @@ pair_of link sum = (sum - link.pw) ∷ link.pw ∷ []
 abbrev pub sum_of : LinkValue → Bool → ℕ
 sum_of link bit = if bit then link.rtcal - link.tari else link.tari
 
+-- 6.3.1.2.3: the symbols of these bits, of which a data-0 and a data-1 have these highs, and each this low
+abbrev pub symbols_with : ℕ → ℕ → ℕ → List Bool → List ℕ
+symbols_with high_0 high_1 low bits = flat_map (λ bit. (if bit then high_1 else high_0) ∷ low ∷ []) bits
+
 -- 6.3.1.2.8: the header that begins a Query, and the one that begins every other command
 abbrev pub header_of : LinkValue → Lead → List ℕ
 header_of link frame_sync = pair_of link link.tari ++ pair_of link link.rtcal

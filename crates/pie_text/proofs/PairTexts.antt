@@ -1,13 +1,14 @@
--- Texts of pairs that are put into room, one behind another.
-use Rattle.std.proofs.Common.{◌≡◌, ◌∙◌, ℕ, zero, suc, ◌+◌, ◌-◌, ◌*◌, ◌^◌, ◌<◌, ◌≤◌, List, [], ◌∷◌, ◌++◌, length, map, take, drop, get_or, ap, append_assoc, refl, sym, arith, lit<}
+-- Texts of intervals that are put into room, one behind another.
+use Rattle.std.proofs.Common.{◌≡◌, ◌∙◌, ℕ, zero, suc, ◌+◌, ◌^◌, ◌<◌, ◌≤◌, List, [], ◌∷◌, ◌++◌, length, map, take, drop, get_or, ap, append_assoc, sym, arith, lit<}
 use Rattle.std.specs.Fmt.{decimal}
 use Rattle.std.specs.Str.{IsAscii}
 use Rattle.std.proofs.Math.Seq.{take-append-add}
 use Rattle.std.proofs.lemmas.Fmt.{IsAscii-decimal}
-use Rattle.std.proofs.lemmas.List.{length-drop, length-take-le, take-take, take_at, take_rest}
+use Rattle.std.proofs.lemmas.Grind.{flat_map-append}
+use Rattle.std.proofs.lemmas.List.{length-take-le, map-append, take-append-drop, take-take}
 use Rattle.std.proofs.lemmas.Simd.{take_more_put_chunk}
 use lib.Lanes.{put_chunk}
-use Rattle.std.proofs.lemmas.Str.{IsAscii-append, IsAscii-take}
+use Rattle.std.proofs.lemmas.Str.{IsAscii-append}
 use Rattle.text_fields.specs.Lines.{fields_behind, space}
 
 -- what fills the room behind a store, of which a front counts
@@ -33,26 +34,23 @@ fields_ascii [] fit = none_ascii
 fields_ascii (number ∷ numbers) fit =
     IsAscii-append (space ∷ decimal number) (fields_behind (map decimal numbers)) (field_ascii number (fit 0)) (fields_ascii numbers (λ i. fit (suc i)))
 
--- a front of ASCII is ASCII
-pub front_ascii : (front behind whole : List ℕ) → front ++ behind ≡ whole → IsAscii whole → IsAscii front
-front_ascii front behind whole same ascii =
-    rw (take_at front behind (length front) refl) at (IsAscii-take (front ++ behind) (length front) (rw same ascii))
+-- where two texts of fields stand one behind the other, all of them do
+fields_in_parts : (count : ℕ) (numbers : List ℕ)
+    → fields_behind (map decimal (take count numbers)) ++ fields_behind (map decimal (drop count numbers)) ≡ fields_behind (map decimal numbers)
+fields_in_parts count numbers =
+    sym (flat_map-append (λ (field : List ℕ). space ∷ field) (map decimal (take count numbers)) (map decimal (drop count numbers)))
+    ∙ ap fields_behind (sym (map-append decimal (take count numbers) (drop count numbers)) ∙ ap (map decimal) (take-append-drop count numbers))
 
--- a pair more is put into the room, and the fields behind it are left
-pub pair_more : (before rest : List ℕ) → 2 ≤ length rest
-    → (before ++ fields_behind (decimal (get_or rest 0 0) ∷ decimal (get_or rest 1 0) ∷ [])) ++ fields_behind (map decimal (take (length rest - 2) (drop 2 rest)))
-    ≡ before ++ fields_behind (map decimal rest)
-pair_more before [] long = absurd (omega arith)
-pair_more before (high ∷ []) long = absurd (omega arith)
-pair_more before (high ∷ low ∷ behind) long =
-    let first : List ℕ = space ∷ decimal high in
-    let second : List ℕ = space ∷ decimal low in
-    let others : List ℕ = fields_behind (map decimal behind) in
-    rw (take_rest (high ∷ low ∷ behind) 2)
-    (append_assoc before (first ++ (second ++ [])) others
-    ∙ ap (λ (more : List ℕ). before ++ more) (append_assoc first (second ++ []) others ∙ ap (λ (more : List ℕ). first ++ more) (append_assoc second [] others)))
-
--- a pair more leaves room for those behind it
-pub room_more : (rest : List ℕ) (filled end : ℕ) → 2 ≤ length rest → filled + 11 * length rest ≤ 1408 → end ≤ filled + 22
-    → end + 11 * length (take (length rest - 2) (drop 2 rest)) ≤ 1408
-room_more rest filled end long room put = rw (take_rest rest 2) (omega (arith, length-drop 2 rest))
+-- fields more are put into the room, whose front may have gone to the text before, and the whole text stays
+pub fields_more : (text filled text' left put : List ℕ) (count : ℕ) (rest some others : List ℕ)
+    → text' ++ left ≡ text ++ filled → put ≡ left ++ fields_behind (map decimal some) → some ≡ take count rest → others ≡ drop count rest
+    → text' ++ (put ++ fields_behind (map decimal others)) ≡ text ++ (filled ++ fields_behind (map decimal rest))
+fields_more text filled text' left put count rest some others moved more are_some are_others =
+    let first : List ℕ = fields_behind (map decimal (take count rest)) in
+    let second : List ℕ = fields_behind (map decimal (drop count rest)) in
+    let all : List ℕ = fields_behind (map decimal rest) in
+    rw (more, are_some, are_others)
+    (ap (λ (it : List ℕ). text' ++ it) (append_assoc left first second ∙ ap (λ (it : List ℕ). left ++ it) (fields_in_parts count rest))
+    ∙ sym (append_assoc text' left all)
+    ∙ ap (λ (it : List ℕ). it ++ all) moved
+    ∙ append_assoc text filled all)

@@ -1,113 +1,140 @@
 //! Intervals as fields of a line, of which those that came before are kept as texts.
-ghost use Rattle.std.specs.Prelude.{◌≡◌, ◌+◌, ◌*◌, ◌^◌, ◌<◌, ◌≤◌, ◌↔◌, ◌++◌, [], ◌∷◌, length, map, take, IsTrue, OnOk};
+ghost use Rattle.std.specs.Prelude.{◌≡◌, ◌+◌, ◌<◌, ◌≤◌, ◌++◌, length, map, take, IfOk, IsTrue, OnOk};
 ghost use Rattle.std.specs.String.{string_bytes};
 ghost use Rattle.std.specs.Fmt.{decimal};
+ghost use Rattle.std.specs.Str.{IsAscii};
 ghost use Rattle.text_fields.specs.Lines.{fields_behind};
 
 use arrayvec::ArrayString;
 use bit_strings::OutOfMemory;
 use itoa::Buffer;
 use std::simd::prelude::*;
-use text_fields::{push_ascii, push_next_number};
+use text_fields::{push_ascii, push_next_numbers};
 
-/// How many bytes a pair has at most: twice a space and the ten digits of a number of 32 bits.
-const LONGEST_PAIR: usize = 22;
+/// How many bytes are stored for intervals, whatever the length of their text: as many as a vector has, which takes no call.
+const STORED: usize = 64;
 
-/// How many bytes are stored for a pair, whatever its length: as many as a vector has, which takes no call.
-const STORED: usize = 32;
+/// How many bytes the text of [`LEAD`] intervals has at most: each is a space and the digits of a number of 32 bits.
+const LONGEST: usize = 55;
 
-/// How many intervals are written at once.
-const TOGETHER: usize = 128;
+/// Room for texts that are put one behind another.
+const ROOM: usize = 512;
 
-/// Room for the pairs that are written at once, and for what is stored behind the last one.
-const ROOM: usize = TOGETHER / 2 * LONGEST_PAIR + STORED;
-
-/// A high and the low behind it as one number, so that one comparison tells two pairs apart.
-fn number_of(high: u32, low: u32) -> u64
-    ensures { result ≡ 2 ^ 32 * low + high }
-{
-    low as u64 * 0x1_0000_0000 + high as u64
-}
-
-/// A high and the low behind it, in nanoseconds, and their text as fields.
+/// Intervals, in nanoseconds, and their text as fields.
 #[derive(Drop)]
-struct KeptPair {
-    high: u32,
-    low: u32,
+struct KeptText<const COUNT: usize> {
+    intervals: [u32; COUNT],
     /// Their text, and what fills it up.
     text: [u8; STORED],
     /// How long their text is.
     length: usize,
-    ghost short: { length ≤ 22 },
-    ghost spelled: { take length text ≡ fields_behind (decimal high ∷ decimal low ∷ []) },
+    ghost short: { length ≤ 55 },
+    ghost spelled: { take length text ≡ fields_behind (map decimal intervals) },
 }
 
-impl KeptPair {
-    /// These two intervals with their text.
-    fn new(high: u32, low: u32) -> KeptPair
-        ensures high { result.high ≡ high }
-        ensures low { result.low ≡ low }
+impl<const COUNT: usize> KeptText<COUNT> {
+    /// These intervals with their text.
+    fn new(intervals: &[u32; COUNT]) -> KeptText<COUNT>
+        requires { COUNT ≤ LEAD }
+        ensures { result.intervals ≡ intervals.now }
     {
         let mut digits = Buffer::new();
-        let mut spelled = ArrayString::<LONGEST_PAIR>::new();
-        spelled.push(' ');
-        spelled.push_str(digits.format(high));
-        spelled.push(' ');
-        spelled.push_str(digits.format(low));
+        let mut spelled = ArrayString::<LONGEST>::new();
+        for interval in intervals {
+            spelled.push(' ');
+            spelled.push_str(digits.format(*interval));
+        }
         let length = spelled.len();
         let mut text = [b' '; STORED];
         text[..length].copy_from_slice(spelled.as_bytes());
-        KeptPair {
-            high,
-            low,
+        KeptText {
+            intervals: *intervals,
             text,
             length,
         }
     }
 
-    /// Whether these are the two intervals.
-    fn is(&self, high: u32, low: u32) -> bool
-        ensures { IsTrue result ↔ ((self.now.high ≡ high) × (self.now.low ≡ low)) }
+    /// Whether these intervals are kept.
+    #[inline(always)]
+    fn is(&self, intervals: &[u32; COUNT]) -> bool
+        ensures { IsTrue result → self.now.intervals ≡ intervals.now }
     {
-        number_of(self.high, self.low) == number_of(high, low)
+        // All intervals are looked at, so that no jump depends on one of them.
+        let mut same = true;
+        for at in 0..COUNT {
+            same &= self.intervals[at] == intervals[at];
+        }
+        same
+    }
+
+    /// Keeps these intervals, where they aren't kept.
+    #[inline(always)]
+    fn keep(&mut self, intervals: &[u32; COUNT])
+        requires { COUNT ≤ LEAD }
+        ensures { self.new.intervals ≡ intervals.now }
+    {
+        if !self.is(intervals) {
+            self.replace(intervals);
+        }
+    }
+
+    /// Keeps these intervals in place of those that were kept. It is a call of its own, so that the room of a new text is filled only here.
+    #[cold]
+    #[inline(never)]
+    fn replace(&mut self, intervals: &[u32; COUNT])
+        requires { COUNT ≤ LEAD }
+        ensures { self.new.intervals ≡ intervals.now }
+    {
+        *self = KeptText::new(intervals);
     }
 
     /// Puts the text behind what fills the room up to a place, and tells where the text ends. What stands behind that end may
     /// change.
+    #[inline(always)]
     fn put(&self, room: &mut [u8], filled: usize) -> usize
         requires { filled + STORED ≤ length room.old }
-        ensures end { result ≤ filled + LONGEST_PAIR }
-        ensures text { take result room.new ≡ take filled room.old ++ fields_behind (decimal self.now.high ∷ decimal self.now.low ∷ []) }
+        ensures end { result ≤ filled + STORED }
+        ensures text { take result room.new ≡ take filled room.old ++ fields_behind (map decimal self.now.intervals) }
         ensures length { length room.new ≡ length room.old }
     {
-        u8x32::from_array(self.text).copy_to_slice(&mut room[filled..]);
+        u8x64::from_array(self.text).copy_to_slice(&mut room[filled..]);
         filled + self.length
     }
 }
 
-/// How many pairs are kept: in the frames of a link stand four at most, of a data-0, a data-1, RTcal and TRcal.
+/// How many intervals a frame has before its bits, or before TRcal: the delimiter, and a high and a low each of data-0 and RTcal.
+const LEAD: usize = 5;
+
+/// How many intervals two bits have: a high and a low each.
+const TWO_BITS: usize = 4;
+
+/// How many pairs of bits there are.
 const PAIRS: usize = 4;
 
-/// Pairs of intervals that were written, with their texts. The lines of frames have few different pairs, and most of their
-/// text is copied.
+/// The leads and the pairs of bits that were written, with their texts. The lines of frames have few others, and most of their text is
+/// copied.
 #[derive(Drop)]
 pub struct KeptIntervals {
-    pairs: [KeptPair; PAIRS],
-    /// The place of the pair that gives way to a new one, or how many pairs there are.
-    next: usize,
+    lead: KeptText<LEAD>,
+    /// The pairs of bits, each at a place of its own.
+    pairs: [KeptText<TWO_BITS>; PAIRS],
+    /// Where texts are put one behind another.
+    room: [u8; ROOM],
 }
 
 impl KeptIntervals {
     /// Intervals before the first line.
     pub fn new() -> KeptIntervals {
+        let none = [0; TWO_BITS];
         KeptIntervals {
+            lead: KeptText::new(&[0; LEAD]),
             pairs: [
-                KeptPair::new(0, 0),
-                KeptPair::new(0, 0),
-                KeptPair::new(0, 0),
-                KeptPair::new(0, 0),
+                KeptText::new(&none),
+                KeptText::new(&none),
+                KeptText::new(&none),
+                KeptText::new(&none),
             ],
-            next: 0,
+            room: [b' '; ROOM],
         }
     }
 
@@ -115,77 +142,78 @@ impl KeptIntervals {
     pub fn push_next(&mut self, text: &mut String, intervals: &[u32]) -> Result<(), OutOfMemory>
         ensures { OnOk result (string_bytes text.new ≡ string_bytes text.old ++ fields_behind (map decimal intervals.now)) }
     {
-        let [delimiter, pairs @ ..] = intervals else {
-            return Ok(());
+        let Some((lead, behind)) = intervals.split_first_chunk::<LEAD>() else {
+            return push_next_numbers(text, intervals);
         };
-        push_next_number(text, *delimiter)?;
-        self.push_pairs(text, pairs)
+        let filled = self.put_lead(lead);
+        self.push_pairs(text, behind, lead[1], filled)
     }
 
-    /// Writes intervals, of which each two are a pair, as the next fields.
-    fn push_pairs(&mut self, text: &mut String, intervals: &[u32]) -> Result<(), OutOfMemory>
-        ensures { OnOk result (string_bytes text.new ≡ string_bytes text.old ++ fields_behind (map decimal intervals.now)) }
+    /// Puts the text of a lead at the beginning of the room, and tells where it ends.
+    fn put_lead(&mut self, lead: &[u32; LEAD]) -> usize
+        ensures end { result ≤ STORED }
+        ensures text { take result self.new.room ≡ fields_behind (map decimal lead.now) }
+        ensures ascii { IsAscii (take result self.new.room) }
     {
+        self.lead.keep(lead);
+        self.lead.put(&mut self.room, 0)
+    }
+
+    /// Writes what fills the room, and intervals as the next fields, where the high of a data-0 is so long.
+    fn push_pairs(
+        &mut self,
+        text: &mut String,
+        intervals: &[u32],
+        short: u32,
+        filled: usize,
+    ) -> Result<(), OutOfMemory>
+        requires few { filled ≤ ROOM }
+        requires ascii { IsAscii (take filled self.old.room) }
+        ensures { OnOk result (string_bytes text.new ≡ string_bytes text.old ++ (take filled self.old.room ++ fields_behind (map decimal intervals.now))) }
+    {
+        let mut filled = filled;
         let mut rest = intervals;
-        while !rest.is_empty() {
-            let (part, behind) = rest.split_at(rest.len().min(TOGETHER));
-            self.push_part(text, part)?;
+        while let Some((pair, behind)) = rest.split_first_chunk::<TWO_BITS>() {
+            filled = make_place(text, &self.room, filled)?;
+            filled = self.put_pair(pair, short, filled);
             rest = behind;
         }
-        Ok(())
+        push_ascii(text, &self.room[..filled])?;
+        push_next_numbers(text, rest)
     }
 
-    /// Writes at most [`TOGETHER`] intervals, of which each two are a pair, as the next fields.
-    fn push_part(&mut self, text: &mut String, intervals: &[u32]) -> Result<(), OutOfMemory>
-        requires { length intervals.now ≤ TOGETHER }
-        ensures { OnOk result (string_bytes text.new ≡ string_bytes text.old ++ fields_behind (map decimal intervals.now)) }
+    /// Puts the text of two bits behind what fills the room up to a place, and tells where it ends.
+    #[inline(always)]
+    fn put_pair(&mut self, pair: &[u32; TWO_BITS], short: u32, filled: usize) -> usize
+        requires { filled + STORED ≤ ROOM }
+        ensures end { result ≤ filled + STORED }
+        ensures text { take result self.new.room ≡ take filled self.old.room ++ fields_behind (map decimal pair.now) }
+        ensures ascii { IsAscii (take filled self.old.room) → IsAscii (take result self.new.room) }
     {
-        let mut room = [b' '; ROOM];
-        let mut filled = 0;
-        let mut rest = intervals;
-        while let [high, low, behind @ ..] = rest {
-            filled = self.put_pair(*high, *low, &mut room, filled);
-            rest = behind;
-        }
-        push_ascii(text, &room[..filled])?;
-        match rest {
-            [high, ..] => push_next_number(text, *high),
-            [] => Ok(()),
-        }
+        let kept = &mut self.pairs[place_of(pair, short)];
+        kept.keep(pair);
+        kept.put(&mut self.room, filled)
     }
+}
 
-    /// Puts the text of two intervals behind what fills the room up to a place, tells where it ends, and keeps them.
-    fn put_pair(&mut self, high: u32, low: u32, room: &mut [u8], filled: usize) -> usize
-        requires { filled + STORED ≤ length room.old }
-        ensures end { result ≤ filled + LONGEST_PAIR }
-        ensures text { take result room.new ≡ take filled room.old ++ fields_behind (decimal high ∷ decimal low ∷ []) }
-        ensures length { length room.new ≡ length room.old }
-    {
-        let kept = &self.pairs[self.place_of(high, low)];
-        if kept.is(high, low) {
-            return kept.put(room, filled);
-        }
-        let pair = KeptPair::new(high, low);
-        let end = pair.put(room, filled);
-        let place = self.next % PAIRS;
-        self.pairs[place] = pair;
-        self.next = place + 1;
-        end
-    }
+/// Where two bits are kept, where the high of a data-0 is so long.
+fn place_of(pair: &[u32; TWO_BITS], short: u32) -> usize
+    ensures { result < PAIRS }
+{
+    2 * usize::from(pair[0] == short) + usize::from(pair[2] == short)
+}
 
-    /// The place of two intervals, or any place where they aren't kept.
-    fn place_of(&self, high: u32, low: u32) -> usize
-        ensures { result < PAIRS }
-    {
-        // All places are looked at, so that no jump depends on the pair.
-        let mut place = 0;
-        for at in 0..PAIRS {
-            place = if self.pairs[at].is(high, low) {
-                at
-            } else {
-                place
-            };
-        }
-        place
+/// Writes what fills the room where it has no place for a text behind it, and tells what fills the room then.
+fn make_place(text: &mut String, room: &[u8; ROOM], filled: usize) -> Result<usize, OutOfMemory>
+    requires few { filled ≤ ROOM }
+    requires ascii { IsAscii (take filled room.now) }
+    ensures place { IfOk result (λ left. left + STORED ≤ ROOM) }
+    ensures text { IfOk result (λ left. string_bytes text.new ++ take left room.now ≡ string_bytes text.old ++ take filled room.now) }
+    ensures ascii { IfOk result (λ left. IsAscii (take left room.now)) }
+{
+    if filled + STORED <= ROOM {
+        return Ok(filled);
     }
+    push_ascii(text, &room[..filled])?;
+    Ok(0)
 }

@@ -1,9 +1,9 @@
 //! A round, which takes the outcome of one slot at a time.
 ghost use Rattle.std.specs.Prelude.{◌≡◌, ◌+◌, ◌≤◌, true, false, List, [], ◌∷◌};
-ghost use Rattle.command_grammar.specs.declared.commands.Command.TheVariants.{QueryRep};
+ghost use Rattle.command_grammar.specs.declared.commands.Command.TheVariants.{QueryAdjust, QueryRep};
 
 use crate::frame::Frame;
-use crate::{Outcome, RoundSpec, Session};
+use crate::{Outcome, RoundSpec, Session, UpDn};
 use command_grammar::Command;
 use pie_line::Link;
 use std::marker::Model;
@@ -138,7 +138,7 @@ impl Round {
         let session = self.spec.session();
         if let Some(updn) = frame.change(rule) {
             self.stage = Stage::Underway(frame.begin(updn));
-            *command = Command::QueryAdjust { session, updn };
+            put_query_adjust(command, session, updn);
             return None;
         }
         self.stage = Stage::Underway(frame);
@@ -163,5 +163,21 @@ fn put_query_rep(command: &mut Command, session: Session)
     match command {
         Command::QueryRep { session: last } => *last = session,
         _ => *command = Command::QueryRep { session },
+    }
+}
+
+/// Puts a QueryAdjust in place of another command. Where that is a QueryAdjust too, it has its fields changed alone.
+fn put_query_adjust(command: &mut Command, session: Session, updn: UpDn)
+    ensures { command.new ≡ QueryAdjust session updn }
+{
+    match command {
+        Command::QueryAdjust {
+            session: last,
+            updn: change,
+        } => {
+            *last = session;
+            *change = updn;
+        }
+        _ => *command = Command::QueryAdjust { session, updn },
     }
 }

@@ -5,7 +5,7 @@ ghost use Rattle.reply_grammar.specs.Table.{AnswersExpected};
 ghost use Rattle.reply_grammar.specs.Refusals.{RefusesReply, FitsLength, PassesCheck, PassesHeader, PassesNumber, EndsWithCheck, HasHandle, Passes};
 ghost use Rattle.reply_grammar.specs.declared.expected.Expect.TheVariants.{Epc as OneEpc, Rn16 as OneRn16};
 ghost use Rattle.reply_grammar.specs.declared.expected.Reply.{Reply};
-ghost use Rattle.reply_grammar.specs.declared.expected.Reply.TheVariants.{Rn16, Epc, Handle, Words};
+ghost use Rattle.reply_grammar.specs.declared.expected.Reply.TheVariants.{Rn16, Epc, Handle, Header, Words};
 ghost use Rattle.reply_grammar.specs.declared.expected.ReplyRefusal.{ReplyRefusal};
 ghost use Rattle.reply_grammar.specs.laws.Reading.{ReadTo};
 
@@ -252,7 +252,7 @@ fn read_reply_to(bits: &Bits, expect: &Expect, reply: &mut Reply)
                 *reply = Reply::Error(error_code(bits));
                 return;
             }
-            *reply = Reply::Header;
+            put_header(reply);
         }
     }
 }
@@ -265,6 +265,16 @@ fn put_handle(handle: u16, reply: &mut Reply)
     match reply {
         Reply::Handle(last) => *last = handle,
         _ => *reply = Reply::Handle(handle),
+    }
+}
+
+/// Puts the answer of a header bit alone in place of another reply, if it does not stand there already.
+fn put_header(reply: &mut Reply)
+    ensures { reply.new ≡ Header }
+{
+    match reply {
+        Reply::Header => {}
+        _ => *reply = Reply::Header,
     }
 }
 

@@ -3,7 +3,7 @@ ghost use Rattle.std.specs.Prelude.{◌≡◌, ◌+◌, ◌*◌, ◌/◌, ◌^�
 ghost use Rattle.bit_strings.specs.Numbers.{field_of};
 ghost use Rattle.reply_grammar.specs.Table.{AnswersExpected, CanBeSent, Carries, FitsBank, IsReply, Suits, longest_reply, spelling, with_check, reply_room};
 ghost use Rattle.reply_grammar.specs.declared.expected.Expect.{Expect};
-ghost use Rattle.reply_grammar.specs.declared.expected.Reply.TheVariants.{Rn16, Epc};
+ghost use Rattle.reply_grammar.specs.declared.expected.Reply.TheVariants.{Rn16, Epc, Handle, Words, Header, Error};
 
 use crate::expected::Reply;
 use crate::reply_words::EpcWords;
@@ -50,6 +50,53 @@ pub fn encode_epc(pc: u16, epc: &EpcWords, out: &mut Bits)
     put_check(out);
 }
 
+/// Writes the bits of the reply that is a handle or a new RN16 (6.3.2.11.3.1 Req_RN), for which no `Reply` is made.
+pub fn encode_handle(number: u16, out: &mut Bits)
+    requires { 32 ≤ out.old.capacity }
+    ensures { out.new ≡ record out.old { items = spelling (Handle number) 0 } }
+{
+    out.clear();
+    out.put_u16_reserved(number);
+    put_check(out);
+}
+
+/// Writes the bits of the reply that brings the words of a Read (6.3.2.11.3.2 Read), for which no `Reply` is made.
+pub fn encode_words(words: &[u16], handle: u16, out: &mut Bits)
+    requires room { reply_room ≤ out.old.capacity }
+    requires few { length words.now ≤ 512 }
+    ensures bits { out.new ≡ record out.old { items = spelling (Words words.now) handle } }
+    ensures in_range { IsReply (Words words.now) }
+{
+    out.clear();
+    out.push_reserved(false);
+    out.put_words_reserved(words);
+    out.put_u16_reserved(handle);
+    put_check(out);
+}
+
+/// Writes the bits of the reply that says success by its header bit (6.3.2.11.3.3 Write), for which no `Reply` is made.
+pub fn encode_header(handle: u16, out: &mut Bits)
+    requires { 33 ≤ out.old.capacity }
+    ensures { out.new ≡ record out.old { items = spelling Header handle } }
+{
+    out.clear();
+    out.push_reserved(false);
+    out.put_u16_reserved(handle);
+    put_check(out);
+}
+
+/// Writes the bits of the reply that is an error code (Annex I), for which no `Reply` is made.
+pub fn encode_error(code: u8, handle: u16, out: &mut Bits)
+    requires { 41 ≤ out.old.capacity }
+    ensures { out.new ≡ record out.old { items = spelling (Error code) handle } }
+{
+    out.clear();
+    out.push_reserved(true);
+    put_code(out, code);
+    out.put_u16_reserved(handle);
+    put_check(out);
+}
+
 /// Writes the bits of a reply.
 fn write_reply(reply: &Reply, handle: u16, out: &mut Bits)
     requires room { reply_room ≤ out.old.capacity }
@@ -58,31 +105,13 @@ fn write_reply(reply: &Reply, handle: u16, out: &mut Bits)
     ensures in_range { IsReply reply.now }
     ensures few_words { FitsBank reply.now }
 {
-    out.clear();
     match reply {
         Reply::Rn16(rn) => encode_rn16(*rn, out),
         Reply::Epc { pc, epc } => encode_epc(*pc, epc, out),
-        Reply::Handle(rn) => {
-            out.put_u16_reserved(*rn);
-            put_check(out);
-        }
-        Reply::Words(words) => {
-            out.push_reserved(false);
-            out.put_words_reserved(words.as_slice());
-            out.put_u16_reserved(handle);
-            put_check(out);
-        }
-        Reply::Header => {
-            out.push_reserved(false);
-            out.put_u16_reserved(handle);
-            put_check(out);
-        }
-        Reply::Error(code) => {
-            out.push_reserved(true);
-            put_code(out, *code);
-            out.put_u16_reserved(handle);
-            put_check(out);
-        }
+        Reply::Handle(number) => encode_handle(*number, out),
+        Reply::Words(words) => encode_words(words.as_slice(), handle, out),
+        Reply::Header => encode_header(handle, out),
+        Reply::Error(code) => encode_error(*code, handle, out),
     }
 }
 

@@ -8,7 +8,9 @@ mod laws;
 mod reply_words;
 
 pub use decode::{decode_epc, decode_reply, decode_reply_to, decode_rn16};
-pub use encode::{encode_epc, encode_reply, encode_rn16};
+pub use encode::{
+    encode_epc, encode_error, encode_handle, encode_header, encode_reply, encode_rn16, encode_words,
+};
 pub use expected::{Expect, Received, Reply, ReplyRefusal};
 pub use laws::{reply_laws, reply_length, suiting_law};
 pub use reply_words::{EpcWords, ReadWords};

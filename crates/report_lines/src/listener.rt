@@ -1,6 +1,6 @@
 //! Who hears what a run tells.
 ghost use Rattle.std.specs.Prelude.{◌≡◌, List, [], ◌∷◌, ◌++◌, IsFalse, Option, true};
-ghost use Rattle.report_lines.specs.Kept.{is_of_exchanges};
+ghost use Rattle.report_lines.specs.Kept.{is_of_exchanges, is_of_trace};
 ghost use Rattle.report_lines.specs.Line.{line_of};
 ghost use Rattle.report_lines.specs.ReportLine.{ReportLine};
 ghost use Rattle.report_lines.specs.declared.mode.PlayFault.{PlayFault as Fault};
@@ -27,6 +27,11 @@ pub trait Listener {
     /// Whether a line that says who said what in an exchange may make a difference. Where not, nobody has to tell it.
     fn wants_exchanges(&self) -> bool
         ensures { IsFalse result → (first : Self) (lines : List ReportLine) (line : ReportLine) → is_of_exchanges line ≡ true
+            → hears first lines self.now → hears first (lines ++ line ∷ []) self.now };
+
+    /// Whether a line that a trace alone has may make a difference. Where not, nobody has to tell it.
+    fn wants_frames(&self) -> bool
+        ensures { IsFalse result → (first : Self) (lines : List ReportLine) (line : ReportLine) → is_of_trace line ≡ true
             → hears first lines self.now → hears first (lines ++ line ∷ []) self.now };
 
     /// No line changes nothing.

@@ -65,6 +65,10 @@ impl Spelling for ModeSpelling {
     fn wants_exchanges(&self) -> bool {
         matches!(self.mode, Mode::Exchanges | Mode::Vcd)
     }
+
+    fn wants_frames(&self) -> bool {
+        matches!(self.mode, Mode::Trace | Mode::Vcd)
+    }
 }
 
 /// Writes what a line brings to a dump.

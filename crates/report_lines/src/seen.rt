@@ -64,19 +64,24 @@ impl SeenCounts {
         ensures more { OnOk result (self.new ≡ seen_more self.old (listed.pc, listed.epc)) }
         ensures err { OnErr result (self.new ≡ self.old) }
     {
-        let before = self.count_of(&listed);
-        let Some(count) = before.checked_add(1) else {
+        let Some(count) = self.counts.get_mut(&listed) else {
+            return self.add(listed);
+        };
+        let Some(more) = count.checked_add(1) else {
             return Err(AllocError);
         };
-        self.counts.insert(listed, count)?;
+        *count = more;
         Ok(())
     }
 
-    /// How often this pair was listed.
-    fn count_of(&self, listed: &Listed) -> u64
-        ensures { result ≡ count_of self.now (listed.now.pc, listed.now.epc) }
+    /// Counts a pair for the first time.
+    fn add(&mut self, listed: Listed) -> Result<(), OutOfMemory>
+        requires { count_of self.old (listed.pc, listed.epc) ≡ 0 }
+        ensures more { OnOk result (self.new ≡ seen_more self.old (listed.pc, listed.epc)) }
+        ensures err { OnErr result (self.new ≡ self.old) }
     {
-        self.counts.get(listed).copied().unwrap_or(0)
+        self.counts.insert(listed, 1)?;
+        Ok(())
     }
 
     /// How many pairs were listed.

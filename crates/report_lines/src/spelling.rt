@@ -37,6 +37,10 @@ pub trait Spelling {
     /// Whether a line that says who said what in an exchange may make a difference.
     fn wants_exchanges(&self) -> bool
         ensures { IsFalse result → (line : ReportLine) → is_of_exchanges line ≡ true → (text_of self.now line ≡ []) × (behind self.now line ≡ self.now) };
+
+    /// Whether a line that a trace alone has may make a difference.
+    fn wants_frames(&self) -> bool
+        ensures { IsFalse result → (line : ReportLine) → is_of_trace line ≡ true → (text_of self.now line ≡ []) × (behind self.now line ≡ self.now) };
 }
 
 /// What the lines of a report share: the intervals that were written, with their texts, and room for the texts of an object.

@@ -74,5 +74,9 @@ impl<'o, S: Spelling, O: Sink> Listener for TextReport<'o, S, O> {
         self.spelling.wants_exchanges()
     }
 
+    fn wants_frames(&self) -> bool {
+        self.spelling.wants_frames()
+    }
+
     ghost nothing = { λ report. (refl, hears-nothing S.text_of S.behind report.spelling.now report.fault (O.written report.out.now) (O.faults report.out.now)) };
 }

@@ -1,5 +1,5 @@
 //! The random words that a tag draws.
-ghost use Rattle.std.specs.Prelude.{◌≡◌, ◌^◌, ◌<◌, ◌≤◌, length, All, IfOk};
+ghost use Rattle.std.specs.Prelude.{◌≡◌, ◌^◌, ◌<◌, ◌≤◌, length, All, IfOk, vec_len};
 
 use bit_strings::OutOfMemory;
 use std::alloc::Global;
@@ -32,6 +32,15 @@ impl DrawWords {
     {
         let words = Vec::from_slice(alloc, words)?;
         Ok(DrawWords { words })
+    }
+
+    /// These words themselves, of which there are 1 to 256.
+    pub fn of(words: Vec<u16>) -> DrawWords
+        requires some { 1 ≤ vec_len words }
+        requires few { vec_len words ≤ 256 }
+        ensures { result ≡ words.items }
+    {
+        DrawWords { words }
     }
 
     /// The words.

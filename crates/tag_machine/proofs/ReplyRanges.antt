@@ -1,20 +1,12 @@
--- The numbers of a reply that was encoded are in their ranges, and what is sent is a reply that is expected.
-use Rattle.std.proofs.Common.{ℕ, Bool, List, length, Some, refl}
+-- What is sent, with its numbers in their ranges, is a reply that is expected.
+use Rattle.std.proofs.Common.{ℕ, Some, refl}
 use Rattle.reply_grammar.specs.declared.expected.Expect.{Expect}
 use Rattle.reply_grammar.specs.declared.expected.Expect.TheVariants as expects
 use Rattle.reply_grammar.specs.declared.expected.Reply.{Reply}
 use Rattle.reply_grammar.specs.declared.expected.Reply.TheVariants.{Rn16, Epc, Handle, Words, Header, Error}
-use Rattle.reply_grammar.specs.Table.{AnswersExpected, Carries, IsReply, Suits}
+use Rattle.reply_grammar.specs.Table.{AnswersExpected, Carries, Suits}
 use Rattle.reply_grammar.specs.laws.Replies.{answers_from}
 use Rattle.tag_machine.specs.Answers.{Sent, HasFewWords, IsSent, bits_sent}
-
-pub is_reply : (reply : Reply) (handle : ℕ) (bits : List Bool) → ((expect : Expect) → Suits reply expect → Carries expect handle → AnswersExpected reply expect bits) → IsReply reply
-is_reply (Rn16 rn) handle bits answers = (answers expects.Rn16 tt tt).in_range
-is_reply (Epc pc epc) handle bits answers = (answers expects.Epc tt tt).in_range
-is_reply (Handle rn) handle bits answers = (answers expects.Handle tt tt).in_range
-is_reply (Words words) handle bits answers = (answers (expects.Words (length words) handle) refl refl).in_range
-is_reply Header handle bits answers = tt
-is_reply (Error code) handle bits answers = (answers (expects.Header handle) tt refl).in_range
 
 -- an expectation that a reply suits
 suited : (reply : Reply) (handle : ℕ) → HasFewWords reply → (expect : Expect) × Suits reply expect × Carries expect handle

@@ -19,6 +19,7 @@ use std::sync::ledger::Ledger;
 impl AnyTag {
     /// What the tag makes of a command. Most tags are moved by a QueryRep, so that is made here; what is made of each other command
     /// stands in a call of its own, and none pays for the room that a Read takes for its words.
+    #[inline(always)]
     fn take(self, command: &Command, out: &mut Bits) -> Heard
         requires room { reply_room ≤ out.old.capacity }
         ensures { GivesOutcome (step command.now (tag_value_of self).state (tag_value_of self).body) result out.old out.new }
@@ -102,6 +103,7 @@ impl AnyTag {
     /// An answer is `Extended` exactly where the command is a Write, Lock, BlockWrite or BlockErase, or a Kill
     /// after a first half. A tag that answers an error keeps its memory, locks, flags and draws. A killed tag and
     /// one without power stay as they are and are silent.
+    #[inline(always)]
     pub fn hear<L: Ledger>(self, command: &Command, out: &mut Bits, steps: &mut Steps<L>) -> Heard
         requires room { reply_room ≤ out.old.capacity }
         ensures step { GivesOutcome (step command.now (tag_value_of self).state (tag_value_of self).body) result out.old out.new }

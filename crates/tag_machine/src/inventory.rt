@@ -9,4 +9,4 @@ mod query_rep;
 mod select;
 mod slot;
 
-pub use query_adjust::adjusted;
+pub(crate) use query_adjust::adjusted;

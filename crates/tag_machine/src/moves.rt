@@ -1,7 +1,9 @@
 //! The moves that the commands share: how a tag answers, and where it goes.
 ghost use Rattle.std.specs.Prelude.{◌≡◌, ◌≤◌};
-ghost use Rattle.reply_grammar.specs.Table.{CanBeSent, reply_room};
-ghost use Rattle.tag_machine.specs.Answers.{silent, plain_answer, extended_answer, HasFewWords};
+ghost use Rattle.lock_rules.specs.Codes.{error_number};
+ghost use Rattle.reply_grammar.specs.Table.{reply_room};
+ghost use Rattle.reply_grammar.specs.declared.expected.Reply.TheVariants.{Handle, Header, Error};
+ghost use Rattle.tag_machine.specs.Answers.{silent, plain_answer, extended_answer};
 ghost use Rattle.tag_machine.specs.Draws.{begin_reply, enter, close, back, tag_back};
 ghost use Rattle.tag_machine.specs.Hearing.{GivesOutcome, tag_value_of};
 
@@ -10,7 +12,8 @@ use crate::body::Body;
 use crate::states::{Arbitrate, InReply, Ready, Slot};
 use crate::tag::Tag;
 use bit_strings::{Bits, QValue, Session};
-use reply_grammar::{Reply, encode_reply, encode_rn16};
+use lock_rules::ErrorCode;
+use reply_grammar::{encode_error, encode_handle, encode_header, encode_rn16};
 
 /// No answer.
 pub fn unanswered(tag: AnyTag, out: &mut Bits) -> Heard
@@ -23,28 +26,36 @@ pub fn unanswered(tag: AnyTag, out: &mut Bits) -> Heard
     }
 }
 
-/// An answer whose preamble goes by the TRext of the Query.
-pub fn answer(tag: AnyTag, reply: &Reply, handle: u16, out: &mut Bits) -> Heard
-    requires room { reply_room ≤ out.old.capacity }
-    requires sendable { CanBeSent reply.now }
-    requires few { HasFewWords reply.now }
-    ensures { GivesOutcome (plain_answer (tag_value_of tag).state (tag_value_of tag).body reply.now handle) result out.old out.new }
+/// An answer that is a handle or a new RN16, whose preamble goes by the TRext of the Query.
+pub fn answer_handle(tag: AnyTag, number: u16, out: &mut Bits) -> Heard
+    requires { reply_room ≤ out.old.capacity }
+    ensures { GivesOutcome (plain_answer (tag_value_of tag).state (tag_value_of tag).body (Handle number) 0) result out.old out.new }
 {
-    encode_reply(reply, handle, out);
+    encode_handle(number, out);
     Heard {
         tag,
         answered: Answered::Plain,
     }
 }
 
-/// An answer with the extended preamble.
-pub fn answer_extended(tag: AnyTag, reply: &Reply, handle: u16, out: &mut Bits) -> Heard
-    requires room { reply_room ≤ out.old.capacity }
-    requires sendable { CanBeSent reply.now }
-    requires few { HasFewWords reply.now }
-    ensures { GivesOutcome (extended_answer (tag_value_of tag).state (tag_value_of tag).body reply.now handle) result out.old out.new }
+/// An answer that says success by its header bit, with the extended preamble.
+pub fn answer_header(tag: AnyTag, handle: u16, out: &mut Bits) -> Heard
+    requires { reply_room ≤ out.old.capacity }
+    ensures { GivesOutcome (extended_answer (tag_value_of tag).state (tag_value_of tag).body Header handle) result out.old out.new }
 {
-    encode_reply(reply, handle, out);
+    encode_header(handle, out);
+    Heard {
+        tag,
+        answered: Answered::Extended,
+    }
+}
+
+/// An answer that is an error, with the extended preamble.
+pub fn answer_error(tag: AnyTag, code: ErrorCode, handle: u16, out: &mut Bits) -> Heard
+    requires { reply_room ≤ out.old.capacity }
+    ensures { GivesOutcome (extended_answer (tag_value_of tag).state (tag_value_of tag).body (Error (error_number code)) handle) result out.old out.new }
+{
+    encode_error(code.code(), handle, out);
     Heard {
         tag,
         answered: Answered::Extended,

@@ -481,7 +481,7 @@ next_from_start before number (Some next) now so_far is = (
 )
 
 -- legal tags, with slot counters of 15 bits
-legal_with_slot : (slot : ℕ) (state : StateValue) → slot < 32768 → IsLegalState state → IsLegalState (with_slot slot state)
+pub legal_with_slot : (slot : ℕ) (state : StateValue) → slot < 32768 → IsLegalState state → IsLegalState (with_slot slot state)
 legal_with_slot slot ReadyState below legal = legal
 legal_with_slot slot (ArbitrateState session q old) below legal = (legal.0, legal.1, omega (arith, below))
 legal_with_slot slot (ReplyState session q rn) below legal = legal

@@ -9,4 +9,5 @@ pub mod HeardInSeats
 pub mod AdjustCalls
 pub mod WordsKept
 pub mod ToldTags
+pub mod SlottedTags
 pub mod MarkedDraws

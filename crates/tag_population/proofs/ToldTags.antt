@@ -184,7 +184,7 @@ then_told b seat =
     ∙ ap (λ (l : List TagValue). set l b.at seat) b.tags_is
     ∙ ap (λ n. set b.tags n seat) b.at_is
 
-drawn_words : (drawn : Option Drawn) (tag : TagValue) → (tag_drawn drawn tag).body.words ≡ tag.body.words
+pub drawn_words : (drawn : Option Drawn) (tag : TagValue) → (tag_drawn drawn tag).body.words ≡ tag.body.words
 drawn_words None tag = refl
 drawn_words (Some drawn) tag = refl
 
@@ -237,6 +237,14 @@ told_others b seat telling slice is same other apart = ap (λ (l : List TagValue
 pub told_here : (b : GivenBack) (seat : TagValue) (telling : DrawingsValue) (slice : List TagValue) → slice ≡ set (items_given b) b.at seat → tags_told 0 telling slice ≡ tags_told 0 b.given slice
     → get_or (tags_told 0 telling (set (items_given b) b.at seat)) b.number no_tag ≡ seat
 told_here b seat telling slice is same = ap (λ (l : List TagValue). get_or l b.number no_tag) (then_tells b seat telling slice is same) ∙ then_at b seat
+
+pub told_set : (b : GivenBack) (seat : TagValue) (telling : DrawingsValue) (slice : List TagValue) → slice ≡ set (items_given b) b.at seat → tags_told 0 telling slice ≡ tags_told 0 b.given slice
+    → tags_told 0 telling (set (items_given b) b.at seat) ≡ set b.tags b.number seat
+told_set b seat telling slice is same = then_tells b seat telling slice is same ∙ then_told b seat
+
+pub told_legal : (b : GivenBack) (seat : TagValue) (telling : DrawingsValue) (slice : List TagValue) → slice ≡ set (items_given b) b.at seat → tags_told 0 telling slice ≡ tags_told 0 b.given slice
+    → IsLegalTag seat → AreLegalTags (tags_told 0 telling (set (items_given b) b.at seat))
+told_legal b seat telling slice is same legal = subst (λ (l : List TagValue). AreLegalTags l) (sym (then_tells b seat telling slice is same)) (then_legal b seat legal)
 
 pub back_same : (b : GivenBack) → tags_told 0 b.given (items_given b) ≡ b.tags
 back_same b =

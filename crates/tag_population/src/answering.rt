@@ -84,8 +84,7 @@ pub(crate) fn hear_when_called<A: AnswerTaker, L: Ledger>(
 }
 
 /// Lets a tag hear a command by which its state may change its kind, and has its answer taken.
-// Its room for a moved tag is filled at each call, and most tags only wait, so it stands apart.
-#[inline(never)]
+#[inline(always)]
 fn hear_moved<A: AnswerTaker, L: Ledger>(
     seat: &mut Seat,
     number: TagNumber,

@@ -178,6 +178,7 @@ fn settle(seats: &Seats, waiting: &mut Waiting)
 }
 
 /// Writes the slot counter of a tag that waits back into its seat.
+#[inline(always)]
 fn write_back<L: Ledger>(
     seats: &mut Seats,
     waiting: &Waiting,

@@ -173,7 +173,25 @@ impl Seat {
         keep(tag, drawn);
     }
 
+    /// Gives the tag, which is in arbitrate, this Q, this place of its next draw, and this slot counter.
+    pub(crate) fn keep_slot<L: Ledger>(&mut self, drawn: Drawn, slot: u16, steps: &mut Steps<L>)
+        requires slot { slot < 32768 }
+        requires waits { IsInArbitrate self.old }
+        requires legal { IsLegalTag (tag_drawn (Some drawn) self.old) }
+        requires then_legal { IsLegalTag (record (tag_drawn (Some drawn) self.old) { state = with_slot slot (tag_drawn (Some drawn) self.old).state }) }
+        ensures tag { self.new ≡ record (tag_drawn (Some drawn) self.old) { state = with_slot slot (tag_drawn (Some drawn) self.old).state } }
+        ensures counted { steps.new ≡ steps.old + 1 }
+    {
+        let Some(tag) = &mut self.tag else {
+            unreachable!()
+        };
+        let _state = tag.state();
+        steps.tick();
+        keep_slot(tag, drawn, slot);
+    }
+
     /// Lets the tag hear a command. The bits of its answer stand in `out` afterwards, and none where it sends nothing.
+    #[inline(always)]
     pub(crate) fn hear<L: Ledger>(
         &mut self,
         command: &Command,
@@ -192,8 +210,11 @@ impl Seat {
             unreachable!()
         };
         let heard = tag.hear(command, out, steps);
-        self.tag = Some(heard.tag);
-        heard.answered
+        // The seat is empty then, so that nothing is dropped.
+        match self.tag.replace(heard.tag) {
+            None => heard.answered,
+            Some(_) => unreachable!(),
+        }
     }
 }
 
@@ -233,6 +254,19 @@ fn keep(tag: &mut AnyTag, drawn: Drawn)
             let slot = tag.slot();
             tag.set_drawn(drawn.q, slot, usize::from(drawn.next));
         }
+        _ => unreachable!(),
+    }
+}
+
+/// Gives a tag in arbitrate this Q, this place of its next draw, and this slot counter.
+fn keep_slot(tag: &mut AnyTag, drawn: Drawn, slot: u16)
+    requires slot { slot < 32768 }
+    requires waits { typed_name_of tag.old ≡ StateName.Arbitrate }
+    requires inside { drawn.next < length (tag_value_of tag.old).body.words }
+    ensures { tag_value_of tag.new ≡ record (tag_drawn (Some drawn) (tag_value_of tag.old)) { state = with_slot slot (tag_drawn (Some drawn) (tag_value_of tag.old)).state } }
+{
+    match tag {
+        AnyTag::Arbitrate(tag) => tag.set_drawn(drawn.q, slot, usize::from(drawn.next)),
         _ => unreachable!(),
     }
 }

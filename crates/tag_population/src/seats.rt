@@ -103,8 +103,13 @@ impl Seats {
         ensures legal { AreLegalTags self.new }
     {
         let at = number.index();
-        give_back(self.seats.as_mut_slice(), &mut self.drawings, at);
-        self.seats[at].set_slot(slot, steps);
+        write_slot(
+            self.seats.as_mut_slice(),
+            &mut self.drawings,
+            at,
+            slot,
+            steps,
+        );
     }
 
     /// Lets an event befall a tag, and answers how it takes part then.
@@ -180,7 +185,10 @@ impl Seats {
         give_back(self.seats.as_mut_slice(), &mut self.drawings, at);
         let seat = &mut self.seats[at];
         hear_when_called(seat, number, misses, command, room, answers, steps);
-        seat.participation()
+        let participation = seat.participation();
+        // Where it waits then, it draws with the others at the next QueryAdjust.
+        tell(self.seats.as_slice(), &mut self.drawings, at);
+        participation
     }
 
     /// Lets a tag hear a QueryAdjust in its place, where it waits in a round of this session and draws another slot than 0, and
@@ -270,7 +278,33 @@ fn take_drawn(seats: &mut [Seat], drawings: &mut Drawings, at: usize)
     seats[at].keep(drawn);
 }
 
+/// Changes the slot counter of a tag, where it has one, and writes what is told beside the tag into it. Nothing is told beside it then.
+// Where something is told, all is written at once.
+#[inline(always)]
+fn write_slot<L: Ledger>(
+    seats: &mut [Seat],
+    drawings: &mut Drawings,
+    at: usize,
+    slot: u16,
+    steps: &mut Steps<L>,
+)
+    requires at { at < length seats.old }
+    requires are { AreSeats drawings.old seats.old }
+    requires slot { slot < 32768 }
+    ensures seats { seats.new ≡ slice_set seats.old at (record (tag_told drawings.old at (get_or seats.old at no_tag)) { state = with_slot slot (tag_told drawings.old at (get_or seats.old at no_tag)).state }) }
+    ensures drawings { drawings.new ≡ record drawings.old { states = slice_set drawings.old.states at has_none } }
+    ensures counted { steps.new ≤ steps.old + 1 }
+{
+    if drawings.has(at) {
+        let drawn = drawings.take(at);
+        seats[at].keep_slot(drawn, slot, steps);
+    } else {
+        seats[at].set_slot(slot, steps);
+    }
+}
+
 /// Tells the Q and the place of the next draw of a tag in arbitrate beside it.
+#[inline(always)]
 fn tell(seats: &[Seat], drawings: &mut Drawings, at: usize)
     requires at { at < length seats.now }
     requires are { AreSeats drawings.old seats.now }

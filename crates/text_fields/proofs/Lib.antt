@@ -1,4 +1,5 @@
 mod ByteDigits
+mod ByteTable
 mod UpperHexadecimal
 pub mod DecimalDigits
 pub mod EachByte

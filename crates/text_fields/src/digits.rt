@@ -110,11 +110,8 @@ impl<'a> Digits<'a> {
     }
 }
 
-/// How many digits of a long list are written at once.
-const PART: usize = 1024;
-
-/// How many digits a short list has at most. Less room is filled for it.
-const SHORT: usize = 64;
+/// How many digits are written at once.
+const TOGETHER: usize = 64;
 
 /// Writes bits in binary digits, or a hyphen for none, at the end of the text. After an error the
 /// text may hold a part of them.
@@ -124,9 +121,6 @@ pub fn push_bits(text: &mut String, bits: &[bool]) -> Result<(), OutOfMemory>
     if bits.is_empty() {
         return text.push('-');
     }
-    if bits.len() <= SHORT {
-        return push_part::<SHORT>(text, bits);
-    }
     push_parts(text, bits)
 }
 
@@ -135,21 +129,28 @@ fn push_parts(text: &mut String, bits: &[bool]) -> Result<(), OutOfMemory>
     ensures { OnOk result (string_bytes text.new ≡ string_bytes text.old ++ map binary_digit bits.now) }
 {
     let mut rest = bits;
-    while !rest.is_empty() {
-        let (part, behind) = rest.split_at(rest.len().min(PART));
-        push_part::<PART>(text, part)?;
+    while let Some((part, behind)) = rest.split_first_chunk::<TOGETHER>() {
+        push_whole_part(text, part)?;
         rest = behind;
     }
-    Ok(())
+    push_part(text, rest)
 }
 
-/// Writes at most `MOST` bits in binary digits at the end of the text.
-fn push_part<const MOST: usize>(text: &mut String, bits: &[bool]) -> Result<(), OutOfMemory>
-    requires count { length bits.now ≤ MOST }
-    requires room { MOST ≤ PART }
+/// Writes [`TOGETHER`] bits in binary digits at the end of the text.
+fn push_whole_part(text: &mut String, bits: &[bool; TOGETHER]) -> Result<(), OutOfMemory>
     ensures { OnOk result (string_bytes text.new ≡ string_bytes text.old ++ map binary_digit bits.now) }
 {
-    let mut room = [b'0'; MOST];
+    let mut digits = [b'0'; TOGETHER];
+    write_digits(bits, &mut digits);
+    push_ascii(text, &digits)
+}
+
+/// Writes at most [`TOGETHER`] bits in binary digits at the end of the text.
+fn push_part(text: &mut String, bits: &[bool]) -> Result<(), OutOfMemory>
+    requires { length bits.now ≤ TOGETHER }
+    ensures { OnOk result (string_bytes text.new ≡ string_bytes text.old ++ map binary_digit bits.now) }
+{
+    let mut room = [b'0'; TOGETHER];
     let digits = &mut room[..bits.len()];
     write_digits(bits, digits);
     push_ascii(text, digits)

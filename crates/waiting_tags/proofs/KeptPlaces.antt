@@ -350,8 +350,8 @@ below_whole from until places wheel below = λ other on least most.
     ]
 
 -- the tags below a number stand on the places of their slots, and the others where they did
-pub record StoodBelow (own base : ℕ) (slots old : List ℕ) (number : ℕ) (new : List ℕ) : Type 0 where
-  pub below : (other : ℕ) → other < number → get_or new other 0 ≡ (if get_or slots other 0 == 0 then get_or old other 0 else own + (base + get_or slots other 0) % 32768)
+pub record StoodBelow (base : ℕ) (slots old : List ℕ) (number : ℕ) (new : List ℕ) : Type 0 where
+  pub below : (other : ℕ) → other < number → get_or new other 0 ≡ (if get_or slots other 0 == 0 then get_or old other 0 else (base + get_or slots other 0) % 32768)
   pub rest : (other : ℕ) → number ≤ other → get_or new other 0 ≡ get_or old other 0
 
 -- a tag on a place that is linked

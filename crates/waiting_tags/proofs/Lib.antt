@@ -4,5 +4,7 @@ pub mod TagSetBits
 pub mod SlotPlaces
 pub mod SlotDraws
 pub mod KeptMarks
+pub mod HalvedNumbers
 pub mod DrawnWords
 pub mod DrawingLists
+pub mod NearMasks

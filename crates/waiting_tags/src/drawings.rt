@@ -146,6 +146,7 @@ impl Drawings {
     }
 
     /// Tells a tag's Q and the place of its next draw.
+    #[inline]
     pub fn put(&mut self, at: usize, drawn: Drawn)
         requires at { at < length self.old.states }
         requires next { drawn.next < get_or self.old.counts at 0 }
@@ -233,7 +234,8 @@ fn own_words(tag: &AnyTag) -> &[u16]
 }
 
 /// Takes for each tag the word that it draws next.
-// This stands apart, so that the loop behind it is compiled to draw for several tags at once.
+// This stands apart, so that the loop behind it is compiled to draw for several tags at once. The lists of the tags are cut to one length, so that for
+// each tag only its place among the words is tested: that of a list which is as long as the loop goes on isn't.
 #[inline(never)]
 fn gather(words: &[u16], starts: &[u32], nexts: &[u16], drawn: &mut [u16])
     requires starts { length starts.now ≡ length drawn.old }

@@ -3,6 +3,7 @@
 
 mod drawings;
 mod marks;
+mod place_numbers;
 mod tag_places;
 mod tag_set;
 mod waiting;

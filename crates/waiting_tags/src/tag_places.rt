@@ -1,10 +1,13 @@
 //! Where tags stand, with links between those of one place only once a tag there is asked for.
-ghost use Rattle.std.specs.Prelude.{◌≡◌, ◌⊎◌, ◌==◌, ◌+◌, ◌/◌, ◌<◌, ◌≤◌, ℕ, false, Some, None, length, replicate, slice_set, get_or, if◌then◌else◌, IfOk};
+ghost use Rattle.std.specs.Prelude.{◌≡◌, ◌⊎◌, ◌==◌, ◌≢◌, ◌+◌, ◌-◌, ◌%◌, ◌/◌, ◌<◌, ◌≤◌, ℕ, true, Some, None, length, replicate, slice_set, get_or, if◌then◌else◌, IfOk};
 ghost use Rattle.air_events.specs.TagNumbers.{most_tags};
-ghost use Rattle.waiting_tags.specs.KeptPlaces.{HasBelow, HasSame, IsKept, IsOutside, last_place, stand_of, stands_in};
+ghost use Rattle.waiting_tags.specs.KeptPlaces.{HasBelow, HasSame, IsKept, last_place, stand_of, stands_in};
+ghost use Rattle.waiting_tags.specs.PlaceNumbers.{IsNear};
 ghost use Rattle.waiting_tags.specs.Waiting.{slot_place};
 ghost use Rattle.waiting_tags.specs.Wheel.{IsTagOn, most_places, place_of};
 
+use crate::place_numbers::{GROUP, PlaceNumbers, SLOTS, Window};
+use crate::tag_set::next_one;
 use crate::wheel::Wheel;
 use air_events::TagNumber;
 use bit_strings::{OutOfMemory, Session};
@@ -12,26 +15,16 @@ use std::alloc::Global;
 use std::marker::Model;
 
 /// What is written for a tag that stands on no place: a number past those of all places.
-const NOWHERE: u32 = 131_073;
+const NOWHERE: usize = 131_073;
 
 /// The places on which tags may be linked are those below this one, which is the last.
 const LAST: usize = 131_072;
-
-/// How many tags are looked at together.
-const PART: usize = 8;
 
 /// How many places are linked when a tag is asked for at first: few QueryReps come between most QueryAdjusts.
 const NEAR: usize = 4;
 
 /// The most places that are linked without a step for each tag.
 const MOST_NEAR: usize = 1024;
-
-/// Places from one on until another, or none where both are 0.
-#[derive(Clone, Copy)]
-struct Window {
-    from: usize,
-    until: usize,
-}
 
 /// Tags, each of which stands on one place or on none.
 ///
@@ -43,7 +36,7 @@ struct Window {
 #[derive(Drop)]
 pub(crate) struct TagPlaces {
     /// For each tag the place where it stands, or `NOWHERE`.
-    places: Vec<u32>,
+    places: PlaceNumbers,
     /// On the places of `linked` it has the tags that stand there; on others it may have tags that left them.
     wheel: Wheel,
     linked: Window,
@@ -55,9 +48,9 @@ impl Model for TagPlaces {
 
     ghost Value = { List (Option ℕ) };
 
-    ghost view = { λ a. stands_of a.places.items };
+    ghost view = { λ a. stands_of a.places };
 
-    ghost invariant = { λ a. IsKept a.linked.from a.linked.until a.wheel a.places.items };
+    ghost invariant = { λ a. IsKept a.linked.from a.linked.until a.wheel a.places };
 }
 
 impl TagPlaces {
@@ -66,7 +59,7 @@ impl TagPlaces {
         requires { count ≤ most_tags }
         ensures { IfOk result (λ places. places ≡ replicate count None) }
     {
-        let places = vec![in alloc; NOWHERE; count]?;
+        let places = PlaceNumbers::new(alloc, count, NOWHERE)?;
         let wheel = Wheel::new(alloc, count)?;
         Ok(TagPlaces {
             places,
@@ -86,11 +79,7 @@ impl TagPlaces {
         ensures range { (place : ℕ) → result ≡ Some place → place < most_places }
     {
         let place = self.place_number(number);
-        if place == NOWHERE as usize {
-            None
-        } else {
-            Some(place)
-        }
+        if place == NOWHERE { None } else { Some(place) }
     }
 
     /// The number of the place where a tag stands, or one past those of all places.
@@ -101,7 +90,7 @@ impl TagPlaces {
         ensures range { result ≤ most_places }
     {
         let at = number.index();
-        self.places[at] as usize
+        self.places.place(at)
     }
 
     /// A tag on a place that isn't the last; none exactly where no tag stands there.
@@ -110,7 +99,7 @@ impl TagPlaces {
         ensures same { self.new ≡ self.old }
         ensures on { IsTagOn self.old place result }
     {
-        self.linked = link(self.places.as_slice(), &mut self.wheel, self.linked, place);
+        self.linked = link(&self.places, &mut self.wheel, self.linked, place);
         self.wheel.tag_on(place)
     }
 
@@ -119,17 +108,20 @@ impl TagPlaces {
         requires { length marks.old ≡ length self.now }
         ensures { (number : ℕ) → get_or marks.new number 0 ≡ (if stands_in session (place_of self.now number) then 1 else 0) }
     {
-        mark_all(self.places.as_slice(), session, marks);
+        self.places.mark(session, marks);
     }
 
     /// Lets tags stand on the places of these slots, behind this base of a session: those whose slot isn't 0.
     pub(crate) fn move_all(&mut self, base: u16, session: Session, slots: &[u16])
-        requires { length slots.now ≡ length self.old }
+        requires whole { length slots.now ≡ length self.old }
+        requires base { base < 32768 }
+        requires small { (number : ℕ) → get_or slots.now number 0 < 32768 }
+        requires stands { (number : ℕ) → get_or slots.now number 0 ≢ 0 → stands_in session (place_of self.old number) ≡ true }
         ensures whole { length self.new ≡ length self.old }
         ensures each { (number : ℕ) → place_of self.new number ≡ (if get_or slots.now number 0 == 0 then place_of self.old number else Some (slot_place base session (get_or slots.now number 0))) }
     {
         self.linked = Window { from: 0, until: 0 };
-        stand_all(self.places.as_mut_slice(), base, session, slots);
+        self.places.move_all(base, slots);
     }
 
     /// Leaves the links as they are, whatever places are written, until a tag of a place is asked for.
@@ -147,7 +139,7 @@ impl TagPlaces {
         ensures { self.new ≡ slice_set self.old number (Some place) }
     {
         let at = number.index();
-        self.places[at] = place as u32;
+        self.places.put(at, place);
         if self.linked.until != 0 {
             stand(&mut self.wheel, number, place, self.linked);
         }
@@ -159,44 +151,15 @@ impl TagPlaces {
         ensures { self.new ≡ slice_set self.old number None }
     {
         let at = number.index();
-        self.places[at] = NOWHERE;
+        self.places.put(at, NOWHERE);
         if self.linked.until != 0 {
             self.wheel.take(number);
         }
     }
 }
 
-/// Marks the tags whose places are those of a session.
-// Its loop stands apart, so that it is compiled to look at several tags at once.
-#[inline(never)]
-fn mark_all(places: &[u32], session: Session, marks: &mut [u16])
-    requires { length marks.old ≡ length places.now }
-    ensures { (number : ℕ) → number < length places.now → get_or marks.new number 0 ≡ (if get_or places.now number 0 / 32768 == session then 1 else 0) }
-{
-    let own = u32::from(session.get());
-    for at in 0..marks.len() {
-        marks[at] = u16::from(places[at] / 32_768 == own);
-    }
-}
-
-/// Writes the places of the slots that aren't 0.
-// Its loop stands apart, so that it is compiled for several tags at once.
-#[inline(never)]
-fn stand_all(places: &mut [u32], base: u16, session: Session, slots: &[u16])
-    requires { length slots.now ≡ length places.old }
-    ensures { (number : ℕ) → get_or places.new number 0 ≡ (if get_or slots.now number 0 == 0 then get_or places.old number 0 else slot_place base session (get_or slots.now number 0)) }
-{
-    let own = u32::from(session.get()) * 32_768;
-    for at in 0..places.len() {
-        let slot = slots[at];
-        let old = places[at];
-        let to = own + (u32::from(base) + u32::from(slot)) % 32_768;
-        places[at] = if slot == 0 { old } else { to };
-    }
-}
-
 /// Lets tags of a wheel stand on their places, so that all tags of a place do, and answers of which places they do.
-fn link(places: &[u32], wheel: &mut Wheel, linked: Window, place: usize) -> Window
+fn link(places: &PlaceNumbers, wheel: &mut Wheel, linked: Window, place: usize) -> Window
     requires kept { IsKept linked.from linked.until wheel.old places.now }
     requires place { place < last_place }
     ensures kept { IsKept result.from result.until wheel.new places.now }
@@ -216,7 +179,7 @@ fn link(places: &[u32], wheel: &mut Wheel, linked: Window, place: usize) -> Wind
 
 /// Lets all tags of a wheel stand on their places that are in a window, and no other ones.
 #[inline(never)]
-fn link_all(places: &[u32], wheel: &mut Wheel, window: Window)
+fn link_all(places: &PlaceNumbers, wheel: &mut Wheel, window: Window)
     requires few { length places.now ≤ most_tags }
     requires whole { length wheel.old ≡ length places.now }
     requires last { window.until ≤ last_place }
@@ -224,18 +187,19 @@ fn link_all(places: &[u32], wheel: &mut Wheel, window: Window)
     ensures same { HasSame window.from window.until wheel.new places.now }
 {
     for at in 0..places.len() {
-        let own = places[at] as usize;
+        let own = places.place(at);
         stand(wheel, TagNumber::from_index(at), own, window);
     }
 }
 
 /// Does so where the window is small: tags are taken from its places, and then those looked for that stand there.
 #[inline(never)]
-fn link_near(places: &[u32], wheel: &mut Wheel, window: Window)
+fn link_near(places: &PlaceNumbers, wheel: &mut Wheel, window: Window)
     requires few { length places.now ≤ most_tags }
     requires whole { length wheel.old ≡ length places.now }
     requires ordered { window.from ≤ window.until }
     requires last { window.until ≤ last_place }
+    requires one { window.from % 32768 + (window.until - window.from) ≤ 32768 }
     ensures whole { length wheel.new ≡ length places.now }
     ensures same { HasSame window.from window.until wheel.new places.now }
 {
@@ -243,17 +207,15 @@ fn link_near(places: &[u32], wheel: &mut Wheel, window: Window)
         empty(wheel, place);
     }
     let mut from = 0;
-    while from + PART <= places.len() {
-        if are_within(places, from, window) {
-            link_some(places, wheel, from, from + PART, window);
-        }
-        from += PART;
+    while from + GROUP <= places.len() {
+        link_group(places, wheel, from, places.near(from, window), window);
+        from += GROUP;
     }
     link_some(places, wheel, from, places.len(), window);
 }
 
 /// Lets the tags of a wheel with these numbers stand on their places that are in a window, where those below them do, and it has no others there.
-fn link_some(places: &[u32], wheel: &mut Wheel, from: usize, until: usize, window: Window)
+fn link_some(places: &PlaceNumbers, wheel: &mut Wheel, from: usize, until: usize, window: Window)
     requires few { length places.now ≤ most_tags }
     requires last { window.until ≤ last_place }
     requires range { (from ≤ until) × (until ≤ length places.now) }
@@ -261,10 +223,37 @@ fn link_some(places: &[u32], wheel: &mut Wheel, from: usize, until: usize, windo
     ensures { HasBelow window.from window.until places.now until wheel.new }
 {
     for at in from..until {
-        let place = places[at] as usize;
-        if window.from <= place && place < window.until {
-            wheel.put(TagNumber::from_index(at), place);
-        }
+        link_one(places, wheel, at, window);
+    }
+}
+
+/// Does so with the tags of a group, where a mask says which of them may stand in the window.
+fn link_group(places: &PlaceNumbers, wheel: &mut Wheel, from: usize, near: u64, window: Window)
+    requires few { length places.now ≤ most_tags }
+    requires last { window.until ≤ last_place }
+    requires range { from + 32 ≤ length places.now }
+    requires near { IsNear window.from window.until places.now from near }
+    requires below { HasBelow window.from window.until places.now from wheel.old }
+    ensures { HasBelow window.from window.until places.now (from + 32) wheel.new }
+{
+    let mut at = 0;
+    while let Some(bit) = next_one(near, at) {
+        link_one(places, wheel, from + bit, window);
+        at = bit + 1;
+    }
+}
+
+/// Does so with one tag.
+fn link_one(places: &PlaceNumbers, wheel: &mut Wheel, at: usize, window: Window)
+    requires few { length places.now ≤ most_tags }
+    requires last { window.until ≤ last_place }
+    requires at { at < length places.now }
+    requires below { HasBelow window.from window.until places.now at wheel.old }
+    ensures { HasBelow window.from window.until places.now (at + 1) wheel.new }
+{
+    let place = places.place(at);
+    if window.from <= place && place < window.until {
+        wheel.put(TagNumber::from_index(at), place);
     }
 }
 
@@ -280,37 +269,22 @@ fn empty(wheel: &mut Wheel, place: usize)
     }
 }
 
-/// Whether some of the tags of a part stand in a window.
-// It looks at all of them, so that it is compiled to look at several at once.
-fn are_within(places: &[u32], from: usize, window: Window) -> bool
-    requires range { from + 8 ≤ length places.now }
-    requires ordered { window.from ≤ window.until }
-    requires last { window.until ≤ last_place }
-    ensures { result ≡ false → (number : ℕ) → from ≤ number → number < from + 8 → IsOutside window.from window.until (get_or places.now number 0) }
-{
-    let least = window.from as u32;
-    let width = window.until as u32 - least;
-    let mut any = false;
-    for at in from..from + PART {
-        any |= places[at].wrapping_sub(least) < width;
-    }
-    any
-}
-
-/// The places to link where a tag is asked for on one that isn't linked: that one and the next ones, each time more of them, and in the end all.
+/// The places to link where a tag is asked for on one that isn't linked: that one and the next ones of its part, each time more of them, and in the end
+/// all.
 fn wider(linked: Window, place: usize) -> Window
     requires place { place < last_place }
     requires ordered { (linked.until ≡ 0) ⊎ (linked.from < linked.until) }
     requires last { linked.until ≤ last_place }
     ensures inside { (result.from ≤ place) × (place < result.until) }
     ensures few { result.until ≤ last_place }
+    ensures one { result.until - result.from ≤ 1024 → result.from % 32768 + (result.until - result.from) ≤ 32768 }
 {
     let width = if linked.until == 0 {
         NEAR
     } else {
         (linked.until - linked.from) * 4
     };
-    if width <= MOST_NEAR && place + width <= LAST {
+    if width <= MOST_NEAR && place % SLOTS + width <= SLOTS {
         Window {
             from: place,
             until: place + width,

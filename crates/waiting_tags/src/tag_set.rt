@@ -129,7 +129,8 @@ impl TagSet {
 }
 
 /// The least place from one on at which a word has a 1, if there is one.
-fn next_one(word: u64, from: usize) -> Option<usize>
+#[inline]
+pub(crate) fn next_one(word: u64, from: usize) -> Option<usize>
     ensures { IsNextOne word from result }
 {
     if from >= WORD {

@@ -88,6 +88,7 @@ impl Waiting {
     }
 
     /// Lets a tag take part as is said.
+    #[inline(always)]
     pub fn put(&mut self, number: TagNumber, participation: Option<Participation>)
         requires number { number < length self.old }
         requires legal { IsLegalParticipation participation }
@@ -104,6 +105,7 @@ impl Waiting {
     }
 
     /// Puts a tag on the place of its slot counter, or on that of called tags.
+    #[inline(always)]
     fn put_on_place(&mut self, number: TagNumber, participation: Participation)
         requires number { number < length self.old }
         requires legal { IsLegalParticipation (Some participation) }

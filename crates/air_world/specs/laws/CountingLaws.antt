@@ -1,7 +1,7 @@
 -- What is counted of lines is counted line by line.
 use Rattle.std.proofs.Common.{◌≡◌, true, List, [], ◌∷◌, ◌++◌, refl, sym, ◌∙◌, ap, subst, arith}
 use Rattle.air_world.specs.Counting.{Counts, Fits, counted_line, counted_lines}
-use Rattle.report_lines.specs.Kept.{is_of_exchanges}
+use Rattle.report_lines.specs.Kept.{is_of_exchanges, is_of_trace}
 use Rattle.report_lines.specs.ReportLine.{ReportLine, BlfLine, ExchangeLine, MissedLine, AnswerLine, GivenLine, TxLine, RxLine, ListLine, OpLine, RoundLine, SeenLine, TagLine, DoneLine}
 use Rattle.runs.specs.declared.summary.Summary.{Summary}
 
@@ -48,3 +48,10 @@ uncounted counted (MissedLine exchange tag) is = refl
 uncounted counted (AnswerLine exchange tag extended reply) is = refl
 uncounted counted (GivenLine exchanged) is = refl
 uncounted counted line is = absurd (cc)
+
+-- nor is one that a trace alone has
+pub uncounted-frame : (counted : Summary) (line : ReportLine) → is_of_trace line ≡ true → counted ≡ counted_line counted line
+uncounted-frame counted (BlfLine numerator denominator) is = refl
+uncounted-frame counted (TxLine exchange intervals) is = refl
+uncounted-frame counted (RxLine exchange count levels) is = refl
+uncounted-frame counted line is = absurd (cc)

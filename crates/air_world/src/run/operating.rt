@@ -20,7 +20,8 @@ use tag_machine::{answers_are_replies, steps_keep_tags_legal};
 
 impl<'a, L: Ledger> Run<'a, L> {
     /// Does these operations with the tag that sent this EPC, and this RN16 before it, and tells the result of
-    /// each.
+    /// each. It stands alone, so that room for commands and replies is made ready for a round with operations alone.
+    #[inline(never)]
     pub(crate) fn operate<R: Listener>(
         &mut self,
         air: &mut Air,

@@ -1,8 +1,12 @@
 -- Access commands, taken apart at fixed places.
-use Rattle.std.proofs.Common.{◌≡◌, ℕ, ◌-◌, ◌<◌, ◌≤◌, ◌^◌, Bool, false, List, [], ◌∷◌, ◌++◌, length, take, drop, slice_index_or, refl, sym, ap, subst, ◌∙◌, append_assoc, append-nil, arith}
+use Rattle.std.proofs.Common.{◌≡◌, ℕ, ◌+◌, ◌*◌, ◌-◌, ◌<◌, ◌≤◌, ◌^◌, Bool, false, List, [], ◌∷◌, ◌++◌, length, take, drop, slice_index_or, refl, sym, ap, subst, ◌∙◌, append_assoc, append-nil, arith}
+use Rattle.std.specs.List.{AllByRecursion}
+use Rattle.std.proofs.Math.Seq.{take-add}
 use Rattle.std.proofs.lemmas.List.{take-append-drop, take_all, length-take-le, length-drop}
 use Rattle.bit_strings.specs.Numbers.{value_of, field_of}
 use Rattle.bit_strings.specs.laws.Numbers.{field_of-value_of, value_of-below}
+use Rattle.bit_strings.specs.Words.{bits_of_words}
+use Rattle.bit_strings.specs.laws.Words.{bits_of_words-push}
 use Rattle.bit_strings.specs.Ebv.{ebv_of}
 use Rattle.bit_strings.specs.laws.Ebv.{ebv_of-one}
 use Rattle.gen2_crc.specs.Crc.{crc16_of}
@@ -11,7 +15,7 @@ use Rattle.command_fields.specs.declared.choices.Bank.{Bank}
 use Rattle.command_grammar.specs.declared.commands.Command.TheVariants as commands
 use Rattle.command_grammar.specs.declared.kinds.CommandKind.TheVariants as kinds
 use Rattle.command_grammar.specs.declared.refusal.Reason.TheVariants as reasons
-use Rattle.command_grammar.specs.Commands.{Part, bits_of, code_field, plain_field, named_field, with_crc16, bits_of_bank, IsLegalCommand, SpellsCommand}
+use Rattle.command_grammar.specs.Commands.{Part, bits_of, code_field, plain_field, named_field, with_crc16, bits_of_bank, IsWord, IsLegalCommand, SpellsCommand}
 use Rattle.command_grammar.proofs.reading.FieldsInOrder.{bits_of-append}
 
 -- bits are the field of their number
@@ -103,6 +107,15 @@ three_fields fields bank pointer second third width place middle last =
     two_fields fields (bank ++ pointer) (second ++ (third ++ [])) 10 place (two_fields (drop 10 fields) second (third ++ []) width middle (last ∙ sym (append-nil third)))
     ∙ append_assoc bank pointer (second ++ (third ++ []))
 
+-- ... with a field more
+pub four_fields : (fields bank pointer second third fourth : List Bool) (width next : ℕ) → take 10 fields ≡ bank ++ pointer → take width (drop 10 fields) ≡ second → take next (drop width (drop 10 fields)) ≡ third
+    → drop next (drop width (drop 10 fields)) ≡ fourth → fields ≡ bank ++ (pointer ++ (second ++ (third ++ (fourth ++ []))))
+four_fields fields bank pointer second third fourth width next place middle more last =
+    let behind : List Bool = third ++ (fourth ++ []) in
+    two_fields fields (bank ++ pointer) (second ++ behind) 10 place
+    (two_fields (drop 10 fields) second behind width middle (two_fields (drop width (drop 10 fields)) third (fourth ++ []) next more (last ∙ sym (append-nil fourth))))
+    ∙ append_assoc bank pointer (second ++ behind)
+
 -- a Read, its fields behind its code
 pub spells_read : (message : List Bool) (bank : Bank) (pointer count rn : ℕ) → IsLegalCommand (commands.Read bank pointer count rn) → 8 ≤ length message → value_of (take 8 message) ≡ 194
     → drop 8 message ≡ bits_of_bank bank ++ (ebv_of pointer ++ (field_of count 8 ++ (field_of rn 16 ++ []))) → SpellsCommand (commands.Read bank pointer count rn) (message ++ crc16_of message)
@@ -142,3 +155,36 @@ spells_lock message payload rn legal some code fields = record {
   spelled = with_check (message ++ crc16_of message) message (code_field kinds.Lock ++ plain_field (field_of payload 20) ++ plain_field (field_of rn 16)) refl
       (coded message (field_of payload 20 ++ (field_of rn 16 ++ [])) 197 some code fields);
 }
+
+-- a Kill, its fields behind its code
+pub spells_kill : (message : List Bool) (covered rn : ℕ) → IsLegalCommand (commands.Kill covered rn) → 8 ≤ length message → value_of (take 8 message) ≡ 196
+    → drop 8 message ≡ field_of covered 16 ++ (field_of 0 3 ++ (field_of rn 16 ++ [])) → SpellsCommand (commands.Kill covered rn) (message ++ crc16_of message)
+unfolding field_of
+spells_kill message covered rn legal some code fields = record {
+  legal = legal;
+  spelled = with_check (message ++ crc16_of message) message (code_field kinds.Kill ++ plain_field (field_of covered 16) ++ named_field reasons.KillBits (false ∷ false ∷ false ∷ []) ++ plain_field (field_of rn 16)) refl
+      (coded message (field_of covered 16 ++ (field_of 0 3 ++ (field_of rn 16 ++ []))) 196 some code fields);
+}
+
+-- a BlockWrite, its fields behind its code
+pub spells_block_write : (message : List Bool) (bank : Bank) (pointer : ℕ) (words : List ℕ) (rn : ℕ) → IsLegalCommand (commands.BlockWrite bank pointer words rn) → 8 ≤ length message → value_of (take 8 message) ≡ 199
+    → drop 8 message ≡ bits_of_bank bank ++ (ebv_of pointer ++ (field_of (length words) 8 ++ (bits_of_words words ++ (field_of rn 16 ++ [])))) → SpellsCommand (commands.BlockWrite bank pointer words rn) (message ++ crc16_of message)
+unfolding field_of
+spells_block_write message bank pointer words rn legal some code fields = record {
+  legal = legal;
+  spelled = with_check (message ++ crc16_of message) message (code_field kinds.BlockWrite ++ plain_field (bits_of_bank bank) ++ named_field reasons.Ebv (ebv_of pointer) ++ named_field reasons.Count (field_of (length words) 8)
+      ++ plain_field (bits_of_words words) ++ plain_field (field_of rn 16)) refl
+      (coded message (bits_of_bank bank ++ (ebv_of pointer ++ (field_of (length words) 8 ++ (bits_of_words words ++ (field_of rn 16 ++ []))))) 199 some code fields);
+}
+
+-- 16 bits more are one word more
+pub one_word_more : (bits : List Bool) (words : List ℕ) (at word : ℕ) (part : List Bool) → bits_of_words words ≡ take (16 * at) bits → part ≡ take 16 (drop (16 * at) bits) → length part ≡ 16 → word ≡ value_of part
+    → bits_of_words (words ++ word ∷ []) ≡ take (16 * (at + 1)) bits
+one_word_more bits words at word part so_far is wide number =
+    bits_of_words-push words word ∙ ap (λ (l : List Bool). l ++ field_of word 16) so_far ∙ ap (λ (l : List Bool). take (16 * at) bits ++ l) (sym (field_is part word 16 number wide) ∙ is)
+    ∙ sym (take-add (16 * at) 16 bits) ∙ ap (λ n. take n bits) (omega arith)
+
+-- words, and one more
+pub are_words-push : (words : List ℕ) (word : ℕ) → AllByRecursion IsWord words → IsWord word → AllByRecursion IsWord (words ++ word ∷ [])
+are_words-push [] word all last = (last, tt)
+are_words-push (w ∷ words) word all last = (all.0, are_words-push words word all.1 last)

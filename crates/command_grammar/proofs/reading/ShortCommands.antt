@@ -1,9 +1,10 @@
 -- A QueryRep and an ACK, found by the two bits of their code and by how many bits follow.
-use Rattle.std.proofs.Common.{◌≡◌, ℕ, ◌-◌, ◌^◌, ◌<◌, ◌≤◌, Bool, true, false, List, [], ◌∷◌, length, take, drop, slice_index_or, sym, ap, subst, ◌∙◌, append-nil, arith}
+use Rattle.std.proofs.Common.{◌≡◌, ℕ, ◌-◌, ◌^◌, ◌<◌, ◌≤◌, Bool, true, false, List, [], ◌∷◌, ◌++◌, length, take, drop, slice_index_or, refl, sym, ap, subst, ◌∙◌, append-nil, arith}
 use Rattle.std.proofs.lemmas.List.{take_all, length-drop}
 use Rattle.bit_strings.specs.Numbers.{value_of, field_of}
 use Rattle.bit_strings.specs.laws.Numbers.{field_of-value_of, value_of-below}
-use Rattle.command_grammar.specs.Commands.{SpellsCommand}
+use Rattle.command_grammar.specs.Commands.{SpellsCommand, bits_of_updn}
+use Rattle.command_fields.specs.declared.choices.UpDn.{UpDn}
 use Rattle.command_grammar.specs.declared.commands.Command.TheVariants as commands
 
 -- a list of at least two bits is these two and the others
@@ -35,4 +36,32 @@ pub spells_ack : (bits : List Bool) (rn : ℕ) → 2 ≤ length bits → slice_i
 spells_ack bits rn some is_first is_second is_number is_width small = record {
   legal = small;
   spelled = two_and_field bits false true rn 16 some is_first is_second is_number is_width ∙ ap (λ (l : List Bool). false ∷ true ∷ l) (sym (append-nil (field_of rn 16)));
+}
+
+-- nine bits, one by one
+nine_bits : (bits : List Bool) → 9 ≤ length bits → length bits < 10 → bits ≡ (slice_index_or bits 0 false ∷ slice_index_or bits 1 false ∷ slice_index_or bits 2 false ∷ slice_index_or bits 3 false ∷ [])
+    ++ slice_index_or bits 4 false ∷ slice_index_or bits 5 false ∷ slice_index_or bits 6 false ∷ slice_index_or bits 7 false ∷ slice_index_or bits 8 false ∷ []
+nine_bits [] some few = absurd (omega (arith, some))
+nine_bits (a ∷ []) some few = absurd (omega (arith, some))
+nine_bits (a ∷ b ∷ []) some few = absurd (omega (arith, some))
+nine_bits (a ∷ b ∷ c ∷ []) some few = absurd (omega (arith, some))
+nine_bits (a ∷ b ∷ c ∷ d ∷ []) some few = absurd (omega (arith, some))
+nine_bits (a ∷ b ∷ c ∷ d ∷ e ∷ []) some few = absurd (omega (arith, some))
+nine_bits (a ∷ b ∷ c ∷ d ∷ e ∷ f ∷ []) some few = absurd (omega (arith, some))
+nine_bits (a ∷ b ∷ c ∷ d ∷ e ∷ f ∷ g ∷ []) some few = absurd (omega (arith, some))
+nine_bits (a ∷ b ∷ c ∷ d ∷ e ∷ f ∷ g ∷ h ∷ []) some few = absurd (omega (arith, some))
+nine_bits (a ∷ b ∷ c ∷ d ∷ e ∷ f ∷ g ∷ h ∷ i ∷ []) some few = refl
+nine_bits (a ∷ b ∷ c ∷ d ∷ e ∷ f ∷ g ∷ h ∷ i ∷ j ∷ rest) some few = absurd (omega (arith, few))
+
+-- A QueryAdjust is its code, two bits of the session and three of UpDn.
+pub spells_query_adjust : (bits : List Bool) (session : ℕ) (updn : UpDn) → 9 ≤ length bits → length bits < 10
+    → slice_index_or bits 0 false ∷ slice_index_or bits 1 false ∷ slice_index_or bits 2 false ∷ slice_index_or bits 3 false ∷ [] ≡ true ∷ false ∷ false ∷ true ∷ []
+    → field_of session 2 ≡ slice_index_or bits 4 false ∷ slice_index_or bits 5 false ∷ [] → session ≤ 3
+    → bits_of_updn updn ≡ slice_index_or bits 6 false ∷ slice_index_or bits 7 false ∷ slice_index_or bits 8 false ∷ [] → SpellsCommand (commands.QueryAdjust session updn) bits
+spells_query_adjust bits session updn some few is_code is_session small is_updn = record {
+  legal = omega (arith, small);
+  spelled = nine_bits bits some few
+      ∙ (ap (λ (l : List Bool). l ++ slice_index_or bits 4 false ∷ slice_index_or bits 5 false ∷ slice_index_or bits 6 false ∷ slice_index_or bits 7 false ∷ slice_index_or bits 8 false ∷ []) is_code
+      ∙ sym (ap (λ (l : List Bool). true ∷ false ∷ false ∷ true ∷ (l ++ (bits_of_updn updn ++ []))) is_session
+      ∙ ap (λ (l : List Bool). true ∷ false ∷ false ∷ true ∷ slice_index_or bits 4 false ∷ slice_index_or bits 5 false ∷ (l ++ [])) is_updn));
 }

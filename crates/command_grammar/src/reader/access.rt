@@ -1,19 +1,22 @@
 //! The access commands whose fields have fixed places, read at once.
-ghost use Rattle.std.specs.Prelude.{◌≡◌, ◌<◌, ◌++◌, true, length, IfSome};
+ghost use Rattle.std.specs.Prelude.{◌≡◌, ◌*◌, ◌<◌, ◌≤◌, ◌++◌, true, length, take, IfSome};
+ghost use Rattle.std.specs.List.{AllByRecursion};
+ghost use Rattle.bit_strings.specs.Numbers.{value_of};
+ghost use Rattle.bit_strings.specs.Words.{bits_of_words};
 ghost use Rattle.bit_strings.specs.Ebv.{ebv_of};
 ghost use Rattle.gen2_crc.specs.Crc.{crc16_of};
-ghost use Rattle.command_grammar.specs.Commands.{IsFinishAnswer, bits_of_bank};
+ghost use Rattle.command_grammar.specs.Commands.{IsFinishAnswer, IsWord, bits_of_bank};
 
 use crate::choices::bank_of;
 use crate::commands::Command;
 use crate::reader::fields::{count_of, payload_of, pointer_of};
 use crate::refusal::CommandRefusal;
 use bit_strings::{Pointer, value_of_bits, word_of};
-use command_fields::Bank;
+use command_fields::{Bank, BlockWords};
 use gen2_crc::crc16_of_bits;
 
 /// Puts the access command (6.3.2.11.3) that these bits are in place of another answer, and gives whether they are one, but
-/// for a Kill, a BlockWrite and pointers of more than one block. Else the answer is as it was.
+/// for pointers of more than one block. Else the answer is as it was.
 pub(crate) fn decode_access_to(bits: &[bool], answer: &mut Result<Command, CommandRefusal>) -> bool
     ensures { result ≡ true → IsFinishAnswer answer.new bits.now }
 {
@@ -101,8 +104,68 @@ pub(crate) fn decode_access_to(bits: &[bool], answer: &mut Result<Command, Comma
             });
             true
         }
+        (0b1100_0100, 35) => {
+            let (first, behind) = fields.split_at(16);
+            let (kill_bits, last) = behind.split_at(3);
+            if value_of_bits(kill_bits) != 0 {
+                return false;
+            }
+            let covered = word_of(first);
+            let rn = word_of(last);
+            *answer = Ok(Command::Kill { covered, rn });
+            true
+        }
+        (0b1100_0111, _) => decode_block_write_to(message, answer),
         _ => false,
     }
+}
+
+/// Puts the BlockWrite (6.3.2.11.3.7) that a message with its code is in place of another answer, and gives whether it is one,
+/// but for a pointer of more than one block. Else the answer is as it was.
+fn decode_block_write_to(message: &[bool], answer: &mut Result<Command, CommandRefusal>) -> bool
+    requires some { 8 ≤ length message.now }
+    requires code { value_of (take 8 message.now) ≡ 199 }
+    ensures { result ≡ true → IsFinishAnswer answer.new (message.now ++ crc16_of message.now) }
+{
+    let (_, fields) = message.split_at(8);
+    if fields.len() < 34 {
+        return false;
+    }
+    let (first, behind) = fields.split_at(10);
+    let Some(place) = place_of(first) else {
+        return false;
+    };
+    let (number, data) = behind.split_at(8);
+    let count = value_of_bits(number) as usize;
+    if count == 0 || data.len() != 16 * count + 16 {
+        return false;
+    }
+    let (written, last) = data.split_at(16 * count);
+    let words = words_of(written, count);
+    let rn = word_of(last);
+    *answer = Ok(Command::BlockWrite {
+        bank: place.0,
+        pointer: place.1,
+        words,
+        rn,
+    });
+    true
+}
+
+/// The words, `count` of them, that bits are.
+fn words_of(bits: &[bool], count: usize) -> BlockWords
+    requires some { 1 ≤ count }
+    requires few { count ≤ 255 }
+    requires whole { length bits.now ≡ 16 * count }
+    ensures spelled { bits_of_words result ≡ bits.now }
+    ensures count { length result ≡ count }
+    ensures words { AllByRecursion IsWord result }
+{
+    let mut words = BlockWords::first(word_of(&bits[..16]));
+    for at in 1..count {
+        words.push_reserved(word_of(&bits[16 * at..16 * at + 16]));
+    }
+    words
 }
 
 /// The bits before the CRC-16 with which these end (6.3.1.5); none where they end with no CRC-16 of the bits before.
@@ -121,7 +184,7 @@ fn message_of(bits: &[bool]) -> Option<&[bool]>
 }
 
 /// The bank and the pointer that ten bits are, the pointer in one block (Annex A); none where another block follows.
-#[inline]
+#[inline(always)]
 fn place_of(bits: &[bool]) -> Option<(Bank, Pointer)>
     requires { length bits.now ≡ 10 }
     ensures spelled { IfSome result (λ place. bits.now ≡ bits_of_bank place.0 ++ ebv_of place.1) }

@@ -31,7 +31,7 @@ impl Model for Framer {
 }
 
 impl Framer {
-    /// StateStandsFor for no bits.
+    /// Stands for no bits.
     pub fn new() -> Framer
         ensures { FramerStandsFor result [] }
     {
@@ -41,8 +41,7 @@ impl Framer {
         }
     }
 
-    /// StateStandsFor for one bit more, and says what the bits now are. After a refusal each push answers the
-    /// same.
+    /// Takes one bit more, and says what the bits now are. After a refusal each push answers the same.
     pub fn push(&mut self, bit: bool) -> Pushed
         ensures stands { (bits : List Bool) → FramerStandsFor self.old bits → FramerStandsFor self.new (bits ++ bit ∷ []) }
         ensures judges { (bits : List Bool) → FramerStandsFor self.old bits → Judges result (bits ++ bit ∷ []) }

@@ -42,7 +42,7 @@ pub(crate) struct State {
 }
 
 impl State {
-    /// StateStandsFor for no bits.
+    /// Stands for no bits.
     pub(crate) fn new() -> State
         ensures stands { StateStandsFor result [] }
         ensures sound { IsSoundPosition result.position result.fields }
@@ -57,7 +57,7 @@ impl State {
         }
     }
 
-    /// StateStandsFor for one bit more, or says why no command goes on with it.
+    /// Takes one bit more, or says why no command goes on with it.
     #[inline(always)]
     pub(crate) fn take(&mut self, bit: bool) -> Option<Reason>
         requires { IsOpen self.old None }
@@ -70,8 +70,8 @@ impl State {
         self.take_edge(bit)
     }
 
-    /// StateStandsFor for the bits more with which these begin inside a field, as most bits are: gives how many. The
-    /// bit behind them isn't taken.
+    /// Takes the bits with which these begin inside a field, as most bits are, and gives how many. The bit behind them
+    /// isn't taken.
     #[inline(always)]
     pub(crate) fn take_run(&mut self, bits: &[bool]) -> usize
         requires { IsOpen self.old None }
@@ -96,8 +96,7 @@ impl State {
         }
     }
 
-    /// StateStandsFor for one bit more, of those that `take_run` doesn't take, or says why no command goes on with
-    /// it.
+    /// Takes one bit more, of those that `take_run` doesn't take, or says why no command goes on with it.
     #[inline(never)]
     pub(crate) fn take_edge(&mut self, bit: bool) -> Option<Reason>
         requires open { IsOpen self.old None }

@@ -27,8 +27,8 @@ impl AnyTag {
         match tag.level {
             Level::Opened => unanswered(tag.tag(), out),
             Level::Secured => {
-                let reply = tag.body.lock(payload);
-                tag.answer_extended(&reply, out)
+                let change = tag.body.lock(payload);
+                tag.answer_change(change, out)
             }
         }
     }

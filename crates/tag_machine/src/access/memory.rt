@@ -10,7 +10,6 @@ use crate::steps::Steps;
 use crate::tag::Tag;
 use bit_strings::{Bits, Count1, Pointer};
 use command_grammar::{Bank, BlockWords};
-use reply_grammar::Reply;
 use std::sync::ledger::Ledger;
 
 impl AnyTag {
@@ -28,12 +27,7 @@ impl AnyTag {
         ensures { GivesOutcome (read bank pointer count rn (tag_value_of self).state (tag_value_of self).body) result out.old out.new }
     {
         match self.heeding(rn, None, out) {
-            Ok(tag) => {
-                let mut reply = Reply::Header;
-                tag.body
-                    .read_to(tag.level, bank, pointer, count, &mut reply);
-                tag.answer(&reply, out)
-            }
+            Ok(tag) => tag.answer_read(bank, pointer, count, out),
             Err(heard) => heard,
         }
     }
@@ -59,8 +53,8 @@ impl AnyTag {
             Ok(found) => found,
             Err(heard) => return heard,
         };
-        let reply = tag.body.write(tag.level, bank, pointer, word);
-        tag.answer_extended(&reply, out)
+        let change = tag.body.write(tag.level, bank, pointer, word);
+        tag.answer_change(change, out)
     }
 
     /// BlockWrite, in each state.
@@ -78,8 +72,8 @@ impl AnyTag {
     {
         match self.heeding(rn, None, out) {
             Ok(mut tag) => {
-                let reply = tag.body.block_write(tag.level, bank, pointer, words);
-                tag.answer_extended(&reply, out)
+                let change = tag.body.block_write(tag.level, bank, pointer, words);
+                tag.answer_change(change, out)
             }
             Err(heard) => heard,
         }
@@ -100,8 +94,8 @@ impl AnyTag {
     {
         match self.heeding(rn, None, out) {
             Ok(mut tag) => {
-                let reply = tag.body.block_erase(tag.level, bank, pointer, count);
-                tag.answer_extended(&reply, out)
+                let change = tag.body.block_erase(tag.level, bank, pointer, count);
+                tag.answer_change(change, out)
             }
             Err(heard) => heard,
         }

@@ -8,13 +8,12 @@ ghost use Rattle.reply_grammar.specs.Table.{reply_room};
 use super::rules::TagWithHandle;
 use crate::abilities::WithHandle;
 use crate::any_tag::{AnyTag, Heard};
-use crate::moves::answer_extended;
+use crate::moves::{answer_error, answer_header};
 use crate::states::{Half, Held, Killed, Password};
 use crate::steps::Steps;
 use crate::tag::Tag;
 use bit_strings::Bits;
 use lock_rules::{ErrorCode, Level};
-use reply_grammar::Reply;
 use std::sync::ledger::Ledger;
 
 /// The password whose halves these are.
@@ -31,12 +30,11 @@ impl TagWithHandle {
         ensures { GivesOutcome (keep_half self.level password value self.held self.body) result out.old out.new }
     {
         let TagWithHandle { level, held, body } = self;
-        let handle = held.handle;
         let held = Held {
             half: Some(Half { password, value }),
             ..held
         };
-        TagWithHandle { level, held, body }.answer(&Reply::Handle(handle), out)
+        TagWithHandle { level, held, body }.answer_handle(out)
     }
 
     /// What both halves of a Kill give.
@@ -49,8 +47,8 @@ impl TagWithHandle {
         let handle = held.handle;
         if own == 0 {
             let held = Held { half: None, ..held };
-            let reply = Reply::Error(ErrorCode::Other.code());
-            return TagWithHandle { level, held, body }.answer_extended(&reply, out);
+            let tag = TagWithHandle { level, held, body };
+            return answer_error(tag.tag(), ErrorCode::Other, handle, out);
         }
         if own != password {
             return body.go_back(held.session, held.q, out);
@@ -59,7 +57,7 @@ impl TagWithHandle {
             state: Killed,
             body,
         };
-        answer_extended(AnyTag::Killed(tag), &Reply::Header, handle, out)
+        answer_header(AnyTag::Killed(tag), handle, out)
     }
 
     /// What both halves of an Access give.
@@ -75,10 +73,9 @@ impl TagWithHandle {
         if body.parts.memory.access_word() != password {
             return body.go_back(held.session, held.q, out);
         }
-        let handle = held.handle;
         let held = Held { half: None, ..held };
         let level = Level::Secured;
-        TagWithHandle { level, held, body }.answer(&Reply::Handle(handle), out)
+        TagWithHandle { level, held, body }.answer_handle(out)
     }
 }
 

@@ -8,13 +8,12 @@ use super::rules::TagWithHandle;
 use crate::abilities::{InTurn, Present};
 use crate::any_tag::{AnyTag, Heard};
 use crate::body::Body;
-use crate::moves::{answer, unanswered};
+use crate::moves::{answer_handle, unanswered};
 use crate::states::Held;
 use crate::steps::Steps;
 use crate::tag::Tag;
 use bit_strings::{Bits, QValue, Session};
 use lock_rules::Level;
-use reply_grammar::Reply;
 use std::sync::ledger::Ledger;
 
 impl Body {
@@ -38,7 +37,7 @@ impl Body {
             half: None,
         };
         let tag = TagWithHandle { level, held, body };
-        answer(tag.tag(), &Reply::Handle(handle), 0, out)
+        answer_handle(tag.tag(), handle, out)
     }
 }
 
@@ -62,7 +61,7 @@ impl TagWithHandle {
             ..held
         };
         let tag = TagWithHandle { level, held, body };
-        answer(tag.tag(), &Reply::Handle(cover), 0, out)
+        answer_handle(tag.tag(), cover, out)
     }
 }
 

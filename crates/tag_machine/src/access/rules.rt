@@ -4,21 +4,22 @@ ghost use Rattle.std.specs.Prelude.{◌≡◌, ◌≤◌, ℕ, IfOk, IfErr, OnOk
 ghost use Rattle.lock_rules.specs.declared.terms.Level.{Level};
 ghost use Rattle.tag_machine.specs.declared.states.Held.{Held};
 ghost use Rattle.tag_machine.specs.TagValue.{BodyValue};
-ghost use Rattle.reply_grammar.specs.Table.{CanBeSent, reply_room};
-ghost use Rattle.tag_machine.specs.Answers.{Outcome, plain_answer, extended_answer, HasFewWords};
-ghost use Rattle.tag_machine.specs.Access.{held_state, outcome_where_heeded, in_access, uncover, unless_ended};
+ghost use Rattle.reply_grammar.specs.Table.{reply_room};
+ghost use Rattle.reply_grammar.specs.declared.expected.Reply.TheVariants.{Handle};
+ghost use Rattle.tag_machine.specs.Answers.{Outcome, plain_answer, extended_answer};
+ghost use Rattle.tag_machine.specs.Access.{change_answer, held_state, outcome_where_heeded, in_access, read_outcome, uncover, unless_ended};
 ghost use Rattle.tag_machine.specs.Draws.{back};
 ghost use Rattle.tag_machine.specs.Hearing.{GivesOutcome, tag_value_of};
 
 use crate::abilities::Present;
-use crate::any_tag::{AnyTag, Heard};
+use crate::any_tag::{Answered, AnyTag, Heard};
 use crate::body::Body;
-use crate::moves::{answer, answer_extended, unanswered};
+use crate::moves::{answer_error, answer_handle, answer_header, unanswered};
 use crate::states::{Held, Opened, Password, Secured};
 use crate::tag::Tag;
-use bit_strings::{Bits, xor16};
-use lock_rules::Level;
-use reply_grammar::Reply;
+use bit_strings::{Bits, Pointer, xor16};
+use command_grammar::Bank;
+use lock_rules::{ErrorCode, Level};
 
 /// A tag in open or secured. What it permits goes by the level.
 #[derive(Drop)]
@@ -56,26 +57,39 @@ impl TagWithHandle {
         }
     }
 
-    /// An answer with the preamble of the Query's TRext, which carries the handle; the tag stays as it is.
-    pub fn answer(self, reply: &Reply, out: &mut Bits) -> Heard
-        requires room { reply_room ≤ out.old.capacity }
-        requires sendable { CanBeSent reply.now }
-        requires few { HasFewWords reply.now }
-        ensures { GivesOutcome (plain_answer (held_state self.level self.held) self.body reply.now self.held.handle) result out.old out.new }
+    /// What a Read answers, with the preamble of the Query's TRext: the words, or an error. The tag stays as it is.
+    pub fn answer_read(self, bank: Bank, pointer: Pointer, count: u8, out: &mut Bits) -> Heard
+        requires { reply_room ≤ out.old.capacity }
+        ensures { GivesOutcome (read_outcome bank pointer count self.level self.held self.body) result out.old out.new }
     {
-        let handle = self.held.handle;
-        answer(self.tag(), reply, handle, out)
+        self.body
+            .encode_read(self.level, bank, pointer, count, self.held.handle, out);
+        Heard {
+            tag: self.tag(),
+            answered: Answered::Plain,
+        }
     }
 
-    /// The same with the extended preamble.
-    pub fn answer_extended(self, reply: &Reply, out: &mut Bits) -> Heard
-        requires room { reply_room ≤ out.old.capacity }
-        requires sendable { CanBeSent reply.now }
-        requires few { HasFewWords reply.now }
-        ensures { GivesOutcome (extended_answer (held_state self.level self.held) self.body reply.now self.held.handle) result out.old out.new }
+    /// An answer that is the handle alone, with the same preamble.
+    pub fn answer_handle(self, out: &mut Bits) -> Heard
+        requires { reply_room ≤ out.old.capacity }
+        ensures { GivesOutcome (plain_answer (held_state self.level self.held) self.body (Handle self.held.handle) self.held.handle) result out.old out.new }
     {
         let handle = self.held.handle;
-        answer_extended(self.tag(), reply, handle, out)
+        answer_handle(self.tag(), handle, out)
+    }
+
+    /// An answer with the extended preamble, which carries the handle: the header where a change was made, or the error by which it
+    /// was refused.
+    pub fn answer_change(self, change: Result<(), ErrorCode>, out: &mut Bits) -> Heard
+        requires { reply_room ≤ out.old.capacity }
+        ensures { GivesOutcome (extended_answer (held_state self.level self.held) self.body (change_answer change) self.held.handle) result out.old out.new }
+    {
+        let handle = self.held.handle;
+        match change {
+            Ok(()) => answer_header(self.tag(), handle, out),
+            Err(code) => answer_error(self.tag(), code, handle, out),
+        }
     }
 
     /// The tag where it heeds a command with this number, which brings a half of a password or none; else what comes of the command:

@@ -14,7 +14,7 @@ use command_grammar::UpDn;
 use std::sync::ledger::Ledger;
 
 /// Q after a QueryAdjust: it stays at 15 on up and at 0 on down.
-pub fn adjusted(updn: UpDn, q: QValue) -> QValue
+pub(crate) fn adjusted(updn: UpDn, q: QValue) -> QValue
     ensures { result ≡ q_after_adjust updn q }
 {
     let number = q.get();

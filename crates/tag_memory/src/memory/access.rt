@@ -102,8 +102,8 @@ impl Memory {
         }
     }
 
-    /// The words that a Read answers, as [`Memory::read`] says.
-    fn readable(
+    /// The words that a Read answers, as [`Memory::read`] says, where they stand in their bank.
+    pub fn readable(
         &self,
         bank: Bank,
         pointer: Pointer,

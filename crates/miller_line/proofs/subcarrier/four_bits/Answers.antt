@@ -1,46 +1,36 @@
--- Where the levels are four blocks, the bits read from their halves are those of the blocks.
-use Rattle.std.proofs.Common.{◌≡◌, ◌∙◌, ◌*◌, ◌-◌, ◌∷◌, [], ℕ, Bool, List, inl, inr, length, take, drop, ap, sym, refl}
-use Rattle.std.proofs.lemmas.Bool.{false≢true}
-use Rattle.line_code.specs.Table.{Context}
+-- Equal numbers are equal levels, and where the levels are four blocks, the bits found by their number are those of the blocks.
+use Rattle.std.proofs.Common.{◌≡◌, ◌∙◌, ◌*◌, ◌-◌, ◌∷◌, [], false, get_or, ap, sym}
+use Rattle.bit_strings.specs.Numbers.{field_of, value_of}
+use Rattle.bit_strings.specs.laws.Numbers.{field_of-value_of, same_from_value}
 use Rattle.line_code.specs.Stream.{blocks}
-use Rattle.miller_line.specs.Miller.{miller, IsOneOfThree, start_phase, miller_block, miller_next}
+use Rattle.line_code.specs.States.{context_after}
+use Rattle.miller_line.specs.Miller.{miller, start_phase}
 use Rattle.miller_line.specs.SymbolContext.{context}
+use Rattle.miller_line.specs.FourSymbols.{symbols}
+use Rattle.miller_line.proofs.FourSymbols.{from_start, length-symbols, last_level_of}
 use Rattle.miller_line.proofs.subcarrier.four_bits.Goals as goal
 
--- the four blocks, one by one
-record Parts (m : ℕ) (c : Context) (first second third fourth : Bool) (levels : List Bool) : Type 0 where
-  first_is : take (2 * m) levels ≡ miller_block m c first
-  second_is : take (2 * (2 * m) - 2 * m) (drop (2 * m) levels) ≡ miller_block m (miller_next c first) second
-  third_is : take (3 * (2 * m) - 2 * (2 * m)) (drop (2 * (2 * m)) levels) ≡ miller_block m (miller_next (miller_next c first) second) third
-  fourth_is : take (length levels - 3 * (2 * m)) (drop (3 * (2 * m)) levels) ≡ miller_block m (miller_next (miller_next (miller_next c first) second) third) fourth
-
-parts : (m : ℕ) (c : Context) (first second third fourth : Bool) (levels : List Bool) → IsOneOfThree m
-    → levels ≡ blocks (miller m) c (first ∷ second ∷ third ∷ fourth ∷ []) → Parts m c first second third fourth levels
-parts m c first second third fourth levels (inl two) e =
-    record { first_is = rw (e, two) refl; second_is = rw (e, two) refl; third_is = rw (e, two) refl; fourth_is = rw (e, two) refl }
-parts m c first second third fourth levels (inr (inl four)) e =
-    record { first_is = rw (e, four) refl; second_is = rw (e, four) refl; third_is = rw (e, four) refl; fourth_is = rw (e, four) refl }
-parts m c first second third fourth levels (inr (inr eight)) e =
-    record { first_is = rw (e, eight) refl; second_is = rw (e, eight) refl; third_is = rw (e, eight) refl; fourth_is = rw (e, eight) refl }
-
-pub returns-else-same_levels-clause-none : goal.returns-else-same_levels-clause-none
-returns-else-same_levels-clause-none c = λ first second third fourth e.
+pub returns-then-word-word_of_symbols-clause-some : goal.returns-then-word-word_of_symbols-clause-some
+returns-then-word-word_of_symbols-clause-some c =
     let m = c.args.m in
-    let start = context c.args.before in
-    let one = c.bit_of_symbol-first.result in
-    let two = c.bit_of_symbol-second.result in
-    let three = c.bit_of_symbol-third.result in
-    let four = c.bit_of_symbol-fourth.result in
-    let p = parts m start first second third fourth c.args.levels.now c.requires.factor e in
-    let at_two = miller_next start first in
-    let at_three = miller_next at_two second in
-    let at_four = miller_next at_three third in
-    let one_is : one ≡ first = c.bit_of_symbol-first.ensures (start_phase start first) first p.first_is in
-    let two_is : two ≡ second = c.bit_of_symbol-second.ensures (start_phase at_two second) second p.second_is in
-    let three_is : three ≡ third = c.bit_of_symbol-third.ensures (start_phase at_three third) third p.third_is in
-    let four_is : four ≡ fourth = c.bit_of_symbol-fourth.ensures (start_phase at_four fourth) fourth p.fourth_is in
-    let bits : one ∷ two ∷ three ∷ four ∷ [] ≡ first ∷ second ∷ third ∷ fourth ∷ [] =
-    ap (λ b. b ∷ two ∷ three ∷ four ∷ []) one_is ∙ ap (λ b. first ∷ b ∷ three ∷ four ∷ []) two_is
-    ∙ ap (λ b. first ∷ second ∷ b ∷ four ∷ []) three_is ∙ ap (λ b. first ∷ second ∷ third ∷ b ∷ []) four_is in
-    let row = c.four_blocks.ensures.levels ∙ ap (blocks (miller m) start) (c.number_of-number.ensures ∙ bits) in
-    false≢true (c.if-same_levels.ensures.1 (e ∙ sym row))
+    let before = context c.args.before in
+    let number = c.number_of_word-number.result in
+    let start = c.start_of_four-start.result in
+    let same = sym c.word_of_levels-word.ensures ∙ c.if-word-word_of_symbols.true ∙ c.word_of_symbols.ensures in
+    let levels_are = same_from_value c.args.levels.now (symbols m start (field_of number 4)) (c.requires.whole ∙ sym (length-symbols m start number c.requires.factor)) same in
+    let blocks_are = levels_are ∙ c.start_of_four-start.ensures m in
+    let bits = sym c.last_four.ensures in
+    let last_is = last_level_of m c.args.levels.now c.word_of_levels-word.result c.requires.factor c.requires.whole c.word_of_levels-word.ensures ∙ ap (λ ls. get_or ls (8 * m - 1) false) blocks_are in
+    (blocks_are ∙ ap (λ bs. blocks (miller m) before bs) bits, c.behind_four.ensures m before c.requires.factor last_is ∙ ap (λ bs. context_after (miller m) before bs) bits)
+
+pub returns-else-word-word_of_symbols-clause-none : goal.returns-else-word-word_of_symbols-clause-none
+returns-else-word-word_of_symbols-clause-none c = λ first second third fourth e.
+    let m = c.args.m in
+    let before = context c.args.before in
+    let bits = first ∷ second ∷ third ∷ fourth ∷ [] in
+    let number = value_of bits in
+    let number_bits : field_of number 4 ≡ bits = field_of-value_of bits in
+    let word_is = c.word_of_levels-word.ensures ∙ ap value_of (e ∙ sym (from_start m before first (second ∷ third ∷ fourth ∷ []))) in
+    let found = c.number_of_word-number.ensures (start_phase before first) number (word_is ∙ ap (λ bs. value_of (symbols m (start_phase before first) bs)) (sym number_bits)) ∙ number_bits in
+    let row = c.word_of_symbols.ensures ∙ ap value_of (c.start_of_four-start.ensures m ∙ ap (λ bs. blocks (miller m) before bs) found) in
+    c.if-word-word_of_symbols.false (c.word_of_levels-word.ensures ∙ ap value_of e ∙ sym row)

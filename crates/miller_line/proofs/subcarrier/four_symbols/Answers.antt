@@ -1,16 +1,11 @@
 -- The rows of each table are the blocks of four bits, in the order of their numbers.
-use Rattle.std.proofs.Common.{◌≡◌, ◌∙◌, ℕ, Bool, true, List, [], ap, sym, refl, rules}
+use Rattle.std.proofs.Common.{◌≡◌, ◌∙◌, List, Bool, [], ap, sym, refl, rules}
 use Rattle.std.specs.List.{flat_map}
-use Rattle.line_code.specs.Stream.{blocks}
 use Rattle.line_code.specs.laws.Rows.{row_at}
 use Rattle.bit_strings.specs.Numbers.{field_of}
-use Rattle.miller_line.specs.Miller.{miller}
+use Rattle.miller_line.specs.FourSymbols.{symbols}
 use Rattle.miller_line.specs.declared.subcarrier.TheConstants.{FOUR_SYMBOLS_2, FOUR_SYMBOLS_4, FOUR_SYMBOLS_8}
 use Rattle.miller_line.proofs.subcarrier.four_symbols.Goals as goal
-
--- the blocks of four bits, by the phase at the start of the first
-abbrev symbols : ℕ → Bool → List Bool → List Bool
-symbols m start bits = blocks (miller m) (record { before = true; phase = start }) bits
 
 -- the levels of a row that has them by halves
 abbrev halves : List (List Bool) → List Bool

@@ -1,13 +1,32 @@
-use Rattle.std.proofs.Common.{◌≤◌, length}
+use Rattle.std.proofs.Common.{rules, ◌≡◌, ◌++◌, length, ap, arith, length-append}
+use Rattle.pie_line.specs.IntervalList.{IntervalList}
+use Rattle.pie_line.specs.Pie.{symbols_with}
 use Rattle.pie_line.proofs.Bounds.{frame-bounded}
 use Rattle.pie_line.proofs.Writing.{written-frame}
+use Rattle.pie_line.proofs.SymbolLanes.{length-symbols_with}
 use Rattle.pie_line.proofs.encoder.encode_frame.Goals as goal
+
+pub returns-clause-wave : goal.returns-clause-wave
+returns-clause-wave c = search rules
 
 pub returns-clause-frame : goal.returns-clause-frame
 returns-clause-frame c =
-    let loop = c.loop-bit in
-    let end : length c.args.bits.now.items ≤ loop.bit-index = rw (← c.as_slice-bit-items.ensures.value) c.loop-bit-test.false in
-    written-frame c.args.link.now c.args.lead c.args.bits.now.items loop.out.items loop.bit-index c.put_header.ensures.legal loop.invariant.0 end
+    written-frame c.args.link.now c.args.lead c.args.bits.now.items c.put_symbols.new.out.items c.put_header.ensures.legal (returns-clause-wave c)
 
 pub returns-clause-each : goal.returns-clause-each
 returns-clause-each c = frame-bounded _ _ _ (returns-clause-frame c)
+
+pub returns-clause-count : goal.returns-clause-count
+returns-clause-count c =
+    let header = c.put_header.new.out.items in
+    let bits = c.as_slice.result.now in
+    let symbols = symbols_with c.highs-zero.result.0 c.highs-zero.result.1 c.pw.result bits in
+    let written : c.put_symbols.new.out.items ≡ header ++ symbols = ap (λ (list : IntervalList). list.items) c.put_symbols.ensures in
+    omega (
+      arith,
+      ap length written,
+      length-append header symbols,
+      length-symbols_with c.highs-zero.result.0 c.highs-zero.result.1 c.pw.result bits,
+      c.put_header.ensures.written,
+      ap length c.as_slice.ensures.value,
+    )

@@ -39,4 +39,4 @@ returns-else-is_error-2 c =
 
 pub returns-else-is_error-3 : goal.returns-else-is_error-3
 returns-else-is_error-3 c =
-    header_passed c.args.expect.now c.args.bits.now.items _ c.in-Header.is c.requires (eqb-false _ 41 (sym c.is_error-in-Header.ensures ∙ c.if-is_error-3.false))
+    rw c.put_header.ensures (header_passed c.args.expect.now c.args.bits.now.items _ c.in-Header.is c.requires (eqb-false _ 41 (sym c.is_error-in-Header.ensures ∙ c.if-is_error-3.false)))

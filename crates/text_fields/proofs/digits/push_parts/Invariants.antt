@@ -4,9 +4,9 @@ use Rattle.text_fields.specs.Binary.{binary_digit}
 use Rattle.text_fields.proofs.digits.push_parts.Given as goal
 
 -- the digits that are still to be written make the text whole
-abbrev pub invariant-loop-rest : goal.invariant-loop-rest
-invariant-loop-rest l =
+abbrev pub invariant-loop-part : goal.invariant-loop-part
+invariant-loop-part l =
     string_bytes l.text ++ map binary_digit l.rest ≡ string_bytes l.initial.text ++ map binary_digit l.bits
 
-abbrev pub decreases-loop-rest : goal.decreases-loop-rest
-decreases-loop-rest l = length l.rest
+abbrev pub decreases-loop-part : goal.decreases-loop-part
+decreases-loop-part l = length l.rest

@@ -1,4 +1,4 @@
-use Rattle.std.proofs.Common.{Some, None, ap, arith, get_or, set, sym, ◌∙◌}
+use Rattle.std.proofs.Common.{◌<◌, Some, None, ap, arith, length, set, sym, ◌∙◌}
 use Rattle.std.proofs.lemmas.Grind.{get_or_default_zero}
 use Rattle.waiting_tags.proofs.KeptPlaces.{linked_none, linked_next, linked_all}
 use Rattle.waiting_tags.proofs.tag_places.link_all.Goals as goal
@@ -8,17 +8,19 @@ loop-at-init c = linked_none c.args.window.from c.args.window.until c.args.place
 
 pub loop-at-preserved : goal.loop-at-preserved
 loop-at-preserved c =
+    let within : c.loop-at.at < length c.args.places.now = omega (arith, c.loop-at-test.true, c.len-at-end.ensures) in
     linked_next c.args.window.from c.args.window.until c.args.places.now c.loop-at.at c.loop-at.wheel
     (record {
-      place = get_or c.args.places.now c.loop-at.at 0;
+      place = c.place-own.result;
       after = c.stand.new.wheel;
       below = c.loop-at.invariant;
-      within = c.loop-at-test.true;
+      within = within;
       few = omega (arith, c.requires.last);
-      read = sym (get_or_default_zero c.args.places.now c.loop-at.at _ c.loop-at-test.true);
-      inside = λ least most. c.stand.ensures.inside least most ∙ ap (λ n. set c.loop-at.wheel n (Some (get_or c.args.places.now c.loop-at.at 0))) c.from_index.ensures;
+      read = c.place-own.ensures ∙ sym (get_or_default_zero c.args.places.now c.loop-at.at c.place-own.result within);
+      inside = λ least most. c.stand.ensures.inside least most ∙ ap (λ n. set c.loop-at.wheel n (Some c.place-own.result)) c.from_index.ensures;
       outside = λ out. c.stand.ensures.outside out ∙ ap (λ n. set c.loop-at.wheel n None) c.from_index.ensures;
     })
 
 pub returns-clause-same : goal.returns-clause-same
-returns-clause-same c = linked_all c.args.window.from c.args.window.until c.args.places.now c.loop-at.at c.loop-at.wheel c.loop-at.invariant c.loop-at-test.false
+returns-clause-same c =
+    linked_all c.args.window.from c.args.window.until c.args.places.now c.loop-at.at c.loop-at.wheel c.loop-at.invariant (omega (arith, c.loop-at-test.false, c.len-at-end.ensures))

@@ -5,7 +5,7 @@ use Rattle.air_model.specs.Past.{Start, Item, Record, next_record, past_behind_c
 use Rattle.air_model.specs.laws.ReceptionLaws.{silent_reception}
 use Rattle.air_model.specs.declared.got.Got.TheVariants.{Silence}
 use Rattle.air_world.proofs.Passing.{listening, passes-then}
-use Rattle.air_world.proofs.Slots.{asked-reception, run-kept, room-behind, ack-with, ack-without, stands-unlisted, stands-listed, stands-same, stands-then, whole-listed, other-unlisted}
+use Rattle.air_world.proofs.Slots.{asked-reception, run-kept, room-behind, ack-alone, ack-with, ack-without, stands-unlisted, stands-listed, stands-same, stands-then, whole-listed, other-unlisted}
 use Rattle.reply_wire.specs.Heard.{pair_received}
 use Rattle.air_world.specs.Playing.{IsAt, StandsAt}
 use Rattle.air_world.specs.Telling.{Passes, lines_behind}
@@ -85,10 +85,16 @@ operate-requires-clause-underway g c =
       room = room-behind r.start c.args.round c.args.slot (commands.Ack c.args.rn) r.past 129 r.room;
     }
 
-pub returns-in-Some : goal.returns-in-Some
-returns-in-Some g c = λ start past at.
-    let pair = heard g (goal.at.returns-in-Some g c).After-hear_epc start past at ∙ c.in-Some.is in
-    let stood = stands g (goal.at.returns-in-Some g c).After-tell_listed start past at pair in
+pub returns-then-is_empty : goal.returns-then-is_empty
+returns-then-is_empty g c = λ start past at.
+    let pair = heard g (goal.at.returns-then-is_empty g c).After-hear_epc start past at ∙ c.in-Some.is in
+    stands-same _ start _ _ _ _ (ack-alone start c.args.operations.now c.args.round c.args.slot c.args.rn past (c.in-Some.pc, c.in-Some.epc) pair (c.is_empty.ensures.0 c.if-is_empty.true))
+    (stands g (goal.at.returns-then-is_empty g c).After-tell_listed start past at pair)
+
+pub returns-else-is_empty : goal.returns-else-is_empty
+returns-else-is_empty g c = λ start past at.
+    let pair = heard g (goal.at.returns-else-is_empty g c).After-hear_epc start past at ∙ c.in-Some.is in
+    let stood = stands g (goal.at.returns-else-is_empty g c).After-tell_listed start past at pair in
     stands-same _ start _ _ _ _ (ack-with start c.args.operations.now c.args.round c.args.slot c.args.rn past (c.in-Some.pc, c.in-Some.epc) pair)
     (stands-then (listening g.R.Listener.hears g.R.Listener.failed _ _) _ _ _ (record { start = start; past = _; air = _; run = _ })
     stood.told (c.operate.ensures start _ stood.at))

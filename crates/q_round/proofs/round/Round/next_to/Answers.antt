@@ -16,7 +16,7 @@ returns-then-self-limit-clause-answer c = rw (← c.self.view_is) (λ spec outco
     }) (c.if-self-limit.true ∙ c.limit.ensures.value))
 
 pub returns-in-Some-clause-answer : goal.returns-in-Some-clause-answer
-returns-in-Some-clause-answer c = rw (← c.self.view_is, c.begin.ensures.value, c.session-session.ensures.value) (λ spec outcomes s on.
+returns-in-Some-clause-answer c = rw (← c.self.view_is, c.begin.ensures.value, c.put_query_adjust.ensures, c.session-session.ensures.value) (λ spec outcomes s on.
     stands-adjust _ spec outcomes c.args.outcome c.counting-frame.result (record {
       frame = c.in-Underway.frame;
       rule = c.rule-rule.result;

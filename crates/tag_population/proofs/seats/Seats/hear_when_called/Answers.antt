@@ -1,10 +1,11 @@
-use Rattle.std.proofs.Common.{sym, ap, subst, ◌∙◌, set}
+use Rattle.std.proofs.Common.{sym, ap, subst, ◌∙◌, set, List}
 use Rattle.tag_machine.specs.TagValue.{TagValue}
-use Rattle.tag_population.proofs.ToldTags.{GivenBack, at_inside, inside_given, given_at, legal_given, then_are, then_legal, then_told}
+use Rattle.tag_population.proofs.ToldTags.{GivenBack, at_inside, inside_given, given_at, legal_given, then_are, then_inside, told_legal, told_set}
 use Rattle.std.proofs.Common.{◌++◌}
 use Rattle.tag_machine.specs.Exchange.{outcome_unless, reply_of}
 use Rattle.tag_population.proofs.WordsKept.{outcome_words}
 use Rattle.tag_population.specs.Seated.{participation_in}
+use Rattle.tag_population.specs.Seats.{AreSeats}
 use Rattle.tag_population.proofs.seats.Seats.hear_when_called.Given.{Over}
 use Rattle.tag_population.proofs.seats.Seats.hear_when_called.Goals.{After-give_back}
 use Rattle.tag_population.proofs.seats.Seats.hear_when_called.Goals as goal
@@ -42,10 +43,17 @@ pub hear_when_called-requires-clause-legal : goal.hear_when_called-requires-clau
 hear_when_called-requires-clause-legal g c =
     legal_given (back g (goal.at.hear_when_called-requires-clause-legal g c).After-give_back) c.index_mut-seat.result.now c.index_mut-seat.result.now c.index_mut-seat.ensures.value
 
-pub invariant_of-self : goal.invariant_of-self
-invariant_of-self g c =
-    then_are (back g (goal.at.invariant_of-self g c).After-give_back) c.hear_when_called.new.seat c.index_mut-seat.result.now c.index_mut-seat.result.now c.index_mut-seat.ensures.value
-    (ap (λ (t : TagValue). t.body.words) c.hear_when_called.ensures.tag ∙ outcome_words c.args.misses c.args.command.now c.index_mut-seat.result.now) c.hear_when_called.ensures.legal
+pub tell-requires-clause-at : goal.tell-requires-clause-at
+tell-requires-clause-at g c =
+    let b : GivenBack = back g (goal.at.tell-requires-clause-at g c).After-give_back in
+    rw c.as_slice.ensures.value (then_inside b c.hear_when_called.new.seat)
+
+pub tell-requires-clause-are : goal.tell-requires-clause-are
+tell-requires-clause-are g c =
+    let b : GivenBack = back g (goal.at.tell-requires-clause-are g c).After-give_back in
+    subst (λ (l : List TagValue). AreSeats c.give_back.new.drawings l) (sym c.as_slice.ensures.value)
+    (then_are b c.hear_when_called.new.seat c.index_mut-seat.result.now c.index_mut-seat.result.now c.index_mut-seat.ensures.value
+    (ap (λ (t : TagValue). t.body.words) c.hear_when_called.ensures.tag ∙ outcome_words c.args.misses c.args.command.now c.index_mut-seat.result.now) c.hear_when_called.ensures.legal)
 
 pub returns-clause-took : goal.returns-clause-took
 returns-clause-took g c = λ first replies so_far.
@@ -56,16 +64,18 @@ returns-clause-took g c = λ first replies so_far.
 pub returns-clause-tag : goal.returns-clause-tag
 returns-clause-tag g c =
     let b : GivenBack = back g (goal.at.returns-clause-tag g c).After-give_back in
-    then_told b c.hear_when_called.new.seat
+    told_set b c.hear_when_called.new.seat c.tell.new.drawings c.as_slice.result.now c.as_slice.ensures.value c.tell.ensures.same
     ∙ ap (λ (t : TagValue). set b.tags b.number t)
     (c.hear_when_called.ensures.tag ∙ ap (λ (t : TagValue). (outcome_unless c.args.misses c.args.command.now t).tag) (c.index_mut-seat.ensures.value ∙ given_at b c.index_mut-seat.result.now))
 
 pub returns-clause-takes_part : goal.returns-clause-takes_part
 returns-clause-takes_part g c =
     let b : GivenBack = back g (goal.at.returns-clause-takes_part g c).After-give_back in
-    c.participation.ensures.value
+    c.participation-participation.ensures.value
     ∙ ap (λ (t : TagValue). participation_in t.state) c.hear_when_called.ensures.tag
     ∙ ap (λ (t : TagValue). participation_in (outcome_unless c.args.misses c.args.command.now t).tag.state) (c.index_mut-seat.ensures.value ∙ given_at b c.index_mut-seat.result.now)
 
 pub returns-clause-legal : goal.returns-clause-legal
-returns-clause-legal g c = then_legal (back g (goal.at.returns-clause-legal g c).After-give_back) c.hear_when_called.new.seat c.hear_when_called.ensures.legal
+returns-clause-legal g c =
+    let b : GivenBack = back g (goal.at.returns-clause-legal g c).After-give_back in
+    told_legal b c.hear_when_called.new.seat c.tell.new.drawings c.as_slice.result.now c.as_slice.ensures.value c.tell.ensures.same c.hear_when_called.ensures.legal

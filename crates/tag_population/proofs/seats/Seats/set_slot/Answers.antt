@@ -1,52 +1,50 @@
-use Rattle.std.proofs.Common.{sym, ap, ◌∙◌, set}
+use Rattle.std.proofs.Common.{sym, ◌∙◌}
+use Rattle.std.proofs.lemmas.List.{with_items_is}
+use Rattle.tag_machine.specs.Exchange.{AreLegalTags}
 use Rattle.tag_machine.specs.TagValue.{TagValue}
-use Rattle.tag_population.proofs.ToldTags.{GivenBack, at_inside, inside_given, given_at, then_are, then_legal, then_told}
-use Rattle.tag_population.specs.Seated.{with_slot}
+use Rattle.tag_population.proofs.ToldTags.{at_inside}
+use Rattle.tag_population.proofs.SlottedTags.{Slotted, slotted_are, slotted_long, slotted_told}
 use Rattle.tag_population.proofs.seats.Seats.set_slot.Given.{Over}
-use Rattle.tag_population.proofs.seats.Seats.set_slot.Goals.{After-give_back}
+use Rattle.tag_population.proofs.seats.Seats.set_slot.Goals.{After-write_slot}
 use Rattle.tag_population.proofs.seats.Seats.set_slot.Goals as goal
 
-abbrev back : (g : Over) (c : After-give_back g) → GivenBack
-back g c = record {
+abbrev slotted : (g : Over) (c : After-write_slot g) → Slotted
+slotted g c = record {
   drawings = c.self.inside.drawings;
   items = c.self.inside.seats.items;
   slice = c.as_mut_slice.result.now;
-  new = c.give_back.new.seats;
-  given = c.give_back.new.drawings;
+  new = c.write_slot.new.seats;
+  given = c.write_slot.new.drawings;
   tags = c.args.self.now;
   number = c.args.number;
   at = c.index-at.result;
-  len = c.self.inside.seats.len;
+  slot = c.args.slot;
   are = c.self.invariant;
   tags_is = c.self.view_is;
   at_is = c.index-at.ensures.value;
   below = c.requires.number;
+  small = c.requires.slot;
   slice_is = c.as_mut_slice.ensures.value;
-  new_is = c.give_back.ensures.seats;
-  given_is = c.give_back.ensures.drawings;
-  len_is = sym c.self.inside.seats.ok.0;
+  new_is = c.write_slot.ensures.seats;
+  given_is = c.write_slot.ensures.drawings;
 }
 
-pub give_back-requires-clause-at : goal.give_back-requires-clause-at
-give_back-requires-clause-at g c =
+pub write_slot-requires-clause-at : goal.write_slot-requires-clause-at
+write_slot-requires-clause-at g c =
     at_inside c.self.inside.drawings c.self.inside.seats.items c.as_mut_slice.result.now c.args.self.now c.index-at.result c.args.number c.self.view_is c.as_mut_slice.ensures.value
     c.index-at.ensures.value c.requires.number
 
-pub index_mut-requires : goal.index_mut-requires
-index_mut-requires g c = inside_given (back g (goal.at.index_mut-requires g c).After-give_back)
-
 pub invariant_of-self : goal.invariant_of-self
 invariant_of-self g c =
-    then_are (back g (goal.at.invariant_of-self g c).After-give_back) c.set_slot.new.self c.index_mut.result.now c.index_mut.result.now c.index_mut.ensures.value
-    (ap (λ (t : TagValue). t.body.words) c.set_slot.ensures.tag) c.set_slot.ensures.legal
+    let s = slotted g (goal.at.invariant_of-self g c).After-write_slot in
+    rw (with_items_is c.self.inside.seats c.write_slot.new.seats (slotted_long s ∙ sym c.self.inside.seats.ok.0)) (slotted_are s)
 
 pub returns-clause-tag : goal.returns-clause-tag
 returns-clause-tag g c =
-    let b : GivenBack = back g (goal.at.returns-clause-tag g c).After-give_back in
-    then_told b c.set_slot.new.self
-    ∙ ap (λ (t : TagValue). set b.tags b.number t)
-    (c.set_slot.ensures.tag
-    ∙ ap (λ (t : TagValue). let later : TagValue = record t { state = with_slot c.args.slot t.state } in later) (c.index_mut.ensures.value ∙ given_at b c.index_mut.result.now))
+    let s = slotted g (goal.at.returns-clause-tag g c).After-write_slot in
+    rw (with_items_is c.self.inside.seats c.write_slot.new.seats (slotted_long s ∙ sym c.self.inside.seats.ok.0)) (slotted_told s)
 
 pub returns-clause-legal : goal.returns-clause-legal
-returns-clause-legal g c = then_legal (back g (goal.at.returns-clause-legal g c).After-give_back) c.set_slot.new.self c.set_slot.ensures.legal
+returns-clause-legal g c =
+    let s = slotted g (goal.at.returns-clause-legal g c).After-write_slot in
+    rw (with_items_is c.self.inside.seats c.write_slot.new.seats (slotted_long s ∙ sym c.self.inside.seats.ok.0)) (slotted_are s).legal

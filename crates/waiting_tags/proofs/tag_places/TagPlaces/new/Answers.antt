@@ -3,7 +3,7 @@ use Rattle.waiting_tags.proofs.tag_places.TagPlaces.new.Goals as goal
 
 pub invariant_of-result : goal.invariant_of-result
 invariant_of-result c =
-    new_kept c.args.count c.in_ok-wheel.wheel c.in_ok-places.places.items c.requires (c.in_ok-places.ensures.items_if_clones_equal (λ y is. is)) c.in_ok-wheel.ensures
+    new_kept c.args.count c.in_ok-wheel.wheel c.in_ok-places.places c.requires c.in_ok-places.ensures c.in_ok-wheel.ensures
 
 pub returns : goal.returns
-returns c = new_stands c.args.count c.in_ok-places.places.items (c.in_ok-places.ensures.items_if_clones_equal (λ y is. is))
+returns c = new_stands c.args.count c.in_ok-places.places c.in_ok-places.ensures

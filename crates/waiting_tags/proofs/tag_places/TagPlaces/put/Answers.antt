@@ -1,11 +1,11 @@
 use Rattle.std.proofs.Common.{arith, Some}
 use Rattle.waiting_tags.proofs.KeptPlaces.{Going, going_stood, going_stands, stands_some}
-use Rattle.waiting_tags.proofs.tag_places.TagPlaces.put.Goals.{After-index_mut}
+use Rattle.waiting_tags.proofs.tag_places.TagPlaces.put.Goals.{After-put}
 use Rattle.waiting_tags.proofs.tag_places.TagPlaces.put.Goals as goal
 
-abbrev going : After-index_mut → Going
+abbrev going : After-put → Going
 going c = record {
-  before = record { from = c.self.inside.linked.from; until = c.self.inside.linked.until; wheel = c.self.inside.wheel; places = c.self.inside.places.items; kept = c.self.invariant };
+  before = record { from = c.self.inside.linked.from; until = c.self.inside.linked.until; wheel = c.self.inside.wheel; places = c.self.inside.places; kept = c.self.invariant };
   old = c.args.self.now;
   number = c.args.number;
   at = c.index-at.result;
@@ -19,10 +19,10 @@ going c = record {
 }
 
 pub invariant_of-self : goal.invariant_of-self
-invariant_of-self c = going_stood (going (goal.at.invariant_of-self c).After-index_mut) c.stand.new.wheel c.stand.ensures.inside c.stand.ensures.outside
+invariant_of-self c = rw c.put.ensures (going_stood (going (goal.at.invariant_of-self c).After-put) c.stand.new.wheel c.stand.ensures.inside c.stand.ensures.outside)
 
 pub returns-then-self-ne0 : goal.returns-then-self-ne0
-returns-then-self-ne0 c = going_stands (going (goal.at.returns-then-self-ne0 c).After-index_mut)
+returns-then-self-ne0 c = rw c.put.ensures (going_stands (going (goal.at.returns-then-self-ne0 c).After-put))
 
 pub returns-else-self-ne0 : goal.returns-else-self-ne0
-returns-else-self-ne0 c = going_stands (going (goal.at.returns-else-self-ne0 c).After-index_mut)
+returns-else-self-ne0 c = rw c.put.ensures (going_stands (going (goal.at.returns-else-self-ne0 c).After-put))

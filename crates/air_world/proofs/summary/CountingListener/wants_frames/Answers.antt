@@ -1,0 +1,6 @@
+use Rattle.air_world.specs.laws.CountingLaws.{counts-more, uncounted-frame}
+use Rattle.air_world.proofs.summary.CountingListener.wants_frames.Goals as goal
+
+pub returns : goal.returns
+returns c = λ is first lines line of counts.
+    counts-more lines first.summary c.args.self.now.summary c.args.self.now.summary line counts (λ fits. uncounted-frame c.args.self.now.summary line of)

@@ -1,6 +1,0 @@
-use Rattle.std.proofs.Common.{◌≡◌, ◌==◌, map, take}
-use Rattle.bit_strings.proofs.words.write_word.Given as goal
-
--- the places so far tell whether their digits are 1
-abbrev pub invariant-loop-at : goal.invariant-loop-at
-invariant-loop-at l = take l.at l.bits ≡ map (λ digit. digit == 1) (take l.at l.digits)

@@ -1,0 +1,16 @@
+use Rattle.std.proofs.Common.{[], arith}
+use Rattle.bit_strings.specs.laws.Numbers.{length-field_of}
+use Rattle.reply_grammar.specs.Table.{spelling}
+use Rattle.reply_grammar.proofs.Writing.{wrote, checked, room_left}
+use Rattle.reply_grammar.proofs.encode.encode_handle.Goals as goal
+
+pub put_check-requires : goal.put_check-requires
+put_check-requires c =
+    room_left c.put_u16_reserved.new.self _ _ 16 (wrote c.clear.new.self c.put_u16_reserved.new.self [] _ _ c.clear.ensures c.put_u16_reserved.ensures)
+    (omega (arith, length-field_of c.args.number 16, c.requires))
+
+pub returns : goal.returns
+unfolding spelling
+returns c =
+    let first = wrote c.clear.new.self c.put_u16_reserved.new.self [] _ _ c.clear.ensures c.put_u16_reserved.ensures in
+    checked c.put_u16_reserved.new.self c.put_check.new.out _ _ first c.put_check.ensures
