@@ -1,6 +1,6 @@
 -- 6.3.2.11.3 Access commands; Annex B and Annex C: what each of these commands does in each state. How an unfinished Kill or
 -- Access ends, and what becomes of a cover, is profile.
-use Rattle.std.specs.Prelude.{ℕ, ◌+◌, ◌*◌, ◌^◌, ◌==◌, nat_lt, Bool, true, false, List, [], ◌∷◌, length, Option, Some, None, Result, Ok, Err, bit_xor, if◌then◌else◌}
+use Rattle.std.specs.Prelude.{ℕ, ◌+◌, ◌*◌, ◌^◌, ◌==◌, Bool, true, false, List, [], ◌∷◌, Option, Some, None, Result, bit_xor, if◌then◌else◌}
 use Rattle.command_fields.specs.declared.choices.Bank.{Bank}
 use Rattle.lock_rules.specs.declared.locks.Locks.{Locks}
 use Rattle.lock_rules.specs.declared.terms.ErrorCode.{ErrorCode}
@@ -9,8 +9,7 @@ use Rattle.lock_rules.specs.declared.terms.Level.{Level}
 use Rattle.lock_rules.specs.declared.terms.Level.TheVariants as levels
 use Rattle.lock_rules.specs.Codes.{error_number}
 use Rattle.lock_rules.specs.Lock.{locks_after}
-use Rattle.reply_grammar.specs.declared.expected.Reply.{Reply}
-use Rattle.reply_grammar.specs.declared.expected.Reply.TheVariants.{Handle, Words, Header, Error}
+use Rattle.reply_grammar.specs.declared.expected.Reply.TheVariants.{Handle, Header, Error}
 use Rattle.tag_memory.specs.Memory.{Banks, kill_word_of, access_word_of}
 use Rattle.tag_memory.specs.Access.{words_read, banks_after_write, banks_after_erase}
 use Rattle.tag_machine.specs.declared.states.Half.{Half}
@@ -21,6 +20,7 @@ use Rattle.tag_machine.specs.TagValue.{StateValue, ReadyState, ArbitrateState, R
 use Rattle.tag_machine.specs.Answers.{Outcome, silent, plain_answer, extended_answer}
 use Rattle.tag_machine.specs.Draws.{draw_of, body_after_draw, back}
 use Rattle.tag_machine.specs.Inventory.{unless_half}
+pub use Rattle.tag_body.specs.MemoryAnswers.{read_answer, change_answer, changed_or, has_user}
 
 -- open or secured, with what the tag holds there: the permissions are those of the state
 abbrev pub held_state : Level → Held → StateValue
@@ -99,10 +99,6 @@ abbrev pub in_access : ℕ → Option Password → (Level → Held → BodyValue
 in_access rn brought acts state body = with_level (λ level held rest. outcome_where_heeded rn brought level held rest (acts level held rest)) state body
 
 -- 2. 6.3.2.11.3.2 Read: the words, or an error
-abbrev pub read_answer : Result (List ℕ) ErrorCode → Reply
-read_answer (Ok words) = Words words
-read_answer (Err code) = Error (error_number code)
-
 abbrev pub read_outcome : Bank → ℕ → ℕ → Level → Held → BodyValue → Outcome
 read_outcome bank pointer count level held body =
     plain_answer (held_state level held) body (read_answer (words_read body.memory body.locks level bank pointer count)) held.handle
@@ -115,15 +111,6 @@ read bank pointer count rn state body = in_access rn None (read_outcome bank poi
 abbrev pub uncover : Level → Held → BodyValue → ℕ → Option ℕ → (Held → ℕ → Outcome) → Outcome
 uncover level held body covered None acts = silent (held_state level held) body
 uncover level held body covered (Some cover) acts = acts (record held { cover = None }) (bit_xor covered cover)
-
--- What is asked to change is changed, and the answer is the header; or it is refused, and the answer is an error.
-abbrev pub change_answer : {T : Type 0} → Result T ErrorCode → Reply
-change_answer (Ok new) = Header
-change_answer (Err code) = Error (error_number code)
-
-abbrev pub changed_or : {T : Type 0} → T → Result T ErrorCode → T
-changed_or old (Ok new) = new
-changed_or old (Err code) = old
 
 -- 4. Write, BlockWrite and BlockErase: the new memory and the header, or an error and the memory as it was
 abbrev pub memory_outcome : Level → Held → BodyValue → Result Banks ErrorCode → Outcome
@@ -157,9 +144,6 @@ block_erase bank pointer count rn state body = in_access rn None (block_erase_ou
 
 -- 5. 6.3.2.11.3.5 Lock: in open nothing changes, and there is no reply. In secured: the new pairs and the header, or an error and
 -- the pairs as they were.
-abbrev pub has_user : BodyValue → Bool
-has_user body = nat_lt 0 (length body.memory.user)
-
 abbrev pub locks_outcome : Held → BodyValue → Result Locks ErrorCode → Outcome
 locks_outcome held body change =
     extended_answer (SecuredState held) (record body { locks = changed_or body.locks change }) (change_answer change) held.handle

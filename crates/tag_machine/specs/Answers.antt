@@ -1,9 +1,9 @@
 -- What a tag becomes when it hears a command, and what it answers.
-use Rattle.std.specs.Prelude.{ℕ, ◌^◌, ◌<◌, ◌≤◌, Bool, true, false, List, [], length, Option, Some, None}
+use Rattle.std.specs.Prelude.{ℕ, ◌^◌, ◌<◌, Bool, true, false, List, [], Option, Some, None}
 use Rattle.reply_grammar.specs.declared.expected.Reply.{Reply}
-use Rattle.reply_grammar.specs.declared.expected.Reply.TheVariants.{Rn16, Epc, Handle, Words, Header, Error}
 use Rattle.reply_grammar.specs.Table.{IsReply, spelling}
 use Rattle.tag_machine.specs.TagValue.{StateValue, BodyValue, TagValue}
+pub use Rattle.tag_body.specs.MemoryAnswers.{HasFewWords}
 
 -- a reply, the handle that stands in it where its kind has one, and whether it has the extended preamble whatever the
 -- Query's TRext says (6.3.2.11.3)
@@ -38,15 +38,6 @@ extended_answer state body reply handle = record {
 abbrev pub bits_sent : Option Sent → List Bool
 bits_sent None = []
 bits_sent (Some sent) = spelling sent.reply sent.handle
-
--- a reply to a Read brings 1 to 512 words
-abbrev pub HasFewWords : Reply → Type 0
-HasFewWords (Rn16 rn) = Unit {0}
-HasFewWords (Epc pc epc) = Unit {0}
-HasFewWords (Handle rn) = Unit {0}
-HasFewWords (Words words) = (1 ≤ length words) × (length words ≤ 512)
-HasFewWords Header = Unit {0}
-HasFewWords (Error code) = Unit {0}
 
 -- the numbers of what is sent are in their ranges, a PC counts the words of its EPC, and a Read brings 1 to 512 words
 abbrev pub IsSent : Option Sent → Type 0

@@ -1,24 +1,11 @@
--- 6.3.2.5 Tag random or pseudo-random number generator; 6.3.2.4.8 Slot counter: what a tag draws, and the moves that
--- the tables of Annex B share. That draws come from a list which begins again at its end is profile.
-use Rattle.std.specs.Prelude.{ℕ, zero, suc, ◌+◌, ◌%◌, ◌^◌, ◌==◌, length, slice_index, if◌then◌else◌}
+-- 6.3.2.5 Tag random or pseudo-random number generator; 6.3.2.4.8 Slot counter: the moves that the tables of Annex B share,
+-- with what they draw.
+use Rattle.std.specs.Prelude.{ℕ, zero, suc, ◌==◌, if◌then◌else◌}
 use Rattle.reply_grammar.specs.declared.expected.Reply.TheVariants.{Rn16}
-use Rattle.session_flags.specs.Flags.{flags_after_inversion}
 use Rattle.tag_machine.specs.TagValue.{StateValue, ReadyState, ArbitrateState, ReplyState, AcknowledgedState, OpenState, SecuredState, KilledState, UnpoweredState, BodyValue, TagValue}
 use Rattle.tag_machine.specs.Answers.{Outcome, silent, plain_answer}
-
--- a draw is the word at the place of the next draw
-abbrev pub draw_of : BodyValue → ℕ
-draw_of body = slice_index body.words body.next_draw
-
--- the place behind one among so many words: it rises by one, and is 0 again where it reaches their number
-abbrev pub place_behind : ℕ → ℕ → ℕ
-place_behind count place = (if place + 1 == count then 0 else place + 1)
-
-abbrev pub place_after : BodyValue → ℕ
-place_after body = place_behind (length body.words) body.next_draw
-
-abbrev pub body_after_draw : BodyValue → BodyValue
-body_after_draw body = record body { next_draw = place_after body }
+pub use Rattle.tag_body.specs.Draws.{draw_of, place_behind, place_after, body_after_draw, slot_of_draw}
+pub use Rattle.tag_body.specs.BodyFlags.{body_after_inversion}
 
 -- the body after so many draws
 abbrev pub body_after_draws : ℕ → BodyValue → BodyValue
@@ -30,18 +17,11 @@ abbrev pub begin_reply : ℕ → ℕ → BodyValue → Outcome
 begin_reply session q body = plain_answer (ReplyState session q (draw_of body)) (body_after_draw body) (Rn16 (draw_of body)) 0
 
 -- ENTER: a slot is drawn, the last Q bits of the draw. With slot 0 the tag replies at once, with a further draw.
-abbrev pub slot_of_draw : ℕ → BodyValue → ℕ
-slot_of_draw q body = draw_of body % 2 ^ q
-
 abbrev pub enter : ℕ → ℕ → BodyValue → Outcome
 enter session q body =
     (if slot_of_draw q body == 0
     then begin_reply session q (body_after_draw body)
     else silent (ArbitrateState session q (slot_of_draw q body)) (body_after_draw body))
-
--- the body with the inventoried flag of a session inverted
-abbrev pub body_after_inversion : ℕ → BodyValue → BodyValue
-body_after_inversion session body = record body { flags = flags_after_inversion body.flags session }
 
 -- CLOSE: the tag was inventoried, so that its flag of the session is inverted, and it is ready
 abbrev pub close : ℕ → BodyValue → Outcome

@@ -1,9 +1,9 @@
 -- What befalls a tag besides commands. That these things come as events is profile; what they do is that of 6.3.1.6 Link
 -- timing (T2), 6.3.2.2 Sessions and inventoried flags (the table of persistence) and Annex B. An event that a clause doesn't
 -- name changes nothing, and none changes a killed tag.
-use Rattle.std.specs.Prelude.{ℕ, Bool, true, false, List}
+use Rattle.std.specs.Prelude.{ℕ, true, false, List}
 use Rattle.command_fields.specs.declared.choices.FlagName.{FlagName}
-use Rattle.session_flags.specs.Flags.{new_flags, flags_after_power_loss, flags_after_expiry}
+use Rattle.session_flags.specs.Flags.{new_flags, flags_after_power_loss}
 use Rattle.lock_rules.specs.declared.locks.Locks.{Locks}
 use Rattle.tag_memory.specs.Memory.{Banks, with_stored_crc}
 use Rattle.tag_memory.specs.Image.{banks_of}
@@ -11,6 +11,7 @@ use Rattle.tag_memory.specs.declared.image.BankImage.{BankImage}
 use Rattle.air_events.specs.declared.Event.{Event}
 use Rattle.air_events.specs.declared.Event.TheVariants as events
 use Rattle.tag_machine.specs.TagValue.{StateValue, ReadyState, ArbitrateState, ReplyState, AcknowledgedState, OpenState, SecuredState, KilledState, UnpoweredState, BodyValue, TagValue}
+pub use Rattle.tag_body.specs.BodyFlags.{body_after_expiry}
 
 abbrev pub tag_at : StateValue → BodyValue → TagValue
 tag_at state body = record { state = state; body = body }
@@ -53,9 +54,6 @@ after_on UnpoweredState body = tag_at ReadyState (record body { memory = with_st
 
 -- the persistence of a flag ends: it goes by whether the tag has power, and whether it takes part in a round, as it does
 -- in every state but ready, killed and without power
-abbrev pub body_after_expiry : FlagName → Bool → Bool → BodyValue → BodyValue
-body_after_expiry flag powered takes_part body = record body { flags = flags_after_expiry body.flags flag powered takes_part }
-
 abbrev pub after_expiry : FlagName → StateValue → BodyValue → TagValue
 after_expiry flag ReadyState body = tag_at ReadyState (body_after_expiry flag true false body)
 after_expiry flag (ArbitrateState session q slot) body = tag_at (ArbitrateState session q slot) (body_after_expiry flag true true body)

@@ -1,32 +1,28 @@
 -- 6.3.2.8 Inventorying Tag populations, 6.3.2.11.1 Select and 6.3.2.11.2 Inventory commands; Annex B and Annex C: what
 -- each of these commands does in each state. A state that a command doesn't name stays as it is, without a reply. A
 -- session in an effect is the command's, which is the tag's where the two are compared.
-use Rattle.std.specs.Prelude.{ℕ, ◌+◌, ◌-◌, ◌==◌, Bool, List, Option, Some, None, if◌then◌else◌}
+use Rattle.std.specs.Prelude.{ℕ, ◌==◌, Bool, List, Option, Some, None, if◌then◌else◌}
 use Rattle.command_fields.specs.declared.choices.FlagName.{FlagName}
 use Rattle.command_fields.specs.declared.choices.MaskBank.{MaskBank}
 use Rattle.command_fields.specs.declared.choices.Sel.{Sel}
 use Rattle.command_fields.specs.declared.choices.Side.{Side}
 use Rattle.command_fields.specs.declared.choices.UpDn.{UpDn}
-use Rattle.command_fields.specs.declared.choices.UpDn.TheVariants.{Up, Same, Down}
 use Rattle.reply_grammar.specs.declared.expected.Reply.{Reply}
 use Rattle.reply_grammar.specs.declared.expected.Reply.TheVariants.{Epc}
-use Rattle.session_flags.specs.Flags.{matches, flags_after_select}
-use Rattle.session_flags.specs.MaskMatch.{mask_match}
-use Rattle.tag_memory.specs.Memory.{bank_of, bank_named, pc_of, epc_of}
+use Rattle.session_flags.specs.Flags.{matches}
+use Rattle.tag_memory.specs.Memory.{pc_of, epc_of}
 use Rattle.tag_machine.specs.declared.states.Half.{Half}
 use Rattle.tag_machine.specs.declared.states.Held.{Held}
 use Rattle.tag_machine.specs.TagValue.{StateValue, ReadyState, ArbitrateState, ReplyState, AcknowledgedState, OpenState, SecuredState, KilledState, UnpoweredState, BodyValue}
 use Rattle.tag_machine.specs.Answers.{Outcome, silent, plain_answer}
-use Rattle.tag_machine.specs.Draws.{enter, begin_reply, body_after_inversion, close, back}
+use Rattle.tag_machine.specs.Draws.{enter, begin_reply, close, back}
+pub use Rattle.tag_body.specs.BodyFlags.{body_after_close, selected_body}
+pub use Rattle.tag_body.specs.RoundNumbers.{slot_below, q_after_adjust}
 
 -- 6.3.2.11.2.1 Query: a tag that matches takes the session and Q and draws its slot, another is ready
 abbrev pub take_part : Sel → ℕ → Side → ℕ → BodyValue → Outcome
 take_part sel session target q body =
     (if matches sel session target body.flags then enter session q body else silent ReadyState body)
-
--- a tag that was inventoried in a session, and hears a Query of a session: where the two are one, its flag is inverted
-abbrev pub body_after_close : ℕ → ℕ → BodyValue → BodyValue
-body_after_close own session body = (if own == session then body_after_inversion session body else body)
 
 abbrev pub query : Sel → ℕ → Side → ℕ → StateValue → BodyValue → Outcome
 query sel session target q ReadyState body = take_part sel session target q body
@@ -46,10 +42,6 @@ unless_half (Some half) instead outcome = instead
 -- the end of a tag's turn: CLOSE, or BACK where a Kill or Access is unfinished
 abbrev pub end_turn : ℕ → Held → BodyValue → Outcome
 end_turn session held body = unless_half held.half (back session held.q body) (close session body)
-
--- 6.3.2.4.8 Slot counter: it falls by 1, from 0 to 7FFFh
-abbrev pub slot_below : ℕ → ℕ
-slot_below slot = (if slot == 0 then 0x7FFF else slot - 1)
 
 -- 6.3.2.11.2.3 QueryRep, of the tag's session: with slot 0 the tag replies
 abbrev pub count_down : ℕ → ℕ → ℕ → BodyValue → Outcome
@@ -73,12 +65,7 @@ query_rep session (SecuredState held) body =
 query_rep session KilledState body = silent KilledState body
 query_rep session UnpoweredState body = silent UnpoweredState body
 
--- 6.3.2.11.2.2 QueryAdjust: Q rises or falls by 1 or stays, and never leaves 0 to 15
-abbrev pub q_after_adjust : UpDn → ℕ → ℕ
-q_after_adjust Up q = (if q == 15 then 15 else q + 1)
-q_after_adjust Same q = q
-q_after_adjust Down q = (if q == 0 then 0 else q - 1)
-
+-- 6.3.2.11.2.2 QueryAdjust
 abbrev pub query_adjust : ℕ → UpDn → StateValue → BodyValue → Outcome
 query_adjust session updn ReadyState body = silent ReadyState body
 query_adjust session updn (ArbitrateState own q slot) body =
@@ -125,11 +112,6 @@ nak (OpenState held) body = back held.session held.q body
 nak (SecuredState held) body = back held.session held.q body
 nak KilledState body = silent KilledState body
 nak UnpoweredState body = silent UnpoweredState body
-
--- the body after a Select: its flag changes by the table of actions, where the mask matches or doesn't
-abbrev pub selected_body : FlagName → ℕ → MaskBank → ℕ → List Bool → BodyValue → BodyValue
-selected_body target action bank pointer mask body =
-    record body { flags = flags_after_select body.flags target action (mask_match (bank_of body.memory (bank_named bank)) pointer mask) }
 
 abbrev pub selected_ready : FlagName → ℕ → MaskBank → ℕ → List Bool → BodyValue → Outcome
 selected_ready target action bank pointer mask body = silent ReadyState (selected_body target action bank pointer mask body)

@@ -1,12 +1,9 @@
 -- 6.3.2.4 Tag states and slot counter: what a tag is at one moment, a state with the numbers that it holds, and what every
 -- state holds besides. The state of a tag without power is profile.
-use Rattle.std.specs.Prelude.{ℕ, ◌^◌, ◌<◌, ◌≤◌, Bool, true, false, List, length, Option, Some, None}
-use Rattle.lock_rules.specs.declared.locks.Locks.{Locks}
-use Rattle.session_flags.specs.declared.flags.Flags.{Flags}
-use Rattle.session_flags.specs.DrawList.{IsDrawList}
-use Rattle.tag_memory.specs.Memory.{Banks, IsLegalMemory, AreBanksOfWords}
+use Rattle.std.specs.Prelude.{ℕ, ◌^◌, ◌<◌, ◌≤◌, Bool, true, false, Option, Some, None}
 use Rattle.tag_machine.specs.declared.states.Half.{Half}
 use Rattle.tag_machine.specs.declared.states.Held.{Held}
+pub use Rattle.tag_body.specs.BodyValue.{BodyValue, IsLegalBody}
 
 -- a state with the numbers that it holds. What open and secured hold is a session, Q, a handle, a cover or none, and a
 -- first half of a password or none.
@@ -19,15 +16,6 @@ pub data StateValue : Type 0 where
   SecuredState : (held : Held) → StateValue
   KilledState : StateValue
   UnpoweredState : StateValue
-
--- what every state holds: the four banks, the pairs of lock bits, the flags, the words that are drawn, and the place of
--- the next draw among them
-pub record BodyValue : Type 0 where
-  pub memory : Banks
-  pub locks : Locks
-  pub flags : Flags
-  pub words : List ℕ
-  pub next_draw : ℕ
 
 pub record TagValue : Type 0 where
   pub state : StateValue
@@ -59,14 +47,6 @@ IsLegalState (OpenState held) = IsLegalHeld held
 IsLegalState (SecuredState held) = IsLegalHeld held
 IsLegalState KilledState = Unit {0}
 IsLegalState UnpoweredState = Unit {0}
-
--- the sizes of the banks are those that a tag's banks may have, the EPC that PC announces lies inside its bank, and each
--- word of the banks is one of 16 bits; there are 1 to 256 words of 16 bits to draw, and the place is that of one of them
-pub record IsLegalBody (body : BodyValue) : Type 0 where
-  pub memory : IsLegalMemory body.memory
-  pub memory_words : AreBanksOfWords body.memory
-  pub words : IsDrawList body.words
-  pub next_draw : body.next_draw < length body.words
 
 pub record IsLegalTag (tag : TagValue) : Type 0 where
   pub state : IsLegalState tag.state

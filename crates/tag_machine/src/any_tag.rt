@@ -6,7 +6,6 @@ ghost use Rattle.tag_machine.specs.Names.{name_of};
 ghost use Rattle.tag_machine.specs.Hearing.{tag_value_of, typed_name_of};
 ghost use Rattle.tag_memory.specs.Image.{pc_fits, sizes_fit};
 
-use crate::body::Body;
 use crate::states::{
     Acknowledged, Arbitrate, InReply, Killed, Opened, Ready, Secured, StateName, Unpowered,
 };
@@ -15,6 +14,7 @@ use bit_strings::OutOfMemory;
 use lock_rules::Locks;
 use session_flags::{DrawWords, Flags};
 use std::alloc::{AllocError, Global};
+use tag_body::Body;
 use tag_memory::{BankImage, ImageRefusal, Memory};
 
 /// A tag in any state.

@@ -1,25 +1,16 @@
 //! What befalls a tag besides commands.
 ghost use Rattle.std.specs.Prelude.{◌≡◌};
-ghost use Rattle.tag_machine.specs.Events.{tag_after_event, after_timeout, after_off, after_on, after_expiry, body_after_expiry};
+ghost use Rattle.tag_machine.specs.Events.{tag_after_event, after_timeout, after_off, after_on, after_expiry};
 ghost use Rattle.tag_machine.specs.TagValue.{IsLegalTag};
 ghost use Rattle.tag_machine.specs.Hearing.{tag_value_of};
 
+use crate::abilities::Present;
 use crate::any_tag::AnyTag;
-use crate::states::{Ready, State, Unpowered};
+use crate::moves::back;
+use crate::states::{Ready, Unpowered};
 use crate::tag::Tag;
 use air_events::Event;
 use command_grammar::FlagName;
-
-impl<S: State> Tag<S> {
-    /// The tag after the persistence of a flag ended.
-    fn with_expired(self, flag: FlagName, powered: bool, takes_part: bool) -> Tag<S>
-        ensures { result ≡ record self { body = body_after_expiry flag powered takes_part self.body } }
-    {
-        let Tag { state, mut body } = self;
-        body.parts.flags.expire(flag, powered, takes_part);
-        Tag { state, body }
-    }
-}
 
 impl AnyTag {
     /// The time T2 ran out: a tag in reply or acknowledged goes back to arbitrate.
@@ -28,10 +19,10 @@ impl AnyTag {
     {
         match self {
             AnyTag::InReply(Tag { state, body }) => {
-                AnyTag::Arbitrate(body.back(state.session, state.q))
+                AnyTag::Arbitrate(back(body, state.session, state.q))
             }
             AnyTag::Acknowledged(Tag { state, body }) => {
-                AnyTag::Arbitrate(body.back(state.session, state.q))
+                AnyTag::Arbitrate(back(body, state.session, state.q))
             }
             other => other,
         }
@@ -78,14 +69,17 @@ impl AnyTag {
         ensures { tag_value_of result ≡ after_expiry flag (tag_value_of self).state (tag_value_of self).body }
     {
         match self {
-            AnyTag::Ready(tag) => AnyTag::Ready(tag.with_expired(flag, true, false)),
-            AnyTag::Arbitrate(tag) => AnyTag::Arbitrate(tag.with_expired(flag, true, true)),
-            AnyTag::InReply(tag) => AnyTag::InReply(tag.with_expired(flag, true, true)),
-            AnyTag::Acknowledged(tag) => AnyTag::Acknowledged(tag.with_expired(flag, true, true)),
-            AnyTag::Opened(tag) => AnyTag::Opened(tag.with_expired(flag, true, true)),
-            AnyTag::Secured(tag) => AnyTag::Secured(tag.with_expired(flag, true, true)),
+            AnyTag::Ready(Tag { state, body }) => state.tag(body.expired(flag, true, false)),
+            AnyTag::Arbitrate(Tag { state, body }) => state.tag(body.expired(flag, true, true)),
+            AnyTag::InReply(Tag { state, body }) => state.tag(body.expired(flag, true, true)),
+            AnyTag::Acknowledged(Tag { state, body }) => state.tag(body.expired(flag, true, true)),
+            AnyTag::Opened(Tag { state, body }) => state.tag(body.expired(flag, true, true)),
+            AnyTag::Secured(Tag { state, body }) => state.tag(body.expired(flag, true, true)),
             AnyTag::Killed(tag) => AnyTag::Killed(tag),
-            AnyTag::Unpowered(tag) => AnyTag::Unpowered(tag.with_expired(flag, false, false)),
+            AnyTag::Unpowered(Tag { state, body }) => {
+                let body = body.expired(flag, false, false);
+                AnyTag::Unpowered(Tag { state, body })
+            }
         }
     }
 

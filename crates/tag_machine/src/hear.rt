@@ -11,10 +11,10 @@ ghost use Rattle.reply_grammar.specs.Table.{reply_room};
 
 use crate::any_tag::{Answered, AnyTag, Heard};
 use crate::states::Password;
-use crate::steps::Steps;
 use bit_strings::Bits;
 use command_grammar::Command;
 use std::sync::ledger::Ledger;
+use tag_body::Steps;
 
 impl AnyTag {
     /// What the tag makes of a command. Most tags are moved by a QueryRep, so that is made here; what is made of each other command

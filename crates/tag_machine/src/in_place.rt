@@ -11,13 +11,12 @@ ghost use Rattle.tag_machine.specs.Step.{step};
 ghost use Rattle.tag_machine.specs.TagValue.{ArbitrateState, BodyValue, IsLegalTag, ReadyState};
 
 use crate::any_tag::AnyTag;
-use crate::inventory::adjusted;
-use crate::states::{Arbitrate, Ready, Slot};
-use crate::steps::Steps;
+use crate::states::{Arbitrate, Ready};
 use crate::tag::Tag;
 use bit_strings::{QValue, Session};
 use command_grammar::{Command, UpDn};
 use std::sync::ledger::Ledger;
+use tag_body::{Slot, Steps, adjusted};
 
 /// Whether a command may change a tag that waits for its slot, or takes no part in a round: a Select, Query, QueryRep or
 /// QueryAdjust.
@@ -127,19 +126,6 @@ impl Tag<Arbitrate> {
         Some(number)
     }
 
-    /// Draws its slot again at a QueryAdjust of its own session, unless it draws 0, and answers the slot.
-    fn draw_again(&mut self, session: Session, updn: UpDn) -> Option<u16>
-        ensures drawn { (slot : ℕ) → result ≡ Some slot → DrawsAgain session updn self.old slot self.new }
-        ensures left { result ≡ None → self.new ≡ self.old }
-        ensures legal { IsLegalTag self.new }
-    {
-        if self.state.session != session {
-            return None;
-        }
-        let q = self.state.q;
-        self.draw_slot(session, adjusted(updn, q))
-    }
-
     /// Hears a QueryRep that leaves the tag in arbitrate, and answers whether it did.
     fn count_down(&mut self, session: Session) -> bool
         ensures heard { result ≡ true → query_rep session self.old.state self.old.body ≡ silent self.new.state self.new.body }
@@ -198,7 +184,11 @@ impl AnyTag {
         let AnyTag::Arbitrate(tag) = self else {
             return None;
         };
-        let slot = tag.draw_again(session, updn)?;
+        if tag.state.session != session {
+            return None;
+        }
+        let q = tag.state.q;
+        let slot = tag.draw_slot(session, adjusted(updn, q))?;
         steps.tick();
         Some(slot)
     }

@@ -8,5 +8,3 @@ mod query_adjust;
 mod query_rep;
 mod select;
 mod slot;
-
-pub(crate) use query_adjust::adjusted;

@@ -6,7 +6,6 @@
 mod abilities;
 mod access;
 mod any_tag;
-mod body;
 mod event;
 mod hear;
 mod in_place;
@@ -15,7 +14,6 @@ mod laws;
 mod moves;
 mod numbers;
 mod states;
-mod steps;
 mod tag;
 
 pub use air_events::{Choice, Entry, Event, Several};
@@ -31,5 +29,5 @@ pub use states::{
     Acknowledged, Arbitrate, Half, Held, InReply, Killed, Opened, Password, Ready, Secured, State,
     StateName, Unpowered,
 };
-pub use steps::Steps;
 pub use tag::Tag;
+pub use tag_body::Steps;

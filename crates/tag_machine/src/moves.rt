@@ -8,12 +8,12 @@ ghost use Rattle.tag_machine.specs.Draws.{begin_reply, enter, close, back, tag_b
 ghost use Rattle.tag_machine.specs.Hearing.{GivesOutcome, tag_value_of};
 
 use crate::any_tag::{Answered, AnyTag, Heard};
-use crate::body::Body;
-use crate::states::{Arbitrate, InReply, Ready, Slot};
+use crate::states::{Arbitrate, InReply, Ready};
 use crate::tag::Tag;
 use bit_strings::{Bits, QValue, Session};
 use lock_rules::ErrorCode;
 use reply_grammar::{encode_error, encode_handle, encode_header, encode_rn16};
+use tag_body::{Body, Slot};
 
 /// No answer.
 pub fn unanswered(tag: AnyTag, out: &mut Bits) -> Heard
@@ -62,72 +62,67 @@ pub fn answer_error(tag: AnyTag, code: ErrorCode, handle: u16, out: &mut Bits) -
     }
 }
 
-impl Body {
-    /// BACK: arbitrate with slot 0.
-    pub fn back(self, session: Session, q: QValue) -> Tag<Arbitrate>
-        ensures { result ≡ tag_back session q self }
-    {
-        Tag {
-            state: Arbitrate {
-                session,
-                q,
-                slot: Slot::new(0),
-            },
-            body: self,
-        }
+/// BACK: arbitrate with slot 0.
+pub fn back(body: Body, session: Session, q: QValue) -> Tag<Arbitrate>
+    ensures { result ≡ tag_back session q body }
+{
+    Tag {
+        state: Arbitrate {
+            session,
+            q,
+            slot: Slot::new(0),
+        },
+        body,
     }
+}
 
-    /// BACK, without an answer.
-    pub fn go_back(self, session: Session, q: QValue, out: &mut Bits) -> Heard
-        ensures { GivesOutcome (back session q self) result out.old out.new }
-    {
-        unanswered(AnyTag::Arbitrate(self.back(session, q)), out)
-    }
+/// BACK, without an answer.
+pub fn go_back(body: Body, session: Session, q: QValue, out: &mut Bits) -> Heard
+    ensures { GivesOutcome (back session q body) result out.old out.new }
+{
+    unanswered(AnyTag::Arbitrate(back(body, session, q)), out)
+}
 
-    /// CLOSE: the flag of the session is inverted, and the tag is ready.
-    pub fn close(self, session: Session, out: &mut Bits) -> Heard
-        ensures { GivesOutcome (close session self) result out.old out.new }
-    {
-        let mut body = self;
-        body.parts.flags.invert(session);
-        unanswered(AnyTag::Ready(Tag { state: Ready, body }), out)
-    }
+/// CLOSE: the flag of the session is inverted, and the tag is ready.
+pub fn close(mut body: Body, session: Session, out: &mut Bits) -> Heard
+    ensures { GivesOutcome (close session body) result out.old out.new }
+{
+    body.parts.flags.invert(session);
+    unanswered(AnyTag::Ready(Tag { state: Ready, body }), out)
+}
 
-    /// Draws an RN16 and answers it.
-    pub fn begin_reply(self, session: Session, q: QValue, out: &mut Bits) -> Heard
-        requires room { reply_room ≤ out.old.capacity }
-        ensures { GivesOutcome (begin_reply session q self) result out.old out.new }
-    {
-        let mut body = self;
-        let rn = body.draw();
-        let tag = Tag {
-            state: InReply { session, q, rn },
-            body,
-        };
-        encode_rn16(rn, out);
-        Heard {
-            tag: AnyTag::InReply(tag),
-            answered: Answered::Plain,
-        }
+/// Draws an RN16 and answers it.
+pub fn begin_reply(mut body: Body, session: Session, q: QValue, out: &mut Bits) -> Heard
+    requires room { reply_room ≤ out.old.capacity }
+    ensures { GivesOutcome (begin_reply session q body) result out.old out.new }
+{
+    let rn = body.draw();
+    let tag = Tag {
+        state: InReply { session, q, rn },
+        body,
+    };
+    encode_rn16(rn, out);
+    Heard {
+        tag: AnyTag::InReply(tag),
+        answered: Answered::Plain,
     }
+}
 
-    /// ENTER: draws a slot, the last Q bits of a word, and replies at once where it is 0.
-    pub fn enter(self, session: Session, q: QValue, out: &mut Bits) -> Heard
-        requires room { reply_room ≤ out.old.capacity }
-        ensures { GivesOutcome (enter session q self) result out.old out.new }
-    {
-        let mut body = self;
-        // The slot is looked at before its word is drawn.
-        let slot = body.next_slot(q);
-        body.draw();
-        if slot == 0 {
-            return body.begin_reply(session, q, out);
-        }
-        let slot = Slot::new(slot);
-        let tag = Tag {
-            state: Arbitrate { session, q, slot },
-            body,
-        };
-        unanswered(AnyTag::Arbitrate(tag), out)
+/// ENTER: draws a slot, the last Q bits of a word, and replies at once where it is 0.
+pub fn enter(mut body: Body, session: Session, q: QValue, out: &mut Bits) -> Heard
+    requires room { reply_room ≤ out.old.capacity }
+    ensures { GivesOutcome (enter session q body) result out.old out.new }
+{
+    // The slot is looked at before its word is drawn.
+    let slot = body.next_slot(q);
+    body.draw();
+    if slot == 0 {
+        return begin_reply(body, session, q, out);
     }
+    let slot = Slot::new(slot);
+    let tag = Tag {
+        state: Arbitrate { session, q, slot },
+        body,
+    };
+    unanswered(AnyTag::Arbitrate(tag), out)
 }

@@ -1,8 +1,7 @@
 //! The states of a tag, each with the numbers that it holds (6.3.2.4 Tag states and slot counter).
-ghost use Rattle.std.specs.Prelude.{◌≡◌, ◌<◌, ◌^◌};
 
 use bit_strings::{QValue, Session};
-use std::marker::Model;
+use tag_body::Slot;
 
 /// The name of a state (6.3.2.4 Tag states and slot counter).
 #[derive(Clone, Copy, Debug, PartialEq, Eq)]
@@ -54,42 +53,6 @@ impl State for Arbitrate {
     ghost use Rattle.tag_machine.specs.States.{arbitrate_state};
 
     ghost value = { arbitrate_state };
-}
-
-/// A slot counter: 15 bits (6.3.2.4.8 Slot counter). A contract sees its number.
-#[derive(Clone, Copy)]
-pub struct Slot {
-    number: u16,
-}
-
-impl Model for Slot {
-    ghost use Rattle.std.specs.Prelude.{ℕ, ◌<◌, ◌^◌};
-
-    ghost Value = { ℕ };
-
-    ghost view = { λ slot. slot.number };
-
-    ghost invariant = { λ slot. slot.number < 2 ^ 15 };
-
-    ghost inverse = { λ n. record { number = n } };
-}
-
-impl Slot {
-    /// The counter with this number.
-    pub fn new(number: u16) -> Slot
-        requires { number < 2 ^ 15 }
-        ensures { result ≡ number }
-    {
-        Slot { number }
-    }
-
-    /// The number.
-    pub fn get(&self) -> u16
-        ensures value { result ≡ self.now }
-        ensures range { self.now < 2 ^ 15 }
-    {
-        self.number
-    }
 }
 
 /// An RN16 was sent, and the tag waits for it to be acknowledged (6.3.2.4.3 Reply state).

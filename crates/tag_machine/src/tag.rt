@@ -1,8 +1,8 @@
 //! A tag whose state is known.
 
-use crate::body::Body;
 use crate::states::State;
 use std::marker::Model;
+use tag_body::Body;
 
 /// A tag in the state `S`. A contract sees the state with its numbers, each in its range, and what a tag holds in every state.
 #[derive(Drop)]

@@ -1,27 +1,20 @@
 //! Kill and Access (6.3.2.11.3.4 and 6.3.2.11.3.6): a password comes in two halves, each with a cover of its own. How an
 //! unfinished Kill or Access ends is profile.
 ghost use Rattle.std.specs.Prelude.{◌≡◌, ◌+◌, ◌≤◌, Some};
-ghost use Rattle.tag_machine.specs.Access.{in_access, whole_of, keep_half, kill_whole, kill, access_whole, access, password_outcome};
+ghost use Rattle.tag_machine.specs.Access.{in_access, keep_half, kill_whole, kill, access_whole, access, password_outcome};
 ghost use Rattle.tag_machine.specs.Hearing.{GivesOutcome, tag_value_of};
 ghost use Rattle.reply_grammar.specs.Table.{reply_room};
 
 use super::rules::TagWithHandle;
 use crate::abilities::WithHandle;
 use crate::any_tag::{AnyTag, Heard};
-use crate::moves::{answer_error, answer_header};
+use crate::moves::{answer_error, answer_header, go_back};
 use crate::states::{Half, Held, Killed, Password};
-use crate::steps::Steps;
 use crate::tag::Tag;
 use bit_strings::Bits;
 use lock_rules::{ErrorCode, Level};
 use std::sync::ledger::Ledger;
-
-/// The password whose halves these are.
-fn whole(upper: u16, lower: u16) -> u32
-    ensures { result ≡ whole_of upper lower }
-{
-    (u32::from(upper) << 16) + u32::from(lower)
-}
+use tag_body::Steps;
 
 impl TagWithHandle {
     /// Keeps the value as a first half, and answers the handle.
@@ -51,7 +44,7 @@ impl TagWithHandle {
             return answer_error(tag.tag(), ErrorCode::Other, handle, out);
         }
         if own != password {
-            return body.go_back(held.session, held.q, out);
+            return go_back(body, held.session, held.q, out);
         }
         let tag = Tag {
             state: Killed,
@@ -71,7 +64,7 @@ impl TagWithHandle {
             body,
         } = self;
         if body.parts.memory.access_word() != password {
-            return body.go_back(held.session, held.q, out);
+            return go_back(body, held.session, held.q, out);
         }
         let held = Held { half: None, ..held };
         let level = Level::Secured;
@@ -104,7 +97,7 @@ impl AnyTag {
         let Some(half) = tag.held.half else {
             return tag.keep_half(password, value, out);
         };
-        let whole = whole(half.value, value);
+        let whole = (u32::from(half.value) << 16) + u32::from(value);
         match password {
             Password::Kill => tag.kill_whole(whole, out),
             Password::Access => tag.access_whole(whole, out),

@@ -7,38 +7,34 @@ ghost use Rattle.reply_grammar.specs.Table.{reply_room};
 use super::rules::TagWithHandle;
 use crate::abilities::{InTurn, Present};
 use crate::any_tag::{AnyTag, Heard};
-use crate::body::Body;
-use crate::moves::{answer_handle, unanswered};
+use crate::moves::{answer_handle, go_back, unanswered};
 use crate::states::Held;
-use crate::steps::Steps;
 use crate::tag::Tag;
 use bit_strings::{Bits, QValue, Session};
 use lock_rules::Level;
 use std::sync::ledger::Ledger;
+use tag_body::{Body, Steps};
 
-impl Body {
-    /// Draws a handle and answers it: the tag is in secured where the access password is 0, else in open.
-    fn give_handle(self, session: Session, q: QValue, out: &mut Bits) -> Heard
-        requires { reply_room ≤ out.old.capacity }
-        ensures { GivesOutcome (give_handle session q self) result out.old out.new }
-    {
-        let mut body = self;
-        let level = if body.parts.memory.access_word() == 0 {
-            Level::Secured
-        } else {
-            Level::Opened
-        };
-        let handle = body.draw();
-        let held = Held {
-            session,
-            q,
-            handle,
-            cover: None,
-            half: None,
-        };
-        let tag = TagWithHandle { level, held, body };
-        answer_handle(tag.tag(), handle, out)
-    }
+/// Draws a handle and answers it: the tag is in secured where the access password is 0, else in open.
+fn give_handle(mut body: Body, session: Session, q: QValue, out: &mut Bits) -> Heard
+    requires { reply_room ≤ out.old.capacity }
+    ensures { GivesOutcome (give_handle session q body) result out.old out.new }
+{
+    let level = if body.parts.memory.access_word() == 0 {
+        Level::Secured
+    } else {
+        Level::Opened
+    };
+    let handle = body.draw();
+    let held = Held {
+        session,
+        q,
+        handle,
+        cover: None,
+        half: None,
+    };
+    let tag = TagWithHandle { level, held, body };
+    answer_handle(tag.tag(), handle, out)
 }
 
 impl TagWithHandle {
@@ -73,12 +69,12 @@ impl AnyTag {
         ensures { GivesOutcome (req_rn rn (tag_value_of self).state (tag_value_of self).body) result out.old out.new }
     {
         match self {
-            AnyTag::InReply(Tag { state, body }) => body.go_back(state.session, state.q, out),
+            AnyTag::InReply(Tag { state, body }) => go_back(body, state.session, state.q, out),
             AnyTag::Acknowledged(Tag { state, body }) => {
                 if state.rn != rn {
                     return unanswered(state.tag(body), out);
                 }
-                body.give_handle(state.session, state.q, out)
+                give_handle(body, state.session, state.q, out)
             }
             AnyTag::Opened(Tag { state, body }) => {
                 let held = state.held;

@@ -13,13 +13,13 @@ ghost use Rattle.tag_machine.specs.Hearing.{GivesOutcome, tag_value_of};
 
 use crate::abilities::Present;
 use crate::any_tag::{Answered, AnyTag, Heard};
-use crate::body::Body;
-use crate::moves::{answer_error, answer_handle, answer_header, unanswered};
+use crate::moves::{answer_error, answer_handle, answer_header, go_back, unanswered};
 use crate::states::{Held, Opened, Password, Secured};
 use crate::tag::Tag;
 use bit_strings::{Bits, Pointer, xor16};
 use command_grammar::Bank;
 use lock_rules::{ErrorCode, Level};
+use tag_body::Body;
 
 /// A tag in open or secured. What it permits goes by the level.
 #[derive(Drop)]
@@ -108,7 +108,7 @@ impl TagWithHandle {
             return Err(unanswered(self.tag(), out));
         }
         if self.held.ends(brought) {
-            return Err(self.body.go_back(self.held.session, self.held.q, out));
+            return Err(go_back(self.body, self.held.session, self.held.q, out));
         }
         Ok(self)
     }
@@ -147,10 +147,10 @@ impl AnyTag {
     {
         match self {
             AnyTag::InReply(Tag { state, body }) => {
-                Err(body.go_back(state.session, state.q, out))
+                Err(go_back(body, state.session, state.q, out))
             }
             AnyTag::Acknowledged(Tag { state, body }) => {
-                Err(body.go_back(state.session, state.q, out))
+                Err(go_back(body, state.session, state.q, out))
             }
             AnyTag::Opened(Tag { state, body }) => {
                 let held = state.held;

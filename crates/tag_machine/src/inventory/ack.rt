@@ -7,13 +7,13 @@ ghost use Rattle.reply_grammar.specs.Table.{reply_room};
 
 use crate::abilities::{InTurn, Present};
 use crate::any_tag::{Answered, AnyTag, Heard};
-use crate::moves::unanswered;
+use crate::moves::{go_back, unanswered};
 use crate::states::Acknowledged;
-use crate::steps::Steps;
 use crate::tag::Tag;
 use bit_strings::Bits;
 use reply_grammar::encode_epc;
 use std::sync::ledger::Ledger;
+use tag_body::Steps;
 
 /// Answers an ACK: PC, EPC and CRC-16, with the preamble of the Query's TRext.
 fn answer_epc(tag: AnyTag, out: &mut Bits) -> Heard
@@ -38,7 +38,7 @@ impl AnyTag {
         match self {
             AnyTag::InReply(Tag { state, body }) => {
                 if state.rn != rn {
-                    return body.go_back(state.session, state.q, out);
+                    return go_back(body, state.session, state.q, out);
                 }
                 let state = Acknowledged {
                     session: state.session,
@@ -49,21 +49,21 @@ impl AnyTag {
             }
             AnyTag::Acknowledged(Tag { state, body }) => {
                 if state.rn != rn {
-                    return body.go_back(state.session, state.q, out);
+                    return go_back(body, state.session, state.q, out);
                 }
                 answer_epc(state.tag(body), out)
             }
             AnyTag::Opened(Tag { state, body }) => {
                 let held = state.held;
                 if held.half.is_some() || held.handle != rn {
-                    return body.go_back(held.session, held.q, out);
+                    return go_back(body, held.session, held.q, out);
                 }
                 answer_epc(state.tag(body), out)
             }
             AnyTag::Secured(Tag { state, body }) => {
                 let held = state.held;
                 if held.half.is_some() || held.handle != rn {
-                    return body.go_back(held.session, held.q, out);
+                    return go_back(body, held.session, held.q, out);
                 }
                 answer_epc(state.tag(body), out)
             }

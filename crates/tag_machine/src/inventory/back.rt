@@ -4,10 +4,11 @@ ghost use Rattle.tag_machine.specs.Draws.{tag_gone_back};
 
 use crate::abilities::InTurn;
 use crate::any_tag::AnyTag;
+use crate::moves::back;
 use crate::states::Arbitrate;
-use crate::steps::Steps;
 use crate::tag::Tag;
 use std::sync::ledger::Ledger;
+use tag_body::Steps;
 
 impl<S: InTurn> Tag<S> {
     /// The tag is in arbitrate with slot 0, in its session and with its Q.
@@ -16,10 +17,10 @@ impl<S: InTurn> Tag<S> {
         ensures counted { steps.new ≡ steps.old + 1 }
     {
         match self.one_step(steps) {
-            AnyTag::InReply(Tag { state, body }) => body.back(state.session, state.q),
-            AnyTag::Acknowledged(Tag { state, body }) => body.back(state.session, state.q),
-            AnyTag::Opened(Tag { state, body }) => body.back(state.held.session, state.held.q),
-            AnyTag::Secured(Tag { state, body }) => body.back(state.held.session, state.held.q),
+            AnyTag::InReply(Tag { state, body }) => back(body, state.session, state.q),
+            AnyTag::Acknowledged(Tag { state, body }) => back(body, state.session, state.q),
+            AnyTag::Opened(Tag { state, body }) => back(body, state.held.session, state.held.q),
+            AnyTag::Secured(Tag { state, body }) => back(body, state.held.session, state.held.q),
             AnyTag::Ready(Tag { state: _state, .. }) => unreachable!(),
             AnyTag::Arbitrate(Tag { state: _state, .. }) => unreachable!(),
             AnyTag::Killed(Tag { state: _state, .. }) => unreachable!(),

@@ -6,11 +6,11 @@ ghost use Rattle.reply_grammar.specs.Table.{reply_room};
 
 use crate::abilities::InRound;
 use crate::any_tag::{AnyTag, Heard};
-use crate::moves::unanswered;
-use crate::steps::Steps;
+use crate::moves::{go_back, unanswered};
 use crate::tag::Tag;
 use bit_strings::Bits;
 use std::sync::ledger::Ledger;
+use tag_body::Steps;
 
 impl AnyTag {
     /// NAK, in each state.
@@ -19,13 +19,13 @@ impl AnyTag {
         ensures { GivesOutcome (nak (tag_value_of self).state (tag_value_of self).body) result out.old out.new }
     {
         match self {
-            AnyTag::InReply(Tag { state, body }) => body.go_back(state.session, state.q, out),
-            AnyTag::Acknowledged(Tag { state, body }) => body.go_back(state.session, state.q, out),
+            AnyTag::InReply(Tag { state, body }) => go_back(body, state.session, state.q, out),
+            AnyTag::Acknowledged(Tag { state, body }) => go_back(body, state.session, state.q, out),
             AnyTag::Opened(Tag { state, body }) => {
-                body.go_back(state.held.session, state.held.q, out)
+                go_back(body, state.held.session, state.held.q, out)
             }
             AnyTag::Secured(Tag { state, body }) => {
-                body.go_back(state.held.session, state.held.q, out)
+                go_back(body, state.held.session, state.held.q, out)
             }
             other => unanswered(other, out),
         }

@@ -1,49 +1,36 @@
 //! Query (6.3.2.11.2.1).
 ghost use Rattle.std.specs.Prelude.{◌≡◌, ◌+◌, ◌≤◌};
-ghost use Rattle.tag_machine.specs.Inventory.{query, take_part, body_after_close};
+ghost use Rattle.tag_machine.specs.Inventory.{query, take_part};
 ghost use Rattle.tag_machine.specs.Hearing.{GivesOutcome, tag_value_of};
 ghost use Rattle.reply_grammar.specs.Table.{reply_room};
 
 use crate::abilities::Present;
 use crate::any_tag::{AnyTag, Heard};
-use crate::body::Body;
-use crate::moves::unanswered;
+use crate::moves::{enter, unanswered};
 use crate::states::Ready;
-use crate::steps::Steps;
 use crate::tag::Tag;
 use bit_strings::{Bits, Code, QValue, Session};
 use command_grammar::{Sel, Side};
 use std::sync::ledger::Ledger;
+use tag_body::{Body, Steps};
 
-impl Body {
-    /// What a Query does once the tag's flag was inverted where it had to be: a tag that matches takes the
-    /// session and Q and draws its slot, another is ready.
-    fn take_part(self, sel: Sel, session: Session, target: Side, q: QValue, out: &mut Bits) -> Heard
-        requires room { reply_room ≤ out.old.capacity }
-        ensures { GivesOutcome (take_part sel session target q self) result out.old out.new }
-    {
-        if !self.parts.flags.matches(sel, session, target) {
-            let tag = Tag {
-                state: Ready,
-                body: self,
-            };
-            return unanswered(AnyTag::Ready(tag), out);
-        }
-        self.enter(session, q, out)
+/// What a Query does once the tag's flag was inverted where it had to be: a tag that matches takes the
+/// session and Q and draws its slot, another is ready.
+fn take_part(
+    body: Body,
+    sel: Sel,
+    session: Session,
+    target: Side,
+    q: QValue,
+    out: &mut Bits,
+) -> Heard
+    requires room { reply_room ≤ out.old.capacity }
+    ensures { GivesOutcome (take_part sel session target q body) result out.old out.new }
+{
+    if !body.parts.flags.matches(sel, session, target) {
+        return unanswered(AnyTag::Ready(Tag { state: Ready, body }), out);
     }
-
-    /// The body of a tag that was inventoried in its own session, and hears a Query of a session: where the
-    /// two are one, its flag is inverted.
-    fn closed_before(self, own: Session, session: Session) -> Body
-        ensures { result ≡ body_after_close own session self }
-    {
-        if own != session {
-            return self;
-        }
-        let mut body = self;
-        body.parts.flags.invert(session);
-        body
-    }
+    enter(body, session, q, out)
 }
 
 impl AnyTag {
@@ -64,19 +51,19 @@ impl AnyTag {
             AnyTag::Ready(Tag { state: _, body })
             | AnyTag::Arbitrate(Tag { state: _, body })
             | AnyTag::InReply(Tag { state: _, body }) => {
-                body.take_part(sel, session, target, q, out)
+                take_part(body, sel, session, target, q, out)
             }
             AnyTag::Acknowledged(Tag { state, body }) => {
                 let body = body.closed_before(state.session, session);
-                body.take_part(sel, session, target, q, out)
+                take_part(body, sel, session, target, q, out)
             }
             AnyTag::Opened(Tag { state, body }) => {
                 let body = body.closed_before(state.held.session, session);
-                body.take_part(sel, session, target, q, out)
+                take_part(body, sel, session, target, q, out)
             }
             AnyTag::Secured(Tag { state, body }) => {
                 let body = body.closed_before(state.held.session, session);
-                body.take_part(sel, session, target, q, out)
+                take_part(body, sel, session, target, q, out)
             }
             AnyTag::Killed(tag) => unanswered(AnyTag::Killed(tag), out),
             AnyTag::Unpowered(tag) => unanswered(AnyTag::Unpowered(tag), out),

@@ -1,30 +1,17 @@
 //! QueryAdjust (6.3.2.11.2.2).
 ghost use Rattle.std.specs.Prelude.{◌≡◌, ◌+◌, ◌≤◌};
-ghost use Rattle.tag_machine.specs.Inventory.{query_adjust, q_after_adjust};
+ghost use Rattle.tag_machine.specs.Inventory.{query_adjust};
 ghost use Rattle.tag_machine.specs.Hearing.{GivesOutcome, tag_value_of};
 ghost use Rattle.reply_grammar.specs.Table.{reply_room};
 
 use crate::abilities::{InRound, Present};
 use crate::any_tag::{AnyTag, Heard};
-use crate::moves::unanswered;
-use crate::steps::Steps;
+use crate::moves::{enter, unanswered};
 use crate::tag::Tag;
-use bit_strings::{Bits, QValue, Session};
+use bit_strings::{Bits, Session};
 use command_grammar::UpDn;
 use std::sync::ledger::Ledger;
-
-/// Q after a QueryAdjust: it stays at 15 on up and at 0 on down.
-pub(crate) fn adjusted(updn: UpDn, q: QValue) -> QValue
-    ensures { result ≡ q_after_adjust updn q }
-{
-    let number = q.get();
-    let number = match updn {
-        UpDn::Up => number + 1,
-        UpDn::Same => number,
-        UpDn::Down => number.saturating_sub(1),
-    };
-    QValue::new(number).unwrap_or(q)
-}
+use tag_body::{Steps, adjusted};
 
 impl AnyTag {
     /// QueryAdjust, in each state.
@@ -38,13 +25,13 @@ impl AnyTag {
                 if state.session != session {
                     return unanswered(state.tag(body), out);
                 }
-                body.enter(session, adjusted(updn, state.q), out)
+                enter(body, session, adjusted(updn, state.q), out)
             }
             AnyTag::InReply(Tag { state, body }) => {
                 if state.session != session {
                     return unanswered(state.tag(body), out);
                 }
-                body.enter(session, adjusted(updn, state.q), out)
+                enter(body, session, adjusted(updn, state.q), out)
             }
             // The turn of a tag that was inventoried ends as at a QueryRep.
             AnyTag::Acknowledged(tag) => AnyTag::Acknowledged(tag).query_rep(session, out),

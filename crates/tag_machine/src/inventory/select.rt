@@ -6,32 +6,28 @@ ghost use Rattle.reply_grammar.specs.Table.{reply_room};
 
 use crate::abilities::Present;
 use crate::any_tag::{AnyTag, Heard};
-use crate::body::Body;
-use crate::moves::unanswered;
+use crate::moves::{go_back, unanswered};
 use crate::states::Ready;
-use crate::steps::Steps;
 use crate::tag::Tag;
 use bit_strings::{Action, Bits, Pointer};
 use command_grammar::{FlagName, Mask, MaskBank};
 use std::sync::ledger::Ledger;
+use tag_body::{Body, Steps};
 
-impl Body {
-    /// The flag changes by the action, and the tag is ready.
-    fn select_ready(
-        self,
-        target: FlagName,
-        action: Action,
-        bank: MaskBank,
-        pointer: Pointer,
-        mask: &Mask,
-        out: &mut Bits,
-    ) -> Heard
-        ensures { GivesOutcome (selected_ready target action bank pointer mask.now self) result out.old out.new }
-    {
-        let mut body = self;
-        body.select(target, action, bank, pointer, mask);
-        unanswered(AnyTag::Ready(Tag { state: Ready, body }), out)
-    }
+/// The flag changes by the action, and the tag is ready.
+fn select_ready(
+    mut body: Body,
+    target: FlagName,
+    action: Action,
+    bank: MaskBank,
+    pointer: Pointer,
+    mask: &Mask,
+    out: &mut Bits,
+) -> Heard
+    ensures { GivesOutcome (selected_ready target action bank pointer mask.now body) result out.old out.new }
+{
+    body.select(target, action, bank, pointer, mask);
+    unanswered(AnyTag::Ready(Tag { state: Ready, body }), out)
 }
 
 impl AnyTag {
@@ -53,15 +49,15 @@ impl AnyTag {
             | AnyTag::Arbitrate(Tag { state: _, body })
             | AnyTag::InReply(Tag { state: _, body })
             | AnyTag::Acknowledged(Tag { state: _, body }) => {
-                body.select_ready(target, action, bank, pointer, mask, out)
+                select_ready(body, target, action, bank, pointer, mask, out)
             }
             AnyTag::Opened(Tag { state, body }) => match state.held.half {
-                Some(_) => body.go_back(state.held.session, state.held.q, out),
-                None => body.select_ready(target, action, bank, pointer, mask, out),
+                Some(_) => go_back(body, state.held.session, state.held.q, out),
+                None => select_ready(body, target, action, bank, pointer, mask, out),
             },
             AnyTag::Secured(Tag { state, body }) => match state.held.half {
-                Some(_) => body.go_back(state.held.session, state.held.q, out),
-                None => body.select_ready(target, action, bank, pointer, mask, out),
+                Some(_) => go_back(body, state.held.session, state.held.q, out),
+                None => select_ready(body, target, action, bank, pointer, mask, out),
             },
             AnyTag::Killed(tag) => unanswered(AnyTag::Killed(tag), out),
             AnyTag::Unpowered(tag) => unanswered(AnyTag::Unpowered(tag), out),

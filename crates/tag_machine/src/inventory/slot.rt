@@ -2,11 +2,11 @@
 ghost use Rattle.std.specs.Prelude.{◌≡◌, ◌+◌, ◌<◌, ◌^◌, ℕ, length};
 ghost use Rattle.tag_machine.specs.TagValue.{ArbitrateState};
 
-use crate::states::{Arbitrate, Slot};
-use crate::steps::Steps;
+use crate::states::Arbitrate;
 use crate::tag::Tag;
 use bit_strings::{QValue, Session};
 use std::sync::ledger::Ledger;
+use tag_body::{Slot, Steps};
 
 impl Tag<Arbitrate> {
     /// The session of the round that the tag takes part in.

@@ -1,13 +1,14 @@
 //! What a tag holds in every state.
 ghost use Rattle.std.specs.Prelude.{◌≡◌, ◌+◌, ◌^◌, ◌==◌, ◌<◌, if◌then◌else◌, length, IfOk};
 ghost use Rattle.session_flags.specs.Flags.{new_flags};
-ghost use Rattle.tag_machine.specs.Draws.{draw_of, place_behind, slot_of_draw, body_after_draw};
-ghost use Rattle.tag_machine.specs.Inventory.{selected_body};
+ghost use Rattle.tag_body.specs.Draws.{draw_of, place_behind, slot_of_draw, body_after_draw};
+ghost use Rattle.tag_body.specs.BodyFlags.{selected_body};
 
 mod access;
+mod flags;
 
 use bit_strings::{Action, OutOfMemory, Pointer, QValue};
-use command_grammar::{FlagName, Mask, MaskBank};
+use command_fields::{FlagName, Mask, MaskBank};
 use lock_rules::Locks;
 use session_flags::{DrawWords, Flags, mask_matches};
 use std::alloc::Global;
@@ -37,7 +38,7 @@ pub struct Parts {
 }
 
 impl Model for Body {
-    ghost use Rattle.tag_machine.specs.TagValue.{BodyValue, IsLegalBody};
+    ghost use Rattle.tag_body.specs.BodyValue.{BodyValue, IsLegalBody};
 
     ghost Value = { BodyValue };
 

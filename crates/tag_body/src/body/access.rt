@@ -3,12 +3,11 @@ ghost use Rattle.std.specs.Prelude.{◌≡◌, ◌≤◌, [], ◌∷◌};
 ghost use Rattle.reply_grammar.specs.Table.{IsReply, reply_room, spelling};
 ghost use Rattle.lock_rules.specs.Lock.{locks_after};
 ghost use Rattle.tag_memory.specs.Access.{words_read, banks_after_write, banks_after_erase};
-ghost use Rattle.tag_machine.specs.Answers.{HasFewWords};
-ghost use Rattle.tag_machine.specs.Access.{has_user, read_answer, change_answer, changed_or};
+ghost use Rattle.tag_body.specs.MemoryAnswers.{HasFewWords, has_user, read_answer, change_answer, changed_or};
 
 use super::Body;
 use bit_strings::{Bits, Count1, Payload, Pointer};
-use command_grammar::{Bank, BlockWords};
+use command_fields::{Bank, BlockWords};
 use lock_rules::{ErrorCode, Level};
 use reply_grammar::{encode_error, encode_words};
 
