@@ -1,5 +1,6 @@
 pub mod Beginning
 pub mod Copies
+pub mod RaisedInPlace
 pub mod Counted
 pub mod Listings
 pub mod LastLines

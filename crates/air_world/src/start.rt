@@ -2,18 +2,20 @@
 ghost use Rattle.std.specs.Prelude.{◌≡◌, ◌<◌, ◌≤◌, ◌^◌, ◌++◌, IfOk, OnOk, length, map};
 ghost use Rattle.air_world.specs.NewAir.{IsGroupOfTags, new_air};
 ghost use Rattle.runs.specs.ScenarioStart.{start_of, tag_of};
-ghost use Rattle.scenario.specs.Groups.{copies_of, copy_of, raised, raised_at};
+ghost use Rattle.scenario.specs.Groups.{copies_of, copy_of, raised};
 ghost use Rattle.scenario.specs.Limits.{IsScenario};
 ghost use Rattle.scenario_lines.specs.TagForm.{IsTag, epc_length};
 ghost use Rattle.tag_machine.specs.Hearing.{tag_value_of};
+ghost use Rattle.tag_memory.specs.Image.{banks_of};
 
 use air_channel::{Air, Population};
-use bit_strings::{List, OutOfMemory};
+use bit_strings::OutOfMemory;
+use command_fields::Bank;
 use scenario::{Scenario, TagGroup, TagSpec};
 use session_flags::DrawWords;
 use std::alloc::Global;
 use tag_machine::AnyTag;
-use tag_memory::BankImage;
+use tag_memory::Memory;
 
 /// A tag as a scenario gives it: ready, with the flags of a new tag and no draw made.
 fn new_tag(alloc: Global, spec: &TagSpec) -> Result<AnyTag, OutOfMemory>
@@ -32,15 +34,28 @@ fn raised(word: u16, by: u32) -> u16
     (sum % 65_536) as u16
 }
 
-/// The words, of which the one at this place is raised by a number.
-fn raised_at(alloc: Global, words: &[u16], place: usize, by: u32) -> Result<List<u16>, OutOfMemory>
-    requires place { place < length words.now }
-    requires few { length words.now < 2 ^ 32 }
-    ensures { IfOk result (λ list. list ≡ raised_at by place words.now) }
+/// The memory of the copy of this number of a tag. The words that the number raises are raised where they stand, before StoredCRC is
+/// computed, so that no memory is taken but that of the copy's own banks.
+fn memory_of_copy(alloc: Global, spec: &TagSpec, number: u32) -> Result<Memory, OutOfMemory>
+    requires tag { IsTag spec.now }
+    requires epc { 1 ≤ epc_length spec.now }
+    ensures { IfOk result (λ memory. memory ≡ banks_of (copy_of number spec.now).image) }
 {
-    let mut changed = Vec::from_slice(alloc, words)?;
-    changed[place] = raised(changed[place], by);
-    Ok(List::new(changed))
+    let epc = spec.image.epc.as_slice();
+    let tid = spec.image.tid.as_slice();
+    // The EPC stands behind PC, whose first five bits give the number of its words (6.3.2.1.2.2).
+    let last_of_epc = usize::from(epc[0] >> 11);
+    let last_of_tid = tid.len() - 1;
+    let mut memory = Memory::without_crc(alloc, &spec.image)?;
+    // In the bank the word stands a place further on, behind StoredCRC.
+    memory.put(
+        Bank::Epc,
+        1 + last_of_epc,
+        &[raised(epc[last_of_epc], number)],
+    );
+    memory.put(Bank::Tid, last_of_tid, &[raised(tid[last_of_tid], number)]);
+    memory.power_on();
+    Ok(memory)
 }
 
 /// The draw words, each raised by a number.
@@ -61,19 +76,9 @@ fn new_copy(alloc: Global, spec: &TagSpec, number: u32) -> Result<AnyTag, OutOfM
     requires epc { 1 ≤ epc_length spec.now }
     ensures { IfOk result (λ tag. tag_value_of tag ≡ tag_of (copy_of number spec.now)) }
 {
-    let epc = spec.image.epc.as_slice();
-    let tid = spec.image.tid.as_slice();
-    // The EPC stands behind PC, whose first five bits give the number of its words (6.3.2.1.2.2).
-    let last_of_epc = usize::from(epc[0] >> 11);
-    let image = BankImage {
-        kill: spec.image.kill,
-        access: spec.image.access,
-        epc: raised_at(alloc, epc, last_of_epc, number)?,
-        tid: raised_at(alloc, tid, tid.len() - 1, number)?,
-        user: List::new(Vec::from_slice(alloc, spec.image.user.as_slice())?),
-    };
+    let memory = memory_of_copy(alloc, spec, number)?;
     let words = raised_words(alloc, &spec.words, number)?;
-    AnyTag::of_image(alloc, &image, spec.locks, words)
+    AnyTag::new(alloc, memory, spec.locks, words)
 }
 
 /// Adds the tags of a group: the tag as it is written, and behind it its other copies.

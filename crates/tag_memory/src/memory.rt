@@ -106,8 +106,8 @@ fn epc_bank_with(alloc: Global, words: &[u16]) -> Result<Vec<u16>, AllocError>
 }
 
 impl Memory {
-    /// The banks of an image, with 0000h in the place of StoredCRC.
-    fn without_crc(alloc: Global, image: &BankImage) -> Result<Memory, AllocError>
+    /// The banks of an image, with 0000h in the place of StoredCRC, which [`Memory::power_on`] computes.
+    pub fn without_crc(alloc: Global, image: &BankImage) -> Result<Memory, AllocError>
         requires sizes { sizes_fit image.now ≡ true }
         requires pc { pc_fits image.now ≡ true }
         ensures { IfOk result (λ memory. memory ≡ image_banks image.now) }
