@@ -1,14 +1,12 @@
 -- What the channel gives, told by the number of replies and the one that is kept.
-use Rattle.std.proofs.Common.{◌≡◌, ◌≢◌, ℕ, zero, suc, ◌+◌, ◌%◌, ◌<◌, ◌≤◌, Bool, false, List, [], ◌∷◌, ◌++◌, length, take, drop, replicate, Option, Some, None, refl, sym, ap, ◌∙◌, arith, append-nil}
+use Rattle.std.proofs.Common.{◌≡◌, ◌≢◌, ℕ, zero, suc, ◌%◌, ◌<◌, ◌≤◌, Bool, List, [], ◌∷◌, length, Option, Some, None, refl, sym, ap, ◌∙◌, arith}
 use Rattle.std.specs.Prelude.{slice_get}
-use Rattle.std.proofs.lemmas.List.{drop_all, length-replicate}
 use Rattle.std.proofs.lemmas.Option.{slice_get_past}
 use Rattle.air_events.specs.Streams.{longest_stream}
 use Rattle.air_events.specs.declared.Choice.{Choice}
 use Rattle.air_events.specs.declared.Choice.TheVariants as choices
 use Rattle.air_events.specs.declared.Several.{Several}
 use Rattle.air_events.specs.declared.Several.TheVariants as severals
-use Rattle.bit_strings.specs.BitString.{BitString}
 use Rattle.bit_strings.specs.declared.code.Code.{Code}
 use Rattle.line_code.specs.TableFacts.{with_level_flipped}
 use Rattle.pie_line.specs.Link.{LinkValue}
@@ -134,13 +132,3 @@ raw_few link replies (Some choices.Silent) several levels few is = absurd (whole
 raw_few link replies (Some (choices.Break place)) several levels few is = absurd (broken_not_raw replies place link.code link.trext levels is)
 raw_few link replies (Some (choices.Raw chosen)) several levels few is = rw (← same_levels link.code link.code link.trext link.trext levels chosen is) few
 raw_few link replies None several levels few is = absurd (default_not_raw several replies link.code link.trext levels is)
-
--- levels that are put over as many zeros
-pub put_over : (old filled stream : BitString) (levels : List Bool) (count : ℕ) → count ≡ length levels → filled ≡ record old { items = replicate count false }
-    → stream ≡ record filled { items = take 0 filled.items ++ levels ++ drop (0 + length levels) filled.items } → stream ≡ record old { items = levels }
-put_over old filled stream levels count is filled_is stream_is =
-    let long : length filled.items ≡ count = ap (λ (b : BitString). length b.items) filled_is ∙ length-replicate count false in
-    let none : drop (0 + length levels) filled.items ≡ [] = drop_all (0 + length levels) filled.items (omega (arith, long, is)) in
-    let items : take 0 filled.items ++ levels ++ drop (0 + length levels) filled.items ≡ levels =
-    ap (λ (l : List Bool). take 0 filled.items ++ levels ++ l) none ∙ append-nil (take 0 filled.items ++ levels) in
-    stream_is ∙ ap (λ (l : List Bool). record filled { items = l }) items ∙ ap (λ (b : BitString). record b { items = levels }) filled_is

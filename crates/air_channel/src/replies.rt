@@ -174,8 +174,8 @@ fn put_levels(levels: &[bool], stream: &mut Levels)
     requires { length levels.now ≤ stream.old.capacity }
     ensures { stream.new ≡ record stream.old { items = levels.now } }
 {
-    stream.fill_zeros(levels.len());
-    stream.overwrite(0, levels);
+    stream.clear();
+    stream.put_all_reserved(levels);
 }
 
 /// What the channel gives of so many replies by this choice, or by the default for several.
