@@ -1,2 +1,3 @@
 pub mod Fm0
+pub mod Changes
 pub mod laws

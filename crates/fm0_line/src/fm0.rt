@@ -1,11 +1,13 @@
 //! FM0 baseband and its preamble.
-ghost use Rattle.std.specs.Prelude.{◌≡◌, ◌<◌, Some, ◌∷◌, [], true};
-ghost use Rattle.bit_strings.specs.Numbers.{field_of};
+ghost use Rattle.std.specs.Prelude.{◌≡◌, ◌<◌, Some, ◌∷◌, [], true, length, map, replicate, IsTrue};
+ghost use Rattle.bit_strings.specs.Numbers.{digit_of, field_of};
 ghost use Rattle.line_code.specs.Stream.{blocks};
 ghost use Rattle.fm0_line.specs.Fm0.{fm0, fm0_second};
+ghost use Rattle.fm0_line.specs.Changes.{changes, evens, odds, bit_of_middle};
 ghost use Rattle.fm0_line.specs.laws.Fm0.{fm0_even, fm0_has_lead, fm0_tells_bits, fm0_refuses_flips, fm0_hides_lead};
 
 use line_code::LineCode;
+use std::simd::prelude::{SimdPartialEq, u8x16};
 
 /// FM0 baseband (6.3.1.3.2.1 of the standard): the level inverts at each boundary of a symbol, and a
 /// data-0 inverts in its middle too. A symbol has two levels.
@@ -88,6 +90,62 @@ fn four_symbols(before: bool, number: u16) -> &'static [bool; 8]
     &FOUR_SYMBOLS[16 * (before as usize) + (number % 16) as usize]
 }
 
+/// 16 levels as digits.
+#[inline]
+fn digits_of(levels: &[bool]) -> u8x16
+    requires { length levels.now ≡ 16 }
+    ensures { result ≡ map digit_of levels.now }
+{
+    let mut digits = [0; 16];
+    for at in 0..16 {
+        digits[at] = u8::from(levels[at]);
+    }
+    u8x16::from_array(digits)
+}
+
+/// Which of 16 levels are followed by another level, as digits.
+#[inline]
+fn changes(levels: &[bool]) -> u8x16
+    requires { length levels.now ≡ 17 }
+    ensures { result ≡ changes levels.now }
+{
+    digits_of(&levels[..16]) ^ digits_of(&levels[1..])
+}
+
+/// The changes of 32 levels at the boundaries of symbols, of which the first is in front of the levels, and in their middles.
+#[inline]
+fn changes_of_symbols(levels: &[bool]) -> (u8x16, u8x16)
+    requires { length levels.now ≡ 33 }
+    ensures boundaries { result.0 ≡ evens (changes levels.now) }
+    ensures middles { result.1 ≡ odds (changes levels.now) }
+{
+    changes(&levels[..17]).deinterleave(changes(&levels[16..]))
+}
+
+/// Whether the level changes at each of these places.
+#[inline]
+fn is_each_change(changes: u8x16) -> bool
+    ensures { IsTrue result → changes ≡ replicate 16 1 }
+{
+    changes.simd_eq(u8x16::splat(1)).all()
+}
+
+/// The bits of 16 symbols, by the changes in their middles.
+#[inline]
+fn bits_of_middles(changes: u8x16) -> [bool; 16]
+    ensures { result ≡ map bit_of_middle changes }
+{
+    let digits = changes
+        .simd_eq(u8x16::splat(0))
+        .select(u8x16::splat(1), u8x16::splat(0))
+        .to_array();
+    let mut bits = [false; 16];
+    for at in 0..16 {
+        bits[at] = digits[at] == 1;
+    }
+    bits
+}
+
 impl LineCode for Fm0 {
     type Mark = SymbolBefore;
 
@@ -151,6 +209,20 @@ impl LineCode for Fm0 {
         let last = SymbolBefore {
             bit: bits[3],
             last_level: levels[7],
+        };
+        Some((bits, last))
+    }
+
+    fn sixteen_bits(mark: SymbolBefore, levels: &[bool]) -> Option<([bool; 16], SymbolBefore)> {
+        // Each symbol begins with an inversion.
+        let (boundaries, middles) = changes_of_symbols(levels);
+        if levels[0] != mark.last_level || !is_each_change(boundaries) {
+            return None;
+        }
+        let bits = bits_of_middles(middles);
+        let last = SymbolBefore {
+            bit: bits[15],
+            last_level: levels[32],
         };
         Some((bits, last))
     }

@@ -1,5 +1,5 @@
 //! The decoder of a whole list of levels.
-ghost use Rattle.std.specs.Prelude.{◌≡◌, ◌≤◌, ◌<◌, ◌+◌, ◌*◌, ◌++◌, ℕ, List, Bool, [], length, take, IsTrue, ◌↔◌, IfSome, IfOk, OnOk, IfErr, OnErr, IsOk, IsErr};
+ghost use Rattle.std.specs.Prelude.{◌≡◌, ◌≤◌, ◌<◌, ◌+◌, ◌*◌, ◌++◌, ℕ, List, Bool, [], length, take, drop, IsTrue, ◌↔◌, IfSome, IfOk, OnOk, IfErr, OnErr, IsOk, IsErr};
 ghost use Rattle.line_code.specs.Table.{Context};
 ghost use Rattle.line_code.specs.Stream.{IsStream, Streams, blocks};
 ghost use Rattle.line_code.specs.TableFacts.{with_level_flipped};
@@ -49,6 +49,12 @@ fn read<C: LineCode>(trext: bool, levels: &[bool], out: &mut Bits) -> Result<(),
 {
     let mut at = seek::<C>(trext, levels)?;
     let mut mark = C::after_lead();
+    while let Some(sixteen) = next_sixteen::<C>(mark, levels, at) {
+        let bits = sixteen.0;
+        put_bits(&bits, out);
+        mark = sixteen.1;
+        at += 16 * C::CHIPS as usize;
+    }
     while let Some(four) = next_four::<C>(mark, &levels[at..]) {
         let bits = four.0;
         put_bits(&bits, out);
@@ -115,6 +121,24 @@ pub fn same_levels(levels: &[bool], others: &[bool]) -> bool
         same &= *level == others[at];
     }
     same
+}
+
+/// The sixteen bits whose blocks, one behind the other, the levels from the place `at` on are, and the mark of the bit that follows them.
+fn next_sixteen<C: LineCode>(
+    mark: C::Mark,
+    levels: &[bool],
+    at: usize,
+) -> Option<([bool; 16], C::Mark)>
+    requires behind { 1 ≤ at }
+    requires within { at ≤ length levels.now }
+    ensures count { IfSome result (λ it. length it.0 ≡ 16) }
+    ensures taken { IfSome result (λ it. (at + 16 * C.CHIPS ≤ length levels.now) × (take (16 * C.CHIPS) (drop at levels.now) ≡ blocks C.table (C.context_of mark) it.0) × (C.context_of it.1 ≡ context_after C.table (C.context_of mark) it.0)) }
+{
+    let chips = 16 * C::CHIPS as usize;
+    if levels.len() - at < chips {
+        return None;
+    }
+    C::sixteen_bits(mark, &levels[at - 1..at + chips])
 }
 
 /// The four bits whose blocks, one behind the other, the first of these levels are, and the mark of the bit that follows them.

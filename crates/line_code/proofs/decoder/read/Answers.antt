@@ -1,5 +1,5 @@
 -- The levels in the data: whole blocks, then what is left, level by level.
-use Rattle.std.proofs.Common.{◌≡◌, ◌∙◌, ◌+◌, ◌*◌, ◌-◌, ◌++◌, ℕ, [], ◌∷◌, List, Bool, length, take, drop, arith, ap, refl, sym, subst}
+use Rattle.std.proofs.Common.{◌≡◌, ◌∙◌, ◌+◌, ◌*◌, ◌-◌, ◌++◌, ℕ, [], ◌∷◌, ◌≤◌, List, Bool, length, length-append, mul-le-mul_right, take, drop, arith, ap, refl, sym, subst}
 use Rattle.std.proofs.lemmas.Result.{err_from_is_err_and}
 use Rattle.std.proofs.lemmas.List.{length-take-le, length-drop, take_all, append-nil}
 use Rattle.line_code.specs.States.{Reads, HasBlocks, context_after}
@@ -9,7 +9,9 @@ use Rattle.line_code.specs.laws.Reading.{has_more}
 use Rattle.line_code.proofs.Writing.{capacity_of, one_block}
 use Rattle.line_code.proofs.Steps.{one_more, block_more}
 use Rattle.bit_strings.specs.laws.Family.{bad-in_front}
-use Rattle.line_code.proofs.Whole.{bits_within, has_within}
+use Rattle.bit_strings.specs.BitString.{BitString}
+use Rattle.line_code.specs.TableFacts.{CodeTable}
+use Rattle.line_code.proofs.Whole.{bits_within, has_within, HasRead}
 use Rattle.line_code.proofs.decoder.read.Goals as goal
 
 -- the next levels, so many, are the blocks of more bits
@@ -29,8 +31,26 @@ goes_on t trext context levels bits at has next =
 behind : (levels : List Bool) (at : ℕ) → take (length levels - at) (drop at levels) ≡ drop at levels
 behind levels at = take_all (length levels - at) (drop at levels) (omega (arith, length-drop at levels))
 
-pub loop-four-init : goal.loop-four-init
-loop-four-init g c =
+-- what is read, and the blocks of more bits behind it
+taken : (t : Table) (trext : Bool) (levels : List Bool) (context : Context) (before out new : BitString) (at : ℕ) (next : BlocksAt t context levels at)
+    → HasRead t trext levels at context before out → at + next.count ≤ length levels → new ≡ record out { items = out.items ++ next.more }
+    → HasRead t trext levels (at + next.count) (context_after t context next.more) before new
+taken t trext levels context before out new at next read within put = record {
+  within = within;
+  has = rw put (goes_on t trext context levels out.items at read.has next);
+  same = capacity_of new out _ put ∙ read.same;
+}
+
+-- there is room for as many bits as their blocks have levels
+has_room : (code : CodeTable) (trext : Bool) (levels : List Bool) (context : Context) (before out : BitString) (at count bits : ℕ) → HasRead code.table trext levels at context before out
+    → at + count * code.chips ≤ length levels → length levels ≤ before.capacity → bits ≡ count → length out.items + bits ≤ out.capacity
+has_room code trext levels context before out at count bits read within room is =
+    let put = has_within code.table code.chips code.even trext context (take at levels) out.items read.has in
+    let size = length-take-le at levels read.within in
+    omega (arith, put, size, within, room, is, read.same, mul-le-mul_right count code.even.least)
+
+pub loop-sixteen-init : goal.loop-sixteen-init
+loop-sixteen-init g c =
     let t = g.C.LineCode.table in
     let found = c.in_ok-at.ensures.found in
     record {
@@ -39,33 +59,46 @@ loop-four-init g c =
       same = refl;
     }
 
+-- the lead is in front of the first block
+pub next_sixteen-requires-clause-behind : goal.next_sixteen-requires-clause-behind
+next_sixteen-requires-clause-behind g c =
+    let t = g.C.LineCode.table in
+    let read = c.loop-sixteen.invariant in
+    let size = ap length read.has.levels_are in
+    omega (arith, size, length-append (t.lead c.args.trext) (blocks t t.start c.loop-sixteen.out.items), g.met.C.LineCode.has_lead c.args.trext, length-take-le c.loop-sixteen.at c.args.levels.now read.within)
+
 pub put_bits-requires : goal.put_bits-requires
 put_bits-requires g c =
-    let front = take c.loop-four.at c.args.levels.now in
-    let put = has_within g.C.LineCode.table g.C.LineCode.CHIPS g.met.C.LineCode.even c.args.trext _ front c.loop-four.out.items c.loop-four.invariant.has in
-    let within = c.loop-four.invariant.within in
-    let least = g.met.C.LineCode.even.least in
+    let code : CodeTable = record { table = g.C.LineCode.table; chips = g.C.LineCode.CHIPS; even = g.met.C.LineCode.even; tells = g.met.C.LineCode.tells_bits } in
     let some = c.in-Some.ensures in
-    let same = c.loop-four.invariant.same in
-    let room = c.requires.room in
-    let size = length-take-le c.loop-four.at c.args.levels.now within in
-    omega (arith, some.0, some.1, length-drop c.loop-four.at c.args.levels.now)
+    has_room code c.args.trext c.args.levels.now _ c.args.out.now c.loop-sixteen.out c.loop-sixteen.at 16 _ c.loop-sixteen.invariant some.taken.0 c.requires.room some.count
+
+pub loop-sixteen-preserved : goal.loop-sixteen-preserved
+loop-sixteen-preserved g c =
+    let t = g.C.LineCode.table in
+    let some = c.in-Some.ensures in
+    let next : BlocksAt t (g.C.LineCode.context_of c.loop-sixteen.mark) c.args.levels.now c.loop-sixteen.at = record { count = 16 * g.C.LineCode.CHIPS; more = c.in-Some.sixteen.0; levels_are = some.taken.1 } in
+    rw (c.CHIPS.ensures, some.taken.2) (taken t c.args.trext c.args.levels.now _ c.args.out.now c.loop-sixteen.out _ c.loop-sixteen.at next c.loop-sixteen.invariant some.taken.0 c.put_bits.ensures)
+
+pub put_bits-requires-in-Some-next_four : goal.put_bits-requires-in-Some-next_four
+put_bits-requires-in-Some-next_four g c =
+    let code : CodeTable = record { table = g.C.LineCode.table; chips = g.C.LineCode.CHIPS; even = g.met.C.LineCode.even; tells = g.met.C.LineCode.tells_bits } in
+    let some = c.in-Some-next_four.ensures in
+    let within = c.loop-four.invariant.within in
+    has_room code c.args.trext c.args.levels.now _ c.loop-sixteen.out c.loop-four.out c.loop-four.at 4 _ c.loop-four.invariant
+    (omega (arith, some.1, length-drop c.loop-four.at c.args.levels.now)) (omega (arith, c.requires.room, c.loop-sixteen.invariant.same)) some.0
 
 pub loop-four-preserved : goal.loop-four-preserved
 loop-four-preserved g c =
     let t = g.C.LineCode.table in
     let levels = c.args.levels.now in
     let at = c.loop-four.at in
-    let some = c.in-Some.ensures in
-    let context = g.C.LineCode.context_of c.loop-four.mark in
+    let some = c.in-Some-next_four.ensures in
+    let within = c.loop-four.invariant.within in
     let count = 4 * g.C.LineCode.CHIPS in
-    let next : BlocksAt t context levels at = record { count = count; more = c.in-Some.four.0; levels_are = ap (take count) (sym (behind levels at)) ∙ some.2 } in
-    let put = c.put_bits.ensures in
-    record {
-      within = let whole = some.1 in let within = c.loop-four.invariant.within in omega (arith, c.CHIPS.ensures, length-drop at levels);
-      has = rw (c.CHIPS.ensures, some.3, put) (goes_on t c.args.trext context levels c.loop-four.out.items at c.loop-four.invariant.has next);
-      same = capacity_of c.put_bits.new.out c.loop-four.out _ put ∙ c.loop-four.invariant.same;
-    }
+    let next : BlocksAt t (g.C.LineCode.context_of c.loop-four.mark) levels at =
+    record { count = count; more = c.in-Some-next_four.four.0; levels_are = ap (take count) (sym (behind levels at)) ∙ some.2 } in
+    rw (c.CHIPS-in-Some-next_four.ensures, some.3) (taken t c.args.trext levels _ c.loop-sixteen.out c.loop-four.out _ at next c.loop-four.invariant (omega (arith, some.1, length-drop at levels)) c.put_bits-in-Some-next_four.ensures)
 
 pub push_reserved-requires : goal.push_reserved-requires
 push_reserved-requires g c =
