@@ -1,5 +1,5 @@
 //! The air of a scenario.
-ghost use Rattle.std.specs.Prelude.{◌≡◌, ◌<◌, ◌≤◌, ◌^◌, ◌++◌, IfOk, OnOk, length, map};
+ghost use Rattle.std.specs.Prelude.{◌≡◌, ◌≤◌, ◌++◌, IfOk, OnOk, map};
 ghost use Rattle.air_world.specs.NewAir.{IsGroupOfTags, new_air};
 ghost use Rattle.runs.specs.ScenarioStart.{start_of, tag_of};
 ghost use Rattle.scenario.specs.Groups.{copies_of, copy_of, raised};
