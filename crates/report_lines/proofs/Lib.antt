@@ -1,6 +1,7 @@
 pub mod Adding
 pub mod Digits
 pub mod Members
+pub mod Objects
 pub mod Pieces
 pub mod Raising
 pub mod Skipping

@@ -1,8 +1,8 @@
 -- What a map gives and keeps, as counts.
-use Rattle.std.proofs.Common.{◌≡◌, ℕ, ◌+◌, Bool, true, false, List, [], ◌∷◌, ◌++◌, map, refl, sym, ◌∙◌, ap, unwrap_or, Option, Some, None, cond}
+use Rattle.std.proofs.Common.{◌≡◌, ◌<◌, ℕ, ◌+◌, arith, Bool, true, false, List, [], ◌∷◌, ◌++◌, map, refl, sym, ◌∙◌, ap, unwrap_or, Option, Some, None, cond}
 use Rattle.std.specs.Prelude.{sum}
 use Rattle.std.proofs.lemmas.List.Sums.{sum_by-cons}
-use Rattle.std.specs.Map.{lookup, set_value}
+use Rattle.std.specs.Map.{lookup}
 use Rattle.indexmap.specs.IndexMap.{insert_entry}
 use Rattle.reply_grammar.specs.Pairs.{same_pair}
 use Rattle.report_lines.specs.declared.seen.Listed.{Listed}
@@ -39,25 +39,22 @@ inserted (entry ∷ entries) listed =
     inserted_here (same_listed listed entry.0) entry entries (count_of (seen_of entries) (listed.pc, listed.epc)) (λ n. insert_entry same_listed entries listed n)
     (seen_more (seen_of entries) (listed.pc, listed.epc)) (inserted entries listed)
 
--- a pair that the map doesn't have was not counted
-pub uncounted : (entries : List (Listed × ℕ)) (listed : Listed) → lookup (same_listed listed) entries ≡ None → count_of (seen_of entries) (listed.pc, listed.epc) ≡ 0
-uncounted entries listed none = sym (looked_up entries listed) ∙ ap (λ (found : Option ℕ). unwrap_or found 0) none
+-- what is not the count of a pair that is new was found
+pub found_of : (found : Option ℕ) (count : ℕ) → count ≡ unwrap_or found 0 → 0 < count → found ≡ Some count
+found_of (Some other) count is some = ap Some (sym is)
+found_of None count is some = absurd (omega arith)
 
-raised_here : (same : Bool) (entry : Listed × ℕ) (entries others : List (Listed × ℕ)) (other : List Seen) (found : Option ℕ) (count : ℕ) → cond same (Some entry.1) found ≡ Some count →
-    (found ≡ Some count → seen_of others ≡ other) →
-    seen_of (cond same ((entry.0, count + 1) ∷ entries) (entry ∷ others))
-    ≡ cond same (record { pc = entry.0.pc; epc = entry.0.epc; count = entry.1 + 1 } ∷ seen_of entries) (seen_of_entry entry ∷ other)
-raised_here true entry entries others other found count is rest =
-    let same : count ≡ entry.1 = cc in ap (λ (n : ℕ). record { pc = entry.0.pc; epc = entry.0.epc; count = n + 1 } ∷ seen_of entries) same
-raised_here false entry entries others other found count is rest = ap (λ (l : List Seen). seen_of_entry entry ∷ l) (rest is)
+kept_here : (same : Bool) (entry : Listed × ℕ) (entries others : List (Listed × ℕ)) (found : Option ℕ) (count : ℕ) → cond same (Some entry.1) found ≡ Some count →
+    (found ≡ Some count → others ≡ entries) → cond same ((entry.0, count) ∷ entries) (entry ∷ others) ≡ entry ∷ entries
+kept_here true entry entries others found count is rest = let same : count ≡ entry.1 = cc in ap (λ (n : ℕ). (entry.0, n) ∷ entries) same
+kept_here false entry entries others found count is rest = ap (λ (l : List (Listed × ℕ)). entry ∷ l) (rest is)
 
--- what the map keeps, where a count that it has is written with one more
-pub raised : (entries : List (Listed × ℕ)) (listed : Listed) (count : ℕ) → lookup (same_listed listed) entries ≡ Some count →
-    seen_of (set_value (same_listed listed) entries (count + 1)) ≡ seen_more (seen_of entries) (listed.pc, listed.epc)
-raised [] listed count is = absurd (cc)
-raised (entry ∷ entries) listed count is =
-    raised_here (same_listed listed entry.0) entry entries (set_value (same_listed listed) entries (count + 1)) (seen_more (seen_of entries) (listed.pc, listed.epc))
-    (lookup (same_listed listed) entries) count is (raised entries listed count)
+-- a count that goes in as it is changes nothing
+pub kept : (entries : List (Listed × ℕ)) (listed : Listed) (count : ℕ) → lookup (same_listed listed) entries ≡ Some count →
+    insert_entry same_listed entries listed count ≡ entries
+kept [] listed count is = absurd (cc)
+kept (entry ∷ entries) listed count is =
+    kept_here (same_listed listed entry.0) entry entries (insert_entry same_listed entries listed count) (lookup (same_listed listed) entries) count is (kept entries listed count)
 
 -- the counts of the pairs that were listed, with one more
 pub listed_more : (seen : List Seen) (pairs : List (ℕ × List ℕ)) (pc : ℕ) (epc copy : List ℕ) → seen ≡ seen_in pairs → copy ≡ epc →

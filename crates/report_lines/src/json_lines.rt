@@ -1,14 +1,14 @@
 //! Lines of a plain report as JSON objects, written.
 ghost use Rattle.std.specs.Prelude.{◌≡◌, ◌++◌, OnOk};
 ghost use Rattle.std.specs.String.{string_bytes};
-ghost use Rattle.serde_json.specs.Data.{string};
-ghost use Rattle.report_lines.specs.JsonLines.{count_value, json_line_text, result_word};
-ghost use Rattle.report_lines.specs.JsonObject.{pair_of};
+ghost use Rattle.report_lines.specs.JsonLines.{json_line_text, result_word};
 ghost use Rattle.report_lines.specs.Line.{line_of};
 ghost use Rattle.report_lines.specs.ReportLine.{ListLine, OpLine, RoundLine, SeenLine, TagLine};
 ghost use Rattle.tag_machine.specs.Hearing.{tag_value_of};
 
-use crate::json_objects::{Held, Member, push_object};
+use crate::json_objects::{
+    DoneObject, ListObject, OpObject, RoundObject, SeenObject, TagObject, push_object,
+};
 use crate::line::Line;
 use crate::lines::end_name;
 use crate::member_texts::{MemberTexts, set_flags, set_locks, set_result, set_word, set_words};
@@ -33,26 +33,6 @@ fn result_name(ended: &OpResult) -> &'static str
     }
 }
 
-/// A member that is a number.
-fn count(key: &str, count: u64) -> Member<'_>
-    ensures { pair_of result ≡ (key.entry.now, count_value count) }
-{
-    Member {
-        key,
-        held: Held::Count(count),
-    }
-}
-
-/// A member that is a text.
-fn word<'a>(key: &'a str, text: &'a str) -> Member<'a>
-    ensures { pair_of result ≡ (key.entry.now, string text.entry.now) }
-{
-    Member {
-        key,
-        held: Held::Text(text),
-    }
-}
-
 /// Writes the object of a list line.
 fn push_list_object(
     text: &mut String,
@@ -68,13 +48,12 @@ fn push_list_object(
     set_word(&mut texts.pc, pc)?;
     push_object(
         text,
-        &[
-            word("epc", texts.epc.as_str()),
-            word("kind", "list"),
-            word("pc", texts.pc.as_str()),
-            count("round", round as u64),
-            count("slot", slot as u64),
-        ],
+        &ListObject {
+            epc: texts.epc.as_str(),
+            pc: texts.pc.as_str(),
+            round,
+            slot,
+        },
     )
 }
 
@@ -92,14 +71,13 @@ fn push_op_object(
     set_result(&mut texts.value, ended)?;
     push_object(
         text,
-        &[
-            count("index", index as u64),
-            word("kind", "op"),
-            word("result", result_name(ended)),
-            count("round", round as u64),
-            count("slot", slot as u64),
-            word("value", texts.value.as_str()),
-        ],
+        &OpObject {
+            index,
+            result: result_name(ended),
+            round,
+            slot,
+            value: texts.value.as_str(),
+        },
     )
 }
 
@@ -114,12 +92,11 @@ fn push_round_object(
 {
     push_object(
         text,
-        &[
-            word("end", end_name(end)),
-            word("kind", "round"),
-            count("round", round as u64),
-            count("slots", slots as u64),
-        ],
+        &RoundObject {
+            end: end_name(end),
+            round,
+            slots,
+        },
     )
 }
 
@@ -137,12 +114,11 @@ fn push_seen_object(
     set_word(&mut texts.pc, pc)?;
     push_object(
         text,
-        &[
-            count("count", times),
-            word("epc", texts.epc.as_str()),
-            word("kind", "seen"),
-            word("pc", texts.pc.as_str()),
-        ],
+        &SeenObject {
+            count: times,
+            epc: texts.epc.as_str(),
+            pc: texts.pc.as_str(),
+        },
     )
 }
 
@@ -164,17 +140,16 @@ fn push_tag_object(
     set_words(&mut texts.user, memory.bank(Bank::User))?;
     push_object(
         text,
-        &[
-            word("epc", texts.epc.as_str()),
-            word("flags", texts.flags.as_str()),
-            word("kind", "tag"),
-            word("locks", texts.locks.as_str()),
-            count("number", number as u64),
-            word("res", texts.reserved.as_str()),
-            word("state", state_text(tag.state())),
-            word("tid", texts.tid.as_str()),
-            word("user", texts.user.as_str()),
-        ],
+        &TagObject {
+            epc: texts.epc.as_str(),
+            flags: texts.flags.as_str(),
+            locks: texts.locks.as_str(),
+            number,
+            reserved: texts.reserved.as_str(),
+            state: state_text(tag.state()),
+            tid: texts.tid.as_str(),
+            user: texts.user.as_str(),
+        },
     )
 }
 
@@ -203,7 +178,7 @@ pub fn push_json_line(
         Line::Round { round, end, slots } => push_round_object(text, round, end, slots),
         Line::Seen { count, pc, epc } => push_seen_object(text, texts, count, pc, epc),
         Line::Tag { number, tag } => push_tag_object(text, texts, number, tag),
-        Line::Done => push_object(text, &[word("kind", "done")]),
+        Line::Done => push_object(text, &DoneObject),
         Line::Blf { .. }
         | Line::Exchange { .. }
         | Line::Missed { .. }

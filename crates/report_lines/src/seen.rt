@@ -1,6 +1,7 @@
 //! How often each tag was listed.
 ghost use Rattle.std.specs.Prelude.{◌≡◌, ◌<◌, ◌^◌, ◌+◌, ◌++◌, ℕ, List, [], ◌∷◌, length, ◌≤◌, ◌↔◌, OnErr, OnOk, IfOk, IfSome, IsNone, Some, slice_get};
-ghost use Rattle.report_lines.specs.SeenCounts.{count_of, seen_in, seen_more, total_of};
+ghost use Rattle.report_lines.specs.Entries.{seen_of};
+ghost use Rattle.report_lines.specs.SeenCounts.{seen_in, seen_more, total_of};
 
 use bit_strings::OutOfMemory;
 use indexmap::IndexMap;
@@ -39,6 +40,19 @@ fn copy_of(epc: &EpcWords) -> Result<EpcWords, OutOfMemory>
     epc.clone()
 }
 
+/// Counts one more of this pair.
+fn raise(counts: &mut IndexMap<Listed, u64>, listed: Listed) -> Result<(), OutOfMemory>
+    ensures more { OnOk result (seen_of counts.new.entries ≡ seen_more (seen_of counts.old.entries) (listed.pc, listed.epc)) }
+    ensures err { OnErr result (counts.new.entries ≡ counts.old.entries) }
+{
+    let count = counts.entry(listed)?.or_insert(0);
+    let Some(more) = count.checked_add(1) else {
+        return Err(AllocError);
+    };
+    *count = more;
+    Ok(())
+}
+
 impl SeenCounts {
     /// No pair was listed yet.
     pub fn new(alloc: Global) -> SeenCounts
@@ -56,32 +70,7 @@ impl SeenCounts {
         ensures err { OnErr result (self.new ≡ self.old) }
     {
         let epc = copy_of(epc)?;
-        self.raise(Listed { pc, epc })
-    }
-
-    /// Counts one more of this pair.
-    fn raise(&mut self, listed: Listed) -> Result<(), OutOfMemory>
-        ensures more { OnOk result (self.new ≡ seen_more self.old (listed.pc, listed.epc)) }
-        ensures err { OnErr result (self.new ≡ self.old) }
-    {
-        let Some(count) = self.counts.get_mut(&listed) else {
-            return self.add(listed);
-        };
-        let Some(more) = count.checked_add(1) else {
-            return Err(AllocError);
-        };
-        *count = more;
-        Ok(())
-    }
-
-    /// Counts a pair for the first time.
-    fn add(&mut self, listed: Listed) -> Result<(), OutOfMemory>
-        requires { count_of self.old (listed.pc, listed.epc) ≡ 0 }
-        ensures more { OnOk result (self.new ≡ seen_more self.old (listed.pc, listed.epc)) }
-        ensures err { OnErr result (self.new ≡ self.old) }
-    {
-        self.counts.insert(listed, 1)?;
-        Ok(())
+        raise(&mut self.counts, Listed { pc, epc })
     }
 
     /// How many pairs were listed.
