@@ -1,4 +1,4 @@
-use Rattle.std.proofs.Common.{◌≡◌, ap, arith}
+use Rattle.std.proofs.Common.{arith}
 use Rattle.std.proofs.lemmas.Result.{on_ok_weaker}
 use Rattle.report_lines.proofs.Members.{line_written, written_utf8}
 use Rattle.report_lines.proofs.Objects.{round_same, round_simple}
