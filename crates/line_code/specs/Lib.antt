@@ -1,6 +1,5 @@
 pub mod Table
 pub mod Stream
-pub mod Overwriting
 pub mod TableFacts
 pub mod States
 pub mod Refusal

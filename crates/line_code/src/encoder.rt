@@ -1,8 +1,7 @@
 //! The encoder.
-ghost use Rattle.std.specs.Prelude.{◌≡◌, ◌≤◌, ◌<◌, ◌+◌, ◌*◌, ◌^◌, length};
+ghost use Rattle.std.specs.Prelude.{◌≡◌, ◌≤◌, ◌+◌, ◌*◌, ◌++◌, length};
 ghost use Rattle.bit_strings.specs.Numbers.{field_of};
 ghost use Rattle.line_code.specs.Stream.{IsStream, blocks};
-ghost use Rattle.line_code.specs.Overwriting.{with_levels_at};
 ghost use Rattle.line_code.specs.States.{context_after};
 
 use crate::code::LineCode;
@@ -15,52 +14,45 @@ pub fn encode<C: LineCode>(trext: bool, bits: &Bits, out: &mut Levels)
     ensures stream { IsStream C.table trext bits.now.items out.new.items }
     ensures capacity { out.new.capacity ≡ out.old.capacity }
 {
-    let chips = C::CHIPS as usize;
-    let lead = C::lead_levels(trext);
-    let mut at = lead.len();
-    out.fill_zeros(at + chips * (bits.len() as usize + 1));
-    out.overwrite(0, lead);
+    out.clear();
+    out.put_all_reserved(C::lead_levels(trext));
     let mut mark = C::after_lead();
     let bits = bits.as_slice();
     let mut next = 0;
     while let Some(sixteen) = bits[next..].first_chunk::<16>() {
-        mark = overwrite_word::<C>(mark, word_of(sixteen), at, out);
-        at += 16 * chips;
+        mark = put_word::<C>(mark, word_of(sixteen), out);
         next += 16;
     }
     while next < bits.len() {
         let bit = bits[next];
-        out.overwrite(at, C::block(mark, bit));
+        out.put_all_reserved(C::block(mark, bit));
         mark = C::after(mark, bit);
-        at += chips;
         next += 1;
     }
-    out.overwrite(at, C::block(mark, true));
+    out.put_all_reserved(C::block(mark, true));
 }
 
-/// Puts the blocks of the 16 bits of a word in place of the levels from the place `at` on, and answers the mark of the bit that follows them.
+/// Adds the blocks of the 16 bits of a word to levels that have room for them, and answers the mark of the bit that follows them.
 #[inline]
-fn overwrite_word<C: LineCode>(mark: C::Mark, word: u16, at: usize, out: &mut Levels) -> C::Mark
-    requires room { at + C.CHIPS * 16 ≤ length out.old.items }
-    requires counted { at + C.CHIPS * 16 < 2 ^ 64 }
-    ensures levels { out.new ≡ with_levels_at out.old at (blocks C.table (C.context_of mark) (field_of word 16)) }
+fn put_word<C: LineCode>(mark: C::Mark, word: u16, out: &mut Levels) -> C::Mark
+    requires { length out.old.items + C.CHIPS * 16 ≤ out.old.capacity }
+    ensures levels { out.new ≡ record out.old { items = out.old.items ++ blocks C.table (C.context_of mark) (field_of word 16) } }
     ensures mark { C.context_of result ≡ context_after C.table (C.context_of mark) (field_of word 16) }
 {
-    let quarter = 4 * C::CHIPS as usize;
-    let second = overwrite_four::<C>(mark, word / 4096, at, out);
-    let third = overwrite_four::<C>(second, word / 256, at + quarter, out);
-    let fourth = overwrite_four::<C>(third, word / 16, at + 2 * quarter, out);
-    overwrite_four::<C>(fourth, word, at + 3 * quarter, out)
+    let second = put_four::<C>(mark, word / 4096, out);
+    let third = put_four::<C>(second, word / 256, out);
+    let fourth = put_four::<C>(third, word / 16, out);
+    put_four::<C>(fourth, word, out)
 }
 
 /// The same for the last four bits of a number.
 #[inline(always)]
-fn overwrite_four<C: LineCode>(mark: C::Mark, number: u16, at: usize, out: &mut Levels) -> C::Mark
-    requires { at + C.CHIPS * 4 ≤ length out.old.items }
-    ensures levels { out.new ≡ with_levels_at out.old at (blocks C.table (C.context_of mark) (field_of number 4)) }
+fn put_four<C: LineCode>(mark: C::Mark, number: u16, out: &mut Levels) -> C::Mark
+    requires { length out.old.items + C.CHIPS * 4 ≤ out.old.capacity }
+    ensures levels { out.new ≡ record out.old { items = out.old.items ++ blocks C.table (C.context_of mark) (field_of number 4) } }
     ensures mark { C.context_of result ≡ context_after C.table (C.context_of mark) (field_of number 4) }
 {
     let (levels, behind) = C::four_blocks(mark, number);
-    out.overwrite(at, levels);
+    out.put_all_reserved(levels);
     behind
 }

@@ -1,13 +1,14 @@
-use Rattle.std.proofs.Common.{◌≡◌, ◌∙◌, ◌≤◌, ◌+◌, ◌-◌, ◌*◌, ℕ, [], ◌∷◌, ◌++◌, List, Bool, true, false, get_or, take, drop, ap, sym, refl, arith, length}
+use Rattle.std.proofs.Common.{◌≡◌, ◌∙◌, ◌≤◌, ◌+◌, ◌-◌, ◌*◌, ℕ, [], ◌∷◌, ◌++◌, List, Bool, true, false, get_or, take, drop, ap, sym, arith, length}
 use Rattle.std.proofs.Math.Nat.{mul-add, mul-le-mul_left}
-use Rattle.std.proofs.lemmas.List.{take_all, take_more, take_rest, length-take-le, length-drop}
-use Rattle.line_code.specs.Stream.{stream_of, blocks}
-use Rattle.line_code.specs.Overwriting.{with_levels_at}
+use Rattle.std.proofs.lemmas.List.{drop_more, take_all, take_rest, length-take-le, length-drop}
+use Rattle.line_code.specs.Stream.{blocks}
 use Rattle.line_code.specs.States.{context_after}
 use Rattle.line_code.specs.TableFacts.{CodeTable}
+use Rattle.line_code.specs.laws.Reading.{has_more}
+use Rattle.bit_strings.specs.BitString.{BitString}
 use Rattle.bit_strings.specs.Numbers.{value_of, field_of}
 use Rattle.bit_strings.specs.laws.Numbers.{field_of-value_of}
-use Rattle.line_code.proofs.Writing.{Progress, Step, put_over, one_block, capacity_of, writes_more, writes_last, take_next}
+use Rattle.line_code.proofs.Writing.{capacity_of, one_block, written_size, writes_more}
 use Rattle.line_code.proofs.encoder.encode.Goals as goal
 
 -- the next 16 bits
@@ -24,6 +25,10 @@ next_sixteen bits items n enough same =
     let sixteen : 16 ≤ length (drop n bits) = omega (arith, enough, ap length rest) in
     record { enough = omega (arith, sixteen, length-drop n bits); size = ap length items_are ∙ length-take-le 16 (drop n bits) sixteen; items_are = items_are }
 
+-- the next bit
+next_one : (bits : List Bool) (n : ℕ) → n + 1 ≤ length bits → take 1 (drop n bits) ≡ get_or bits n false ∷ []
+next_one bits n within = ap (take 1) (drop_more bits n false (omega (arith, within)))
+
 -- the blocks of so many more bits have room before the dummy's end
 room_for : (chips n count bits : ℕ) → n + count ≤ bits → chips * n + chips * count ≤ chips * (bits + 1)
 room_for chips n count bits within = omega (arith, mul-le-mul_left chips within, mul-add chips bits 1, mul-add chips n count)
@@ -32,111 +37,81 @@ room_for chips n count bits within = omega (arith, mul-le-mul_left chips within,
 bits_of_word : (word : ℕ) (items : List Bool) → word ≡ value_of items → length items ≡ 16 → field_of word 16 ≡ items
 bits_of_word word items is size = ap (λ n. field_of n 16) is ∙ ap (field_of (value_of items)) (sym size) ∙ field_of-value_of items
 
-pub overwrite_word-mark-requires-clause-room : goal.overwrite_word-mark-requires-clause-room
-overwrite_word-mark-requires-clause-room g c =
-    let chips = g.C.LineCode.CHIPS in
+pub put_word-mark-requires : goal.put_word-mark-requires
+put_word-mark-requires g c =
+    let code : CodeTable = record { table = g.C.LineCode.table; chips = g.C.LineCode.CHIPS; even = g.met.C.LineCode.even; tells = g.met.C.LineCode.tells_bits } in
     let bits = c.as_slice-bits.result.now in
     let n = c.loop-sixteen.next in
     let is = c.loop-sixteen.invariant in
-    let items : List Bool = c.in-Some.sixteen.now in
-    let next = next_sixteen bits items n c.in-Some.ensures.cases.enough c.in-Some.ensures.cases.same in
-    omega (arith, is.whole, is.place, room_for chips n 16 (length bits) next.enough)
+    let next = next_sixteen bits c.in-Some.sixteen.now n c.in-Some.ensures.cases.enough c.in-Some.ensures.cases.same in
+    let size = written_size code c.args.trext bits n _ _ c.loop-sixteen.out is in
+    let same = capacity_of c.put_all_reserved.new.self c.clear.new.self _ c.put_all_reserved.ensures ∙ capacity_of c.clear.new.self c.args.out.now _ c.clear.ensures in
+    let all = ap (λ (bs : List Bool). code.chips * (length bs + 1)) c.as_slice-bits.ensures.value in
+    omega (arith, size, is.same, same, all, room_for code.chips n 16 (length bits) next.enough, c.requires)
 
 pub loop-sixteen-preserved : goal.loop-sixteen-preserved
 loop-sixteen-preserved g c =
-    let code : CodeTable = record { table = g.C.LineCode.table; chips = g.C.LineCode.CHIPS; even = g.met.C.LineCode.even; tells = g.met.C.LineCode.tells_bits } in
+    let t = g.C.LineCode.table in
     let bits = c.as_slice-bits.result.now in
     let n = c.loop-sixteen.next in
-    let is = c.loop-sixteen.invariant in
-    let chips = c.CHIPS-chips.ensures in
-    let items : List Bool = c.in-Some.sixteen.now in
-    let chunk = next_sixteen bits items n c.in-Some.ensures.cases.enough c.in-Some.ensures.cases.same in
-    let word_is = bits_of_word c.word_of.result items c.word_of.ensures chunk.size in
-    let room = room_for code.chips n 16 (length bits) chunk.enough in
-    let more = mul-add code.chips n 16 in
-    let now : Progress = record { items = c.loop-sixteen.out.items; at = c.loop-sixteen.at; context = g.C.LineCode.context_of c.loop-sixteen.mark; bits = n } in
-    let new = c.overwrite_word-mark.new.out in
-    let lead = code.table.lead c.args.trext in
-    let put = c.overwrite_word-mark.ensures.levels ∙ ap (λ bs. with_levels_at c.loop-sixteen.out now.at (blocks code.table now.context bs)) word_is in
-    let step : Step code.table lead bits =
-    record {
-      now = now;
-      written = record { levels_are = is.written; context_is = is.marked };
-      more = items;
-      new = new.items;
-      put = put_over code.table now items (blocks code.table now.context items) new c.loop-sixteen.out.capacity refl put;
-    } in
-    let taken : take (n + length items) bits ≡ take n bits ++ items =
-    ap (λ k. take (n + k) bits) chunk.size ∙ take_next bits n 16 ∙ ap (λ ls. take n bits ++ ls) (sym chunk.items_are) in
-    let size : code.chips * length items ≡ code.chips * 16 = ap (λ k. code.chips * k) chunk.size in
-    let next = writes_more code lead bits step taken (omega (arith, is.whole, is.place, room, size)) in
-    let sixteenfold : 16 * c.CHIPS-chips.result ≡ code.chips * length items = omega (arith, chips, size) in
-    record {
-      written = rw sixteenfold (next.0.levels_are ∙ ap (λ k. lead ++ blocks code.table code.table.start (take (n + k) bits)) chunk.size);
-      whole = next.1 ∙ is.whole;
-      place = omega (arith, is.place, chips, more);
-      marked =
-          c.overwrite_word-mark.ensures.mark ∙ ap (context_after code.table now.context) word_is ∙ next.0.context_is
-          ∙ ap (λ k. context_after code.table code.table.start (take (n + k) bits)) chunk.size;
-      within = chunk.enough;
-      same = capacity_of new c.loop-sixteen.out _ put ∙ is.same;
-    }
+    let out = c.loop-sixteen.out in
+    let context = g.C.LineCode.context_of c.loop-sixteen.mark in
+    let chunk = next_sixteen bits c.in-Some.sixteen.now n c.in-Some.ensures.cases.enough c.in-Some.ensures.cases.same in
+    let more = bits_of_word c.word_of.result c.in-Some.sixteen.now c.word_of.ensures chunk.size ∙ chunk.items_are in
+    let put = c.put_word-mark.ensures.levels ∙ ap (λ (bs : List Bool). record out { items = out.items ++ blocks t context bs }) more in
+    let mark = c.put_word-mark.ensures.mark ∙ ap (context_after t context) more in
+    rw mark (writes_more t c.args.trext bits n 16 context _ out c.put_word-mark.new.out c.loop-sixteen.invariant chunk.enough put)
+
+-- a block has room
+pub put_all_reserved-requires-in-loop-next : goal.put_all_reserved-requires-in-loop-next
+put_all_reserved-requires-in-loop-next g c =
+    let code : CodeTable = record { table = g.C.LineCode.table; chips = g.C.LineCode.CHIPS; even = g.met.C.LineCode.even; tells = g.met.C.LineCode.tells_bits } in
+    let bits = c.as_slice-bits.result.now in
+    let n = c.loop-next.next in
+    let is = c.loop-next.invariant in
+    let size = written_size code c.args.trext bits n _ _ c.loop-next.out is in
+    let block = ap length c.block.ensures ∙ code.even.blocks_even (g.C.LineCode.context_of c.loop-next.mark) (get_or bits n false) in
+    let same = capacity_of c.put_all_reserved.new.self c.clear.new.self _ c.put_all_reserved.ensures ∙ capacity_of c.clear.new.self c.args.out.now _ c.clear.ensures in
+    let all = ap (λ (bs : List Bool). code.chips * (length bs + 1)) c.as_slice-bits.ensures.value in
+    omega (arith, size, block, is.same, c.loop-sixteen.invariant.same, same, all, room_for code.chips n 1 (length bits) (omega (arith, c.loop-next-test.true)), c.requires)
 
 pub loop-next-preserved : goal.loop-next-preserved
 loop-next-preserved g c =
+    let t = g.C.LineCode.table in
+    let bits = c.as_slice-bits.result.now in
+    let n = c.loop-next.next in
+    let out = c.loop-next.out in
+    let context = g.C.LineCode.context_of c.loop-next.mark in
+    let bit = get_or bits n false in
+    let within : n + 1 ≤ length bits = omega (arith, c.loop-next-test.true) in
+    let next = next_one bits n within in
+    let block_is = one_block t context bit c.block.result.now c.block.ensures ∙ ap (blocks t context) (sym next) in
+    let put = c.put_all_reserved-in-loop-next.ensures ∙ ap (λ (ls : List Bool). record out { items = out.items ++ ls }) block_is in
+    let mark = c.after-mark.ensures ∙ ap (context_after t context) (sym next) in
+    rw mark (writes_more t c.args.trext bits n 1 context _ out c.put_all_reserved-in-loop-next.new.self c.loop-next.invariant within put)
+
+pub put_all_reserved-requires-2 : goal.put_all_reserved-requires-2
+put_all_reserved-requires-2 g c =
     let code : CodeTable = record { table = g.C.LineCode.table; chips = g.C.LineCode.CHIPS; even = g.met.C.LineCode.even; tells = g.met.C.LineCode.tells_bits } in
     let bits = c.as_slice-bits.result.now in
     let n = c.loop-next.next in
     let is = c.loop-next.invariant in
-    let chips = c.CHIPS-chips.ensures in
-    let within : n + 1 ≤ length bits = omega (arith, c.loop-next-test.true) in
-    let room = room_for code.chips n 1 (length bits) within in
-    let more = mul-add code.chips n 1 in
-    let bit = get_or bits n false in
-    let now : Progress = record { items = c.loop-next.out.items; at = c.loop-next.at; context = g.C.LineCode.context_of c.loop-next.mark; bits = n } in
-    let new = c.overwrite-in-loop-next.new.self in
-    let lead = code.table.lead c.args.trext in
-    let block_is = one_block code.table now.context bit c.block.result.now c.block.ensures in
-    let step : Step code.table lead bits =
-    record {
-      now = now;
-      written = record { levels_are = is.written; context_is = is.marked };
-      more = bit ∷ [];
-      new = new.items;
-      put = put_over code.table now (bit ∷ []) c.block.result.now new c.loop-next.out.capacity block_is c.overwrite-in-loop-next.ensures;
-    } in
-    let next = writes_more code lead bits step (take_more bits n false c.loop-next-test.true) (omega (arith, is.whole, is.place, room)) in
-    let once : c.CHIPS-chips.result ≡ code.chips * 1 = omega (arith, chips) in
-    record {
-      written = rw once next.0.levels_are;
-      whole = next.1 ∙ is.whole;
-      place = omega (arith, is.place, chips, more);
-      marked = c.after-mark.ensures ∙ next.0.context_is;
-      within = within;
-      same = capacity_of new c.loop-next.out _ c.overwrite-in-loop-next.ensures ∙ is.same;
-    }
+    let size = written_size code c.args.trext bits n _ _ c.loop-next.out is in
+    let block = ap length c.block-2.ensures ∙ code.even.blocks_even (g.C.LineCode.context_of c.loop-next.mark) true in
+    let same = capacity_of c.put_all_reserved.new.self c.clear.new.self _ c.put_all_reserved.ensures ∙ capacity_of c.clear.new.self c.args.out.now _ c.clear.ensures in
+    let all = ap (λ (bs : List Bool). code.chips * (length bs + 1)) c.as_slice-bits.ensures.value in
+    omega (arith, size, block, is.same, c.loop-sixteen.invariant.same, same, all, mul-add code.chips (length bits) 1, mul-le-mul_left code.chips is.within, c.requires)
 
 pub returns-clause-stream : goal.returns-clause-stream
 returns-clause-stream g c =
-    let code : CodeTable = record { table = g.C.LineCode.table; chips = g.C.LineCode.CHIPS; even = g.met.C.LineCode.even; tells = g.met.C.LineCode.tells_bits } in
+    let t = g.C.LineCode.table in
     let bits = c.as_slice-bits.result.now in
     let n = c.loop-next.next in
     let is = c.loop-next.invariant in
-    let end : n ≡ length bits = omega (arith, c.loop-next-test.false, is.within) in
-    let more = mul-add code.chips n 1 in
-    let product : code.chips * (length bits + 1) ≡ code.chips * (n + 1) = ap (λ k. code.chips * (k + 1)) (sym end) in
+    let out = c.loop-next.out in
+    let context = g.C.LineCode.context_of c.loop-next.mark in
     let dummy : List Bool = true ∷ [] in
-    let now : Progress = record { items = c.loop-next.out.items; at = c.loop-next.at; context = g.C.LineCode.context_of c.loop-next.mark; bits = n } in
-    let new = c.overwrite-2.new.self in
-    let lead = code.table.lead c.args.trext in
-    let block_is = one_block code.table now.context true c.block-2.result.now c.block-2.ensures in
-    let step : Step code.table lead bits =
-    record {
-      now = now;
-      written = record { levels_are = is.written; context_is = is.marked };
-      more = dummy;
-      new = new.items;
-      put = put_over code.table now dummy c.block-2.result.now new c.loop-next.out.capacity block_is c.overwrite-2.ensures;
-    } in
-    writes_last code lead bits step (ap (λ bs. bs ++ dummy) (sym (take_all n bits (omega (arith, end))))) (omega (arith, is.whole, is.place, product, more))
-    ∙ ap (stream_of code.table c.args.trext) c.as_slice-bits.ensures.value
+    let end = take_all n bits (omega (arith, c.loop-next-test.false)) in
+    let whole = has_more t c.args.trext context out.items (take n bits) dummy is.has in
+    let put = ap (λ (s : BitString). s.items) c.put_all_reserved-2.ensures ∙ ap (λ (ls : List Bool). out.items ++ ls) (one_block t context true c.block-2.result.now c.block-2.ensures) in
+    put ∙ whole.levels_are ∙ ap (λ (bs : List Bool). t.lead c.args.trext ++ blocks t t.start (bs ++ dummy)) (end ∙ c.as_slice-bits.ensures.value)
