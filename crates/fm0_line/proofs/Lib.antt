@@ -1,2 +1,2 @@
 pub mod Symbols
-pub mod Digits
+pub mod Places

@@ -1,3 +1,3 @@
 pub mod Fm0
-pub mod Changes
+pub mod Stays
 pub mod laws

@@ -1,13 +1,14 @@
 //! FM0 baseband and its preamble.
-ghost use Rattle.std.specs.Prelude.{◌≡◌, ◌<◌, Some, ◌∷◌, [], true, length, map, replicate, IsTrue};
+ghost use Rattle.std.specs.Prelude.{◌≡◌, ◌<◌, Some, ◌∷◌, [], true, Bool, List, length, map};
+ghost use Rattle.std.specs.Simd.Lanes.{mask_l};
 ghost use Rattle.bit_strings.specs.Numbers.{digit_of, field_of};
 ghost use Rattle.line_code.specs.Stream.{blocks};
 ghost use Rattle.fm0_line.specs.Fm0.{fm0, fm0_second};
-ghost use Rattle.fm0_line.specs.Changes.{changes, evens, odds, bit_of_middle};
+ghost use Rattle.fm0_line.specs.Stays.{stays, odds};
 ghost use Rattle.fm0_line.specs.laws.Fm0.{fm0_even, fm0_has_lead, fm0_tells_bits, fm0_refuses_flips, fm0_hides_lead};
 
-use line_code::LineCode;
-use std::simd::prelude::{SimdPartialEq, u8x16};
+use line_code::{LineCode, word_of_levels};
+use std::simd::prelude::{SimdPartialEq, u8x4, u8x16};
 
 /// FM0 baseband (6.3.1.3.2.1 of the standard): the level inverts at each boundary of a symbol, and a
 /// data-0 inverts in its middle too. A symbol has two levels.
@@ -76,6 +77,12 @@ const FOUR_SYMBOLS: [[bool; 8]; 32] = [
     [false, false, true, true, false, false, true, true],
 ];
 
+/// The first level of each of 16 symbols, of which each has two places of a word.
+const BOUNDARIES: u32 = 0x5555_5555;
+
+/// The place value of the second level of each of 16 symbols within its byte, which has four symbols.
+const MIDDLES: [u8; 16] = [2, 8, 32, 128, 2, 8, 32, 128, 2, 8, 32, 128, 2, 8, 32, 128];
+
 /// The second level of a symbol whose first level is this.
 fn second_level(first: bool, bit: bool) -> bool
     ensures { result ≡ fm0_second first bit }
@@ -90,55 +97,46 @@ fn four_symbols(before: bool, number: u16) -> &'static [bool; 8]
     &FOUR_SYMBOLS[16 * (before as usize) + (number % 16) as usize]
 }
 
-/// 16 levels as digits.
+/// 32 levels as the bits of a number, of which the first level is the lowest.
 #[inline]
-fn digits_of(levels: &[bool]) -> u8x16
-    requires { length levels.now ≡ 16 }
-    ensures { result ≡ map digit_of levels.now }
+fn word_of(levels: &[bool]) -> u32
+    requires { length levels.now ≡ 32 }
+    ensures { result ≡ mask_l levels.now }
 {
-    let mut digits = [0; 16];
-    for at in 0..16 {
-        digits[at] = u8::from(levels[at]);
-    }
-    u8x16::from_array(digits)
+    let first = word_of_levels(&levels[..16]);
+    let second = word_of_levels(&levels[16..]);
+    u32::from(second) << 16 | u32::from(first)
 }
 
-/// Which of 16 levels are followed by another level, as digits.
+/// Whether each of the 32 levels of a word is the same as the one before it, as the bits of a number. The first of them follows the level `before`.
 #[inline]
-fn changes(levels: &[bool]) -> u8x16
-    requires { length levels.now ≡ 17 }
-    ensures { result ≡ changes levels.now }
+fn stays_of(before: bool, word: u32) -> u32
+    ensures { (levels : List Bool) → length levels ≡ 32 → word ≡ mask_l levels → result ≡ mask_l (stays before levels) }
 {
-    digits_of(&levels[..16]) ^ digits_of(&levels[1..])
+    !(word ^ (word << 1 | u32::from(before)))
 }
 
-/// The changes of 32 levels at the boundaries of symbols, of which the first is in front of the levels, and in their middles.
+/// Whether the second level of each of 16 symbols is the same as its first, as digits. All are tried at once.
 #[inline]
-fn changes_of_symbols(levels: &[bool]) -> (u8x16, u8x16)
-    requires { length levels.now ≡ 33 }
-    ensures boundaries { result.0 ≡ evens (changes levels.now) }
-    ensures middles { result.1 ≡ odds (changes levels.now) }
+fn digits_of_middles(stays: u32) -> [u8; 16]
+    ensures { (places : List Bool) → length places ≡ 32 → stays ≡ mask_l places → result ≡ map digit_of (odds places) }
 {
-    changes(&levels[..17]).deinterleave(changes(&levels[16..]))
-}
-
-/// Whether the level changes at each of these places.
-#[inline]
-fn is_each_change(changes: u8x16) -> bool
-    ensures { IsTrue result → changes ≡ replicate 16 1 }
-{
-    changes.simd_eq(u8x16::splat(1)).all()
-}
-
-/// The bits of 16 symbols, by the changes in their middles.
-#[inline]
-fn bits_of_middles(changes: u8x16) -> [bool; 16]
-    ensures { result ≡ map bit_of_middle changes }
-{
-    let digits = changes
-        .simd_eq(u8x16::splat(0))
+    let middles = u8x16::from_array(MIDDLES);
+    let bytes = u8x4::from_array(stays.to_le_bytes()).swizzle([
+        0, 0, 0, 0, 1, 1, 1, 1, 2, 2, 2, 2, 3, 3, 3, 3,
+    ]);
+    (bytes & middles)
+        .simd_eq(middles)
         .select(u8x16::splat(1), u8x16::splat(0))
-        .to_array();
+        .to_array()
+}
+
+/// The bits of 16 symbols, by whether their second levels are the same as their first.
+#[inline]
+fn bits_of_middles(stays: u32) -> [bool; 16]
+    ensures { (places : List Bool) → length places ≡ 32 → stays ≡ mask_l places → result ≡ odds places }
+{
+    let digits = digits_of_middles(stays);
     let mut bits = [false; 16];
     for at in 0..16 {
         bits[at] = digits[at] == 1;
@@ -214,15 +212,17 @@ impl LineCode for Fm0 {
     }
 
     fn sixteen_bits(mark: SymbolBefore, levels: &[bool]) -> Option<([bool; 16], SymbolBefore)> {
+        let word = word_of(&levels[1..]);
+        let stays = stays_of(mark.last_level, word);
         // Each symbol begins with an inversion.
-        let (boundaries, middles) = changes_of_symbols(levels);
-        if levels[0] != mark.last_level || !is_each_change(boundaries) {
+        if stays & BOUNDARIES != 0 {
             return None;
         }
-        let bits = bits_of_middles(middles);
+        // A data-1 has none in its middle.
+        let bits = bits_of_middles(stays);
         let last = SymbolBefore {
             bit: bits[15],
-            last_level: levels[32],
+            last_level: word >> 31 == 1,
         };
         Some((bits, last))
     }

@@ -49,12 +49,15 @@ fn read<C: LineCode>(trext: bool, levels: &[bool], out: &mut Bits) -> Result<(),
 {
     let mut at = seek::<C>(trext, levels)?;
     let mut mark = C::after_lead();
-    while let Some(sixteen) = next_sixteen::<C>(mark, levels, at) {
+    // The levels behind those that were read, and the last of these in front.
+    let mut behind = &levels[at - 1..];
+    while let Some(sixteen) = next_sixteen::<C>(mark, behind) {
         let bits = sixteen.0;
         put_bits(&bits, out);
         mark = sixteen.1;
-        at += 16 * C::CHIPS as usize;
+        behind = &behind[16 * C::CHIPS as usize..];
     }
+    at = levels.len() - behind.len() + 1;
     while let Some(four) = next_four::<C>(mark, &levels[at..]) {
         let bits = four.0;
         put_bits(&bits, out);
@@ -123,22 +126,17 @@ pub fn same_levels(levels: &[bool], others: &[bool]) -> bool
     same
 }
 
-/// The sixteen bits whose blocks, one behind the other, the levels from the place `at` on are, and the mark of the bit that follows them.
-fn next_sixteen<C: LineCode>(
-    mark: C::Mark,
-    levels: &[bool],
-    at: usize,
-) -> Option<([bool; 16], C::Mark)>
-    requires behind { 1 ≤ at }
-    requires within { at ≤ length levels.now }
+/// The sixteen bits whose blocks, one behind the other, the first of these levels but one are, and the mark of the bit that follows them. The first level is the one
+/// before these blocks.
+fn next_sixteen<C: LineCode>(mark: C::Mark, levels: &[bool]) -> Option<([bool; 16], C::Mark)>
     ensures count { IfSome result (λ it. length it.0 ≡ 16) }
-    ensures taken { IfSome result (λ it. (at + 16 * C.CHIPS ≤ length levels.now) × (take (16 * C.CHIPS) (drop at levels.now) ≡ blocks C.table (C.context_of mark) it.0) × (C.context_of it.1 ≡ context_after C.table (C.context_of mark) it.0)) }
+    ensures taken { IfSome result (λ it. (16 * C.CHIPS < length levels.now) × (take (16 * C.CHIPS) (drop 1 levels.now) ≡ blocks C.table (C.context_of mark) it.0) × (C.context_of it.1 ≡ context_after C.table (C.context_of mark) it.0)) }
 {
     let chips = 16 * C::CHIPS as usize;
-    if levels.len() - at < chips {
+    if levels.len() <= chips {
         return None;
     }
-    C::sixteen_bits(mark, &levels[at - 1..at + chips])
+    C::sixteen_bits(mark, &levels[..chips + 1])
 }
 
 /// The four bits whose blocks, one behind the other, the first of these levels are, and the mark of the bit that follows them.

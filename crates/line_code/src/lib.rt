@@ -6,6 +6,7 @@ mod code;
 mod decoder;
 mod encoder;
 mod laws;
+mod masks;
 mod refusal;
 mod states;
 
@@ -13,5 +14,6 @@ pub use code::LineCode;
 pub use decoder::{decode, same_levels};
 pub use encoder::encode;
 pub use laws::{one_answer, states_begin_streams};
+pub use masks::word_of_levels;
 pub use refusal::LineRefusal;
 pub use states::{Ended, Inside, Seeking, Sought, Within};

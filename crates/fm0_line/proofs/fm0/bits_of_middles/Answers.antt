@@ -1,12 +1,12 @@
-use Rattle.std.proofs.Common.{◌∙◌, replicate, arith}
-use Rattle.std.proofs.lemmas.Simd.{tops_compared, zip2_splat}
-use Rattle.fm0_line.proofs.Digits.{told}
+use Rattle.std.proofs.Common.{ap, length, arith}
+use Rattle.std.proofs.lemmas.List.{length-map}
+use Rattle.bit_strings.specs.Numbers.{digit_of}
+use Rattle.fm0_line.specs.Stays.{odds}
+use Rattle.fm0_line.proofs.Places.{told, length-odds}
 use Rattle.fm0_line.proofs.fm0.bits_of_middles.Goals as goal
-use mir.Syntax.{w8}
-use lib.Dec.{eqb}
 
 pub returns : goal.returns
-returns c =
-    let xs = c.args.changes in
-    let long = c.fits-changes.0 in
-    told c.loop-at.bits _ xs c.loop-at.at long c.loop-at.invariant.count (omega arith) (tops_compared w8 eqb xs (replicate 16 0) ∙ zip2_splat eqb xs 16 0 long) c.loop-at.invariant.written
+returns c = λ places long is.
+    let digits = c.digits_of_middles-digits.ensures places long is in
+    told c.loop-at.bits (odds places) c.digits_of_middles-digits.result c.loop-at.at (omega (arith, c.loop-at.invariant.count))
+    (omega (arith, ap length digits, length-map (odds places) digit_of, length-odds 16 places long)) c.loop-at.invariant.written digits

@@ -1,7 +1,7 @@
 -- The levels in the data: whole blocks, then what is left, level by level.
-use Rattle.std.proofs.Common.{◌≡◌, ◌∙◌, ◌+◌, ◌*◌, ◌-◌, ◌++◌, ℕ, [], ◌∷◌, ◌≤◌, List, Bool, length, length-append, mul-le-mul_right, take, drop, arith, ap, refl, sym, subst}
+use Rattle.std.proofs.Common.{◌≡◌, ◌∙◌, ◌+◌, ◌*◌, ◌-◌, ◌++◌, ℕ, [], ◌∷◌, ◌≤◌, List, Bool, length, mul-le-mul_right, take, drop, arith, ap, refl, sym, subst}
 use Rattle.std.proofs.lemmas.Result.{err_from_is_err_and}
-use Rattle.std.proofs.lemmas.List.{length-take-le, length-drop, take_all, append-nil}
+use Rattle.std.proofs.lemmas.List.{length-take-le, length-drop, take_all, append-nil, drop-drop}
 use Rattle.line_code.specs.States.{Reads, HasBlocks, context_after}
 use Rattle.line_code.specs.Stream.{Streams, stream_of, blocks}
 use Rattle.line_code.specs.Table.{Context, Table}
@@ -11,7 +11,7 @@ use Rattle.line_code.proofs.Steps.{one_more, block_more}
 use Rattle.bit_strings.specs.laws.Family.{bad-in_front}
 use Rattle.bit_strings.specs.BitString.{BitString}
 use Rattle.line_code.specs.TableFacts.{CodeTable}
-use Rattle.line_code.proofs.Whole.{bits_within, has_within, HasRead}
+use Rattle.line_code.proofs.Whole.{bits_within, has_within, HasRead, HasBehind}
 use Rattle.line_code.proofs.decoder.read.Goals as goal
 
 -- the next levels, so many, are the blocks of more bits
@@ -49,36 +49,63 @@ has_room code trext levels context before out at count bits read within room is 
     let size = length-take-le at levels read.within in
     omega (arith, put, size, within, room, is, read.same, mul-le-mul_right count code.even.least)
 
+-- what is read up to a place, and the levels behind it
+begins_at : (t : Table) (trext : Bool) (levels behind : List Bool) (context : Context) (before out : BitString) (at : ℕ) → 1 ≤ at → HasRead t trext levels at context before out
+    → behind ≡ drop (at - 1) levels → HasBehind t trext levels behind context before out
+begins_at t trext levels behind context before out at some read are =
+    let size : length behind ≡ length levels - (at - 1) = ap length are ∙ length-drop (at - 1) levels in
+    let within = read.within in
+    let place : length levels - length behind ≡ at - 1 = omega (arith, size, within, some) in
+    let next : at ≡ length levels - length behind + 1 = omega (arith, size, within, some) in
+    record {
+      place = omega (arith, size);
+      some = omega (arith, size, within, some);
+      are = are ∙ ap (λ (n : ℕ). drop n levels) (sym place);
+      read = subst (λ (n : ℕ). HasRead t trext levels n context before out) next read;
+    }
+
+-- the levels behind more of them
+further : (levels behind : List Bool) (count : ℕ) → behind ≡ drop (length levels - length behind) levels → drop count behind ≡ drop (length levels - length behind + 1 + count - 1) levels
+further levels behind count are = ap (drop count) are ∙ drop-drop count (length levels - length behind) levels ∙ ap (λ (n : ℕ). drop n levels) (omega arith)
+
 pub loop-sixteen-init : goal.loop-sixteen-init
 loop-sixteen-init g c =
     let t = g.C.LineCode.table in
+    let levels = c.args.levels.now in
     let found = c.in_ok-at.ensures.found in
-    record {
+    let at = c.in_ok-at.at in
+    let some : 1 ≤ at = omega (arith, ap length found.1, length-take-le at levels found.0, g.met.C.LineCode.has_lead c.args.trext) in
+    let read : HasRead t c.args.trext levels at (g.C.LineCode.context_of c.after_lead-mark.result) c.args.out.now c.args.out.now = record {
       within = found.0;
       has = rw c.requires.empty (record { levels_are = found.1 ∙ sym (append-nil (t.lead c.args.trext)); context_is = c.after_lead-mark.ensures });
       same = refl;
-    }
-
--- the lead is in front of the first block
-pub next_sixteen-requires-clause-behind : goal.next_sixteen-requires-clause-behind
-next_sixteen-requires-clause-behind g c =
-    let t = g.C.LineCode.table in
-    let read = c.loop-sixteen.invariant in
-    let size = ap length read.has.levels_are in
-    omega (arith, size, length-append (t.lead c.args.trext) (blocks t t.start c.loop-sixteen.out.items), g.met.C.LineCode.has_lead c.args.trext, length-take-le c.loop-sixteen.at c.args.levels.now read.within)
+    } in
+    begins_at t c.args.trext levels _ _ c.args.out.now c.args.out.now at some read (behind levels (at - 1))
 
 pub put_bits-requires : goal.put_bits-requires
 put_bits-requires g c =
     let code : CodeTable = record { table = g.C.LineCode.table; chips = g.C.LineCode.CHIPS; even = g.met.C.LineCode.even; tells = g.met.C.LineCode.tells_bits } in
+    let levels = c.args.levels.now in
+    let loop = c.loop-sixteen.invariant in
     let some = c.in-Some.ensures in
-    has_room code c.args.trext c.args.levels.now _ c.args.out.now c.loop-sixteen.out c.loop-sixteen.at 16 _ c.loop-sixteen.invariant some.taken.0 c.requires.room some.count
+    let at = length levels - length c.loop-sixteen.behind.now + 1 in
+    let within : at + 16 * code.chips ≤ length levels = let place = loop.place in let next = some.taken.0 in omega arith in
+    has_room code c.args.trext levels _ c.args.out.now c.loop-sixteen.out at 16 _ loop.read within c.requires.room some.count
 
 pub loop-sixteen-preserved : goal.loop-sixteen-preserved
 loop-sixteen-preserved g c =
     let t = g.C.LineCode.table in
+    let levels = c.args.levels.now in
+    let rest = c.loop-sixteen.behind.now in
+    let loop = c.loop-sixteen.invariant in
     let some = c.in-Some.ensures in
-    let next : BlocksAt t (g.C.LineCode.context_of c.loop-sixteen.mark) c.args.levels.now c.loop-sixteen.at = record { count = 16 * g.C.LineCode.CHIPS; more = c.in-Some.sixteen.0; levels_are = some.taken.1 } in
-    rw (c.CHIPS.ensures, some.taken.2) (taken t c.args.trext c.args.levels.now _ c.args.out.now c.loop-sixteen.out _ c.loop-sixteen.at next c.loop-sixteen.invariant some.taken.0 c.put_bits.ensures)
+    let at = length levels - length rest + 1 in
+    let count = 16 * g.C.LineCode.CHIPS in
+    let within : at + count ≤ length levels = let place = loop.place in let next = some.taken.0 in omega arith in
+    let first : drop 1 rest ≡ drop at levels = further levels rest 1 loop.are ∙ ap (λ (n : ℕ). drop n levels) (omega arith) in
+    let next : BlocksAt t (g.C.LineCode.context_of c.loop-sixteen.mark) levels at = record { count = count; more = c.in-Some.sixteen.0; levels_are = ap (take count) (sym first) ∙ some.taken.1 } in
+    let read = taken t c.args.trext levels _ c.args.out.now c.loop-sixteen.out _ at next loop.read within c.put_bits.ensures in
+    rw (c.CHIPS.ensures, some.taken.2) (begins_at t c.args.trext levels _ _ c.args.out.now _ (at + count) (omega arith) read (behind rest count ∙ further levels rest count loop.are))
 
 pub put_bits-requires-in-Some-next_four : goal.put_bits-requires-in-Some-next_four
 put_bits-requires-in-Some-next_four g c =
@@ -86,7 +113,7 @@ put_bits-requires-in-Some-next_four g c =
     let some = c.in-Some-next_four.ensures in
     let within = c.loop-four.invariant.within in
     has_room code c.args.trext c.args.levels.now _ c.loop-sixteen.out c.loop-four.out c.loop-four.at 4 _ c.loop-four.invariant
-    (omega (arith, some.1, length-drop c.loop-four.at c.args.levels.now)) (omega (arith, c.requires.room, c.loop-sixteen.invariant.same)) some.0
+    (omega (arith, some.1, length-drop c.loop-four.at c.args.levels.now)) (omega (arith, c.requires.room, c.loop-sixteen.invariant.read.same)) some.0
 
 pub loop-four-preserved : goal.loop-four-preserved
 loop-four-preserved g c =

@@ -1,13 +1,13 @@
 use Rattle.std.proofs.Common.{◌≡◌, ◌-◌, length, take}
 use Rattle.line_code.specs.States.{Reads}
-use Rattle.line_code.proofs.Whole.{HasRead}
+use Rattle.line_code.proofs.Whole.{HasRead, HasBehind}
 use Rattle.line_code.proofs.decoder.read.Given as goal
 
 abbrev pub invariant-loop-sixteen : goal.invariant-loop-sixteen
-invariant-loop-sixteen g l = HasRead g.C.LineCode.table l.trext l.levels l.at (g.C.LineCode.context_of l.mark) l.initial.out l.out
+invariant-loop-sixteen g l = HasBehind g.C.LineCode.table l.trext l.levels l.behind (g.C.LineCode.context_of l.mark) l.initial.out l.out
 
 abbrev pub decreases-loop-sixteen : goal.decreases-loop-sixteen
-decreases-loop-sixteen g l = length l.levels - l.at
+decreases-loop-sixteen g l = length l.behind
 
 abbrev pub invariant-loop-four : goal.invariant-loop-four
 invariant-loop-four g l = HasRead g.C.LineCode.table l.trext l.levels l.at (g.C.LineCode.context_of l.mark) l.initial.out l.out

@@ -1,6 +1,6 @@
 use Rattle.std.proofs.Common.{◌≡◌, length, map, take}
 use Rattle.bit_strings.specs.Numbers.{digit_of}
-use Rattle.fm0_line.proofs.fm0.digits_of.Given as goal
+use Rattle.line_code.proofs.masks.digits_of.Given as goal
 
 -- the digits so far are those of their levels
 abbrev pub invariant-loop-at : goal.invariant-loop-at
