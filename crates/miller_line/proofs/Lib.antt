@@ -1,2 +1,9 @@
-pub mod Levels
+pub mod Bitwise
+pub mod Bytes
+pub mod FaultLists
+pub mod FourCycles
 pub mod FourSymbols
+pub mod Halves
+pub mod Levels
+pub mod TwoCycles
+pub mod WordsRead

@@ -1,3 +1,4 @@
+pub mod Faults
 pub mod FourSymbols
 pub mod Miller
 pub mod SymbolContext

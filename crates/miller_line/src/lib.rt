@@ -3,6 +3,7 @@
 
 mod miller;
 mod subcarrier;
+mod symbol_words;
 mod words;
 
 pub use miller::{Miller2, Miller4, Miller8};

@@ -16,9 +16,9 @@ use line_code::same_levels;
 /// The symbol before a bit's block.
 #[derive(Clone, Copy, Debug, PartialEq, Eq)]
 pub struct SymbolBefore {
-    bit: bool,
+    pub(crate) bit: bool,
     /// The phase in which the symbol ended: `false` is phase 0.
-    phase: bool,
+    pub(crate) phase: bool,
 }
 
 /// The levels of each symbol with M = 2, by the phase at its start and by its bit.

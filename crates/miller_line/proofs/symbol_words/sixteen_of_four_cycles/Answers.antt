@@ -1,0 +1,22 @@
+use Rattle.std.proofs.Common.{◌∙◌, ◌-◌, length, take, drop, take_all, ap, sym, arith}
+use Rattle.std.specs.Simd.Lanes.{mask_l}
+use Rattle.std.proofs.lemmas.List.{length-take-le, length-drop, take-append-drop}
+use Rattle.miller_line.specs.Faults.{bits_at}
+use Rattle.miller_line.specs.Miller.{miller}
+use Rattle.miller_line.specs.SymbolContext.{context}
+use Rattle.miller_line.proofs.WordsRead.{both_read}
+use Rattle.miller_line.proofs.symbol_words.sixteen_of_four_cycles.Goals as goal
+
+pub slice_bounds-word_of-end : goal.slice_bounds-word_of-end
+slice_bounds-word_of-end c = sym (length-take-le 64 c.args.levels.now (omega (arith, c.requires)))
+
+pub returns : goal.returns
+returns c =
+    let levels = c.args.levels.now in
+    let front = take 64 levels in
+    let back = drop 64 levels in
+    let rest = take_all (length levels - 64) back (omega (arith, length-drop 64 levels)) in
+    let first = c.in_ok-first.ensures front (length-take-le 64 levels (omega (arith, c.requires))) c.word_of-word.ensures in
+    let second = c.in_ok-second.ensures back (omega (arith, length-drop 64 levels, c.requires)) (c.word_of-word-2.ensures ∙ ap mask_l rest) in
+    both_read (miller 4) front back levels (bits_at 4 c.in_ok-first.first) (bits_at 4 c.in_ok-second.second) c.bits_of_words.result
+    (context c.args.before) (context c.in_ok-first.between) (context c.in_ok-second.last) (take-append-drop 64 levels) first second c.bits_of_words.ensures

@@ -1,0 +1,192 @@
+//! Symbols whose levels are read as words of 64 levels.
+ghost use Rattle.std.specs.Prelude.{◌≡◌, ◌≢◌, ◌⊎◌, ℕ, ◌+◌, ◌-◌, ◌*◌, ◌/◌, ◌%◌, ◌^◌, ◌<◌, ◌≤◌, ◌==◌, Bool, ◌++◌, bit_and, true, false, List, length, map, drop, replicate, Some, IfSome};
+ghost use Rattle.std.specs.Simd.Lanes.{mask_l};
+ghost use Rattle.bit_strings.specs.Numbers.{digit_of};
+ghost use Rattle.line_code.specs.Stream.{blocks};
+ghost use Rattle.line_code.specs.States.{context_after};
+ghost use Rattle.miller_line.specs.Faults.{phases_of, changes_of, faults_of, bits_at, ArePlaces};
+ghost use Rattle.miller_line.specs.Miller.{miller};
+ghost use Rattle.miller_line.specs.SymbolContext.{context};
+
+use crate::subcarrier::SymbolBefore;
+use std::simd::prelude::{SimdPartialEq, u8x16, u64x2};
+
+/// 16 levels as digits.
+#[inline(always)]
+fn digits_of(levels: &[bool]) -> u8x16
+    requires { length levels.now ≡ 16 }
+    ensures { result ≡ map digit_of levels.now }
+{
+    let mut digits = [0; 16];
+    for at in 0..16 {
+        digits[at] = u8::from(levels[at]);
+    }
+    u8x16::from_array(digits)
+}
+
+/// The number that 16 levels are, the first level its lowest bit.
+#[inline(always)]
+fn mask_of(levels: &[bool]) -> u64
+    requires { length levels.now ≡ 16 }
+    ensures value { result ≡ mask_l levels.now }
+    ensures small { result < 2 ^ 16 }
+{
+    digits_of(levels).simd_eq(u8x16::splat(1)).to_bitmask()
+}
+
+/// The number that 32 levels are.
+#[inline(always)]
+fn half_word_of(levels: &[bool]) -> u64
+    requires { length levels.now ≡ 32 }
+    ensures value { result ≡ mask_l levels.now }
+    ensures small { result < 2 ^ 32 }
+{
+    mask_of(&levels[16..]) * 0x1_0000 + mask_of(&levels[..16])
+}
+
+/// The word that 64 levels are.
+#[inline(always)]
+fn word_of(levels: &[bool]) -> u64
+    requires { length levels.now ≡ 64 }
+    ensures { result ≡ mask_l levels.now }
+{
+    half_word_of(&levels[32..]) * 0x1_0000_0000 + half_word_of(&levels[..32])
+}
+
+/// Where the phase differs from that of the half before, at the first level of each half. `carry` are the phases before the word.
+#[inline(always)]
+fn changes_of(m: u32, carry: u64, phases: u64) -> u64
+    requires { m ≤ 8 }
+    ensures { result ≡ changes_of m carry phases }
+{
+    phases ^ (phases << m | carry)
+}
+
+/// Where the levels are not those of symbols. `inside` are the places within halves, `middles` those of the first level of second halves, and
+/// `before` is the bit before the word, where it would stand in the middle of the first symbol.
+#[inline(always)]
+fn faults_of(
+    m: u32,
+    inside: u64,
+    middles: u64,
+    before: u64,
+    phases: u64,
+    changes: u64,
+    bits: u64,
+) -> u64
+    requires { m ≤ 8 }
+    ensures { result ≡ faults_of m inside middles before phases changes bits }
+{
+    let broken = (phases ^ phases << 1) & inside;
+    // There is an inversion at a symbol's start exactly where neither its bit nor the one before is 1.
+    let starts = (bits | (bits << (2 * m) | before)) ^ changes << m ^ middles;
+    broken | starts & middles
+}
+
+/// The phase of a half, for each of its levels.
+#[inline(always)]
+fn phases_of_half(m: u32, phase: bool) -> u64
+    requires { (m ≡ 2) ⊎ (m ≡ 4) }
+    ensures { result ≡ mask_l (replicate m phase) }
+{
+    match m {
+        2 => (phase as u64) * 3,
+        _ => (phase as u64) * 15,
+    }
+}
+
+/// The bits of the symbols whose levels are a word, in the middles of the symbols, and what stands before the bit that follows them; none where
+/// the word is not that of symbols.
+#[inline(always)]
+fn symbols_of_word(
+    m: u32,
+    inside: u64,
+    middles: u64,
+    before: SymbolBefore,
+    word: u64,
+) -> Option<(u64, SymbolBefore)>
+    requires { ArePlaces m inside middles }
+    ensures { IfSome result (λ it. (levels : List Bool) → length levels ≡ 64 → word ≡ mask_l levels → (levels ≡ blocks (miller m) (context before) (bits_at m it.0)) × (context it.1 ≡ context_after (miller m) (context before) (bits_at m it.0))) }
+{
+    let phases = word ^ 0x5555_5555_5555_5555;
+    let changes = changes_of(m, phases_of_half(m, before.phase), phases);
+    let bits = changes & middles;
+    let bit_before = (before.bit as u64) << m;
+    if faults_of(m, inside, middles, bit_before, phases, changes, bits) != 0 {
+        return None;
+    }
+    let last = SymbolBefore {
+        bit: (bits >> (64 - m)) % 2 == 1,
+        // The last level of a half tells its phase, since a half has an even number of levels.
+        phase: (word >> 63) % 2 == 1,
+    };
+    Some((bits, last))
+}
+
+/// Which of 16 bytes are odd.
+#[inline(always)]
+fn are_odd(bytes: u8x16) -> [bool; 16]
+    ensures { result ≡ map (λ byte. bit_and byte 1 == 1) bytes }
+{
+    let digits = (bytes & u8x16::splat(1)).to_array();
+    let mut bits = [false; 16];
+    for at in 0..16 {
+        bits[at] = digits[at] == 1;
+    }
+    bits
+}
+
+/// The bits of the 16 symbols of a word with M = 2, of which a byte has two.
+#[inline(always)]
+fn bits_of_word(word: u64) -> [bool; 16]
+    ensures { result ≡ bits_at 2 word }
+{
+    let bytes = u64x2::from_array([word >> 2, word >> 6]).to_le_bytes();
+    are_odd(bytes.swizzle([0, 8, 1, 9, 2, 10, 3, 11, 4, 12, 5, 13, 6, 14, 7, 15]))
+}
+
+/// The bits of the 16 symbols of two words with M = 4, of which a byte has one.
+#[inline(always)]
+fn bits_of_words(first: u64, second: u64) -> [bool; 16]
+    ensures { result ≡ bits_at 4 first ++ bits_at 4 second }
+{
+    are_odd(u64x2::from_array([first >> 4, second >> 4]).to_le_bytes())
+}
+
+/// The sixteen bits whose blocks with M = 2, one behind the other, the levels are, and what stands before the bit that follows them.
+#[inline(always)]
+pub(crate) fn sixteen_of_two_cycles(
+    before: SymbolBefore,
+    levels: &[bool],
+) -> Option<([bool; 16], SymbolBefore)>
+    requires { length levels.now ≡ 64 }
+    ensures { IfSome result (λ it. (levels.now ≡ blocks (miller 2) (context before) it.0) × (context it.1 ≡ context_after (miller 2) (context before) it.0)) }
+{
+    let word = word_of(levels);
+    let (bits, last) = symbols_of_word(
+        2,
+        0xaaaa_aaaa_aaaa_aaaa,
+        0x4444_4444_4444_4444,
+        before,
+        word,
+    )?;
+    Some((bits_of_word(bits), last))
+}
+
+/// The same with M = 4.
+#[inline(always)]
+pub(crate) fn sixteen_of_four_cycles(
+    before: SymbolBefore,
+    levels: &[bool],
+) -> Option<([bool; 16], SymbolBefore)>
+    requires { length levels.now ≡ 128 }
+    ensures { IfSome result (λ it. (levels.now ≡ blocks (miller 4) (context before) it.0) × (context it.1 ≡ context_after (miller 4) (context before) it.0)) }
+{
+    let inside = 0xeeee_eeee_eeee_eeee;
+    let middles = 0x1010_1010_1010_1010;
+    let word = word_of(&levels[..64]);
+    let (first, between) = symbols_of_word(4, inside, middles, before, word)?;
+    let word = word_of(&levels[64..]);
+    let (second, last) = symbols_of_word(4, inside, middles, between, word)?;
+    Some((bits_of_words(first, second), last))
+}
