@@ -212,7 +212,7 @@ impl LineCode for Fm0 {
     }
 
     fn sixteen_bits(mark: SymbolBefore, levels: &[bool]) -> Option<([bool; 16], SymbolBefore)> {
-        let word = word_of(&levels[1..]);
+        let word = word_of(levels);
         let stays = stays_of(mark.last_level, word);
         // Each symbol begins with an inversion.
         if stays & BOUNDARIES != 0 {

@@ -1,5 +1,5 @@
 -- From one place of the levels to the whole list, and what a decoder may then answer.
-use Rattle.std.proofs.Common.{◌<◌, ◌≡◌, ◌-◌, ◌+◌, ℕ, ◌≤◌, Bool, true, List, [], ◌∷◌, ◌++◌, length, take, drop, Result, Ok, Err, IsOk, IsErr, OnOk, IfErr, refl, sym, ap, ◌∙◌, subst, arith, length-append, mul-le-mul_right}
+use Rattle.std.proofs.Common.{◌<◌, ◌≡◌, ◌-◌, ℕ, ◌≤◌, Bool, true, List, [], ◌∷◌, ◌++◌, length, take, drop, Result, Ok, Err, IsOk, IsErr, OnOk, IfErr, refl, sym, ap, ◌∙◌, subst, arith, length-append, mul-le-mul_right}
 use Rattle.bit_strings.specs.BitString.{BitString}
 use Rattle.line_code.specs.Table.{Context, Table}
 use Rattle.line_code.specs.Stream.{blocks, IsStream, Streams}
@@ -33,13 +33,12 @@ HasRead t trext levels at context before out = record {
   same : out.capacity ≡ before.capacity;
 }
 
--- the same, with the levels behind these, and the last of these in front
+-- the same, by the levels behind these
 abbrev pub HasBehind : (t : Table) (trext : Bool) (levels behind : List Bool) (context : Context) (before out : BitString) → Type 0
 HasBehind t trext levels behind context before out = record {
   place : length behind ≤ length levels;
-  some : 1 ≤ length behind;
   are : behind ≡ drop (length levels - length behind) levels;
-  read : HasRead t trext levels (length levels - length behind + 1) context before out;
+  read : HasRead t trext levels (length levels - length behind) context before out;
 }
 
 -- where the levels are a stream, a true answer is its bits

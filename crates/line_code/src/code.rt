@@ -1,5 +1,5 @@
 //! What a line code is.
-ghost use Rattle.std.specs.Prelude.{◌≡◌, ◌≢◌, ℕ, ◌+◌, ◌*◌, [], ◌∷◌, ◌<◌, ◌≤◌, length, drop, Bool, Some, IfSome, IfNone, slice_get};
+ghost use Rattle.std.specs.Prelude.{◌≡◌, ◌≢◌, ℕ, ◌*◌, [], ◌∷◌, ◌<◌, ◌≤◌, length, Bool, Some, IfSome, IfNone, slice_get};
 ghost use Rattle.bit_strings.specs.Numbers.{field_of};
 ghost use Rattle.line_code.specs.Table.{Context, Table};
 ghost use Rattle.line_code.specs.Stream.{blocks};
@@ -81,12 +81,11 @@ pub trait LineCode {
         ensures some { IfSome result (λ it. (levels.now ≡ blocks table (context_of mark) it.0) × (context_of it.1 ≡ context_after table (context_of mark) it.0)) }
         ensures none { IfNone result ((first second third fourth : Bool) → levels.now ≢ blocks table (context_of mark) (first ∷ second ∷ third ∷ fourth ∷ [])) };
 
-    /// The sixteen bits whose blocks, one behind the other, the levels from the second on are, and the mark of the bit that follows them. The
-    /// first level is the one before these blocks. It may be none for any levels, since [`LineCode::four_bits`] answers exactly: it is for a code
-    /// that reads so many blocks at once.
+    /// The sixteen bits whose blocks, one behind the other, the levels are, and the mark of the bit that follows them. It may be none for any
+    /// levels, since [`LineCode::four_bits`] answers exactly: it is for a code that reads so many blocks at once.
     fn sixteen_bits(mark: Self::Mark, levels: &[bool]) -> Option<([bool; 16], Self::Mark)>
-        requires { length levels.now ≡ 1 + 16 * CHIPS }
-        ensures { IfSome result (λ it. (drop 1 levels.now ≡ blocks table (context_of mark) it.0) × (context_of it.1 ≡ context_after table (context_of mark) it.0)) }
+        requires { length levels.now ≡ 16 * CHIPS }
+        ensures { IfSome result (λ it. (levels.now ≡ blocks table (context_of mark) it.0) × (context_of it.1 ≡ context_after table (context_of mark) it.0)) }
     {
         None
     }

@@ -49,15 +49,15 @@ fn read<C: LineCode>(trext: bool, levels: &[bool], out: &mut Bits) -> Result<(),
 {
     let mut at = seek::<C>(trext, levels)?;
     let mut mark = C::after_lead();
-    // The levels behind those that were read, and the last of these in front.
-    let mut behind = &levels[at - 1..];
+    // This slice only gets shorter, so that the compiler need not look at its range in each turn.
+    let mut behind = &levels[at..];
     while let Some(sixteen) = next_sixteen::<C>(mark, behind) {
         let bits = sixteen.0;
         put_bits(&bits, out);
         mark = sixteen.1;
         behind = &behind[16 * C::CHIPS as usize..];
     }
-    at = levels.len() - behind.len() + 1;
+    at = levels.len() - behind.len();
     while let Some(four) = next_four::<C>(mark, &levels[at..]) {
         let bits = four.0;
         put_bits(&bits, out);
@@ -126,17 +126,15 @@ pub fn same_levels(levels: &[bool], others: &[bool]) -> bool
     same
 }
 
-/// The sixteen bits whose blocks, one behind the other, the first of these levels but one are, and the mark of the bit that follows them. The first level is the one
-/// before these blocks.
+/// The sixteen bits whose blocks, one behind the other, the first of these levels are, and the mark of the bit that follows them.
 fn next_sixteen<C: LineCode>(mark: C::Mark, levels: &[bool]) -> Option<([bool; 16], C::Mark)>
-    ensures count { IfSome result (λ it. length it.0 ≡ 16) }
-    ensures taken { IfSome result (λ it. (16 * C.CHIPS < length levels.now) × (take (16 * C.CHIPS) (drop 1 levels.now) ≡ blocks C.table (C.context_of mark) it.0) × (C.context_of it.1 ≡ context_after C.table (C.context_of mark) it.0)) }
+    ensures { IfSome result (λ it. (length it.0 ≡ 16) × (16 * C.CHIPS ≤ length levels.now) × (take (16 * C.CHIPS) levels.now ≡ blocks C.table (C.context_of mark) it.0) × (C.context_of it.1 ≡ context_after C.table (C.context_of mark) it.0)) }
 {
     let chips = 16 * C::CHIPS as usize;
-    if levels.len() <= chips {
+    if levels.len() < chips {
         return None;
     }
-    C::sixteen_bits(mark, &levels[..chips + 1])
+    C::sixteen_bits(mark, &levels[..chips])
 }
 
 /// The four bits whose blocks, one behind the other, the first of these levels are, and the mark of the bit that follows them.

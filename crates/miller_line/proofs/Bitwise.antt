@@ -1,9 +1,9 @@
 -- Numbers that are the masks of lists, and their digits one by one.
-use Rattle.std.proofs.Common.{◌≡◌, ◌∙◌, ◌-◌, ℕ, suc, ◌+◌, ◌*◌, ◌/◌, ◌%◌, ◌^◌, ◌<◌, ◌≤◌, Bool, true, false, not, List, [], ◌∷◌, ◌++◌, length, take, drop, ap, ap₂, sym, refl, arith, bit_and}
+use Rattle.std.proofs.Common.{◌≡◌, ◌∙◌, ◌-◌, ℕ, suc, ◌+◌, ◌*◌, ◌/◌, ◌%◌, ◌^◌, ◌<◌, ◌≤◌, Bool, true, false, not, List, [], ◌∷◌, length, take, drop, ap, ap₂, sym, refl, arith, bit_and}
 use Rattle.std.specs.Prelude.{bit_or, bit_xor}
 use Rattle.std.specs.Simd.Lanes.{zip2, mask_l}
 use Rattle.std.proofs.Math.Bool.{cond}
-use Rattle.std.proofs.Math.Nat.{pow-suc}
+use Rattle.line_code.specs.laws.Masks.{mask-append}
 use Rattle.std.proofs.lemmas.List.{take_all, length-drop, length-take-le, take-append-drop}
 use Rattle.std.proofs.lemmas.Nat.{and_block, or_block, xor_block, mod-pow-add}
 
@@ -85,10 +85,6 @@ zipped op f is (x ∷ xs) (y ∷ ys) long =
     ap (op (cond x 1 0 + 2 * mask_l xs)) (cut y (mask_l ys) (length xs)) ∙ first_digit op f is x y (mask_l xs) (mask_l ys % 2 ^ length xs)
     ∙ ap (λ r. cond (f x y) 1 0 + 2 * r) rest
 
-pub mask_append : (front behind : List Bool) → mask_l (front ++ behind) ≡ mask_l behind * 2 ^ length front + mask_l front
-mask_append [] behind = omega arith
-mask_append (bit ∷ front) behind = rw (mask_append front behind, pow-suc 2 (length front)) (omega arith)
-
 -- a mask without digits is one of nothing
 pub no_digit : (bit : Bool) (rest : ℕ) → cond bit 1 0 + 2 * rest ≡ 0 → (bit ≡ false) × (rest ≡ 0)
 no_digit true rest none = absurd (omega (arith, none))
@@ -100,4 +96,4 @@ pub two_masks : (levels : List Bool) (n k high low : ℕ) → length levels ≡ 
 two_masks levels n k high low long high_is low_is =
     let size : length (take n levels) ≡ n = length-take-le n levels (omega (arith, long)) in
     let rest = take_all (length levels - n) (drop n levels) (omega (arith, length-drop n levels)) in
-    rw (high_is, low_is, rest) (ap (λ j. mask_l (drop n levels) * 2 ^ j + mask_l (take n levels)) (sym size) ∙ sym (mask_append (take n levels) (drop n levels)) ∙ ap mask_l (take-append-drop n levels))
+    rw (high_is, low_is, rest) (sym (mask-append (take n levels) (drop n levels) n size) ∙ ap mask_l (take-append-drop n levels))

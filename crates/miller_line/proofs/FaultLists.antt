@@ -5,7 +5,8 @@ use Rattle.std.specs.Simd.Lanes.{zip2, mask_l}
 use Rattle.std.proofs.lemmas.Nat.{mod-pow-add, or_shifted, shl-shr, shr_high, mod_low}
 use Rattle.std.proofs.lemmas.Simd.{mask_l-mod, mask_l-lt, length-zip2}
 use Rattle.miller_line.specs.Faults.{changes_of, faults_of}
-use Rattle.miller_line.proofs.Bitwise.{differ, both, either, IsBitwise, xor_bits, and_bits, or_bits, zipped, mask_append, no_digit}
+use Rattle.miller_line.proofs.Bitwise.{differ, both, either, IsBitwise, xor_bits, and_bits, or_bits, zipped, no_digit}
+use Rattle.line_code.specs.laws.Masks.{mask-append}
 
 -- where each phase differs from that so many places before as `carry` has
 abbrev pub changed : List Bool → List Bool → List Bool
@@ -40,7 +41,7 @@ same_op op f is xs ys long other = ap (op (mask_l xs)) (sym (mask_l-mod ys 64 (o
 shifted : (k : ℕ) (front xs : List Bool) → length front ≡ k → k ≤ 64 → bit_or (mask_l xs * 2 ^ k % 2 ^ 64) (mask_l front) ≡ mask_l (front ++ xs) % 2 ^ 64
 shifted k front xs size small =
     let below : mask_l front < 2 ^ k = subst (λ n. mask_l front < 2 ^ n) size (mask_l-lt front) in
-    let cut : mask_l (front ++ xs) ≡ mask_l xs * 2 ^ k + mask_l front = subst (λ n. mask_l (front ++ xs) ≡ mask_l xs * 2 ^ n + mask_l front) size (mask_append front xs) in
+    let cut = mask-append front xs k size in
     let width : 64 ≡ (64 - k) + k = omega arith in
     let high = shr_high (mask_l xs) k (mask_l front) below in
     let low = mod_low (mask_l xs) k (mask_l front) below in
@@ -57,7 +58,7 @@ shifted k front xs size small =
 -- ... or zeros
 moved_up : (k : ℕ) (front xs : List Bool) → length front ≡ k → mask_l front ≡ 0 → mask_l xs * 2 ^ k % 2 ^ 64 ≡ mask_l (front ++ xs) % 2 ^ 64
 moved_up k front xs size none =
-    let cut = subst (λ n. mask_l (front ++ xs) ≡ mask_l xs * 2 ^ n + mask_l front) size (mask_append front xs) in
+    let cut = mask-append front xs k size in
     ap (λ n. n % 2 ^ 64) (omega (arith, cut, none))
 
 long_zip : (f : Bool → Bool → Bool) (xs ys : List Bool) → length xs ≡ 64 → length ys ≡ 64 → length (zip2 f xs ys) ≡ 64

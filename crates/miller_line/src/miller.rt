@@ -58,7 +58,7 @@ impl LineCode for Miller2 {
     }
 
     fn sixteen_bits(mark: SymbolBefore, levels: &[bool]) -> Option<([bool; 16], SymbolBefore)> {
-        sixteen_of_two_cycles(mark, &levels[1..])
+        sixteen_of_two_cycles(mark, levels)
     }
 
     fn after(mark: SymbolBefore, bit: bool) -> SymbolBefore {
@@ -112,7 +112,7 @@ impl LineCode for Miller4 {
     }
 
     fn sixteen_bits(mark: SymbolBefore, levels: &[bool]) -> Option<([bool; 16], SymbolBefore)> {
-        sixteen_of_four_cycles(mark, &levels[1..])
+        sixteen_of_four_cycles(mark, levels)
     }
 
     fn after(mark: SymbolBefore, bit: bool) -> SymbolBefore {

@@ -1,7 +1,6 @@
 //! Symbols whose levels are read as words of 64 levels.
 ghost use Rattle.std.specs.Prelude.{◌≡◌, ◌≢◌, ◌⊎◌, ℕ, ◌+◌, ◌-◌, ◌*◌, ◌/◌, ◌%◌, ◌^◌, ◌<◌, ◌≤◌, ◌==◌, Bool, ◌++◌, bit_and, true, false, List, length, map, drop, replicate, Some, IfSome};
 ghost use Rattle.std.specs.Simd.Lanes.{mask_l};
-ghost use Rattle.bit_strings.specs.Numbers.{digit_of};
 ghost use Rattle.line_code.specs.Stream.{blocks};
 ghost use Rattle.line_code.specs.States.{context_after};
 ghost use Rattle.miller_line.specs.Faults.{phases_of, changes_of, faults_of, bits_at, ArePlaces};
@@ -9,39 +8,17 @@ ghost use Rattle.miller_line.specs.Miller.{miller};
 ghost use Rattle.miller_line.specs.SymbolContext.{context};
 
 use crate::subcarrier::SymbolBefore;
-use std::simd::prelude::{SimdPartialEq, u8x16, u64x2};
+use line_code::word_of_levels;
+use std::simd::prelude::{u8x16, u64x2};
 
-/// 16 levels as digits.
-#[inline(always)]
-fn digits_of(levels: &[bool]) -> u8x16
-    requires { length levels.now ≡ 16 }
-    ensures { result ≡ map digit_of levels.now }
-{
-    let mut digits = [0; 16];
-    for at in 0..16 {
-        digits[at] = u8::from(levels[at]);
-    }
-    u8x16::from_array(digits)
-}
-
-/// The number that 16 levels are, the first level its lowest bit.
-#[inline(always)]
-fn mask_of(levels: &[bool]) -> u64
-    requires { length levels.now ≡ 16 }
-    ensures value { result ≡ mask_l levels.now }
-    ensures small { result < 2 ^ 16 }
-{
-    digits_of(levels).simd_eq(u8x16::splat(1)).to_bitmask()
-}
-
-/// The number that 32 levels are.
+/// The number that 32 levels are, of which the first is the lowest bit.
 #[inline(always)]
 fn half_word_of(levels: &[bool]) -> u64
     requires { length levels.now ≡ 32 }
     ensures value { result ≡ mask_l levels.now }
     ensures small { result < 2 ^ 32 }
 {
-    mask_of(&levels[16..]) * 0x1_0000 + mask_of(&levels[..16])
+    u64::from(word_of_levels(&levels[16..])) * 0x1_0000 + u64::from(word_of_levels(&levels[..16]))
 }
 
 /// The word that 64 levels are.

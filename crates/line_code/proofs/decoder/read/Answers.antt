@@ -50,23 +50,17 @@ has_room code trext levels context before out at count bits read within room is 
     omega (arith, put, size, within, room, is, read.same, mul-le-mul_right count code.even.least)
 
 -- what is read up to a place, and the levels behind it
-begins_at : (t : Table) (trext : Bool) (levels behind : List Bool) (context : Context) (before out : BitString) (at : ℕ) → 1 ≤ at → HasRead t trext levels at context before out
-    → behind ≡ drop (at - 1) levels → HasBehind t trext levels behind context before out
-begins_at t trext levels behind context before out at some read are =
-    let size : length behind ≡ length levels - (at - 1) = ap length are ∙ length-drop (at - 1) levels in
+begins_at : (t : Table) (trext : Bool) (levels behind : List Bool) (context : Context) (before out : BitString) (at : ℕ) → HasRead t trext levels at context before out
+    → behind ≡ drop at levels → HasBehind t trext levels behind context before out
+begins_at t trext levels behind context before out at read are =
+    let size : length behind ≡ length levels - at = ap length are ∙ length-drop at levels in
     let within = read.within in
-    let place : length levels - length behind ≡ at - 1 = omega (arith, size, within, some) in
-    let next : at ≡ length levels - length behind + 1 = omega (arith, size, within, some) in
+    let place : at ≡ length levels - length behind = omega (arith, size, within) in
     record {
       place = omega (arith, size);
-      some = omega (arith, size, within, some);
-      are = are ∙ ap (λ (n : ℕ). drop n levels) (sym place);
-      read = subst (λ (n : ℕ). HasRead t trext levels n context before out) next read;
+      are = are ∙ ap (λ (n : ℕ). drop n levels) place;
+      read = subst (λ (n : ℕ). HasRead t trext levels n context before out) place read;
     }
-
--- the levels behind more of them
-further : (levels behind : List Bool) (count : ℕ) → behind ≡ drop (length levels - length behind) levels → drop count behind ≡ drop (length levels - length behind + 1 + count - 1) levels
-further levels behind count are = ap (drop count) are ∙ drop-drop count (length levels - length behind) levels ∙ ap (λ (n : ℕ). drop n levels) (omega arith)
 
 pub loop-sixteen-init : goal.loop-sixteen-init
 loop-sixteen-init g c =
@@ -74,13 +68,12 @@ loop-sixteen-init g c =
     let levels = c.args.levels.now in
     let found = c.in_ok-at.ensures.found in
     let at = c.in_ok-at.at in
-    let some : 1 ≤ at = omega (arith, ap length found.1, length-take-le at levels found.0, g.met.C.LineCode.has_lead c.args.trext) in
     let read : HasRead t c.args.trext levels at (g.C.LineCode.context_of c.after_lead-mark.result) c.args.out.now c.args.out.now = record {
       within = found.0;
       has = rw c.requires.empty (record { levels_are = found.1 ∙ sym (append-nil (t.lead c.args.trext)); context_is = c.after_lead-mark.ensures });
       same = refl;
     } in
-    begins_at t c.args.trext levels _ _ c.args.out.now c.args.out.now at some read (behind levels (at - 1))
+    begins_at t c.args.trext levels _ _ c.args.out.now c.args.out.now at read (behind levels at)
 
 pub put_bits-requires : goal.put_bits-requires
 put_bits-requires g c =
@@ -88,9 +81,9 @@ put_bits-requires g c =
     let levels = c.args.levels.now in
     let loop = c.loop-sixteen.invariant in
     let some = c.in-Some.ensures in
-    let at = length levels - length c.loop-sixteen.behind.now + 1 in
-    let within : at + 16 * code.chips ≤ length levels = let place = loop.place in let next = some.taken.0 in omega arith in
-    has_room code c.args.trext levels _ c.args.out.now c.loop-sixteen.out at 16 _ loop.read within c.requires.room some.count
+    let at = length levels - length c.loop-sixteen.behind.now in
+    let within : at + 16 * code.chips ≤ length levels = let place = loop.place in let next = some.1 in omega arith in
+    has_room code c.args.trext levels _ c.args.out.now c.loop-sixteen.out at 16 _ loop.read within c.requires.room some.0
 
 pub loop-sixteen-preserved : goal.loop-sixteen-preserved
 loop-sixteen-preserved g c =
@@ -99,13 +92,13 @@ loop-sixteen-preserved g c =
     let rest = c.loop-sixteen.behind.now in
     let loop = c.loop-sixteen.invariant in
     let some = c.in-Some.ensures in
-    let at = length levels - length rest + 1 in
+    let at = length levels - length rest in
     let count = 16 * g.C.LineCode.CHIPS in
-    let within : at + count ≤ length levels = let place = loop.place in let next = some.taken.0 in omega arith in
-    let first : drop 1 rest ≡ drop at levels = further levels rest 1 loop.are ∙ ap (λ (n : ℕ). drop n levels) (omega arith) in
-    let next : BlocksAt t (g.C.LineCode.context_of c.loop-sixteen.mark) levels at = record { count = count; more = c.in-Some.sixteen.0; levels_are = ap (take count) (sym first) ∙ some.taken.1 } in
+    let within : at + count ≤ length levels = let place = loop.place in let next = some.1 in omega arith in
+    let next : BlocksAt t (g.C.LineCode.context_of c.loop-sixteen.mark) levels at = record { count = count; more = c.in-Some.sixteen.0; levels_are = ap (take count) (sym loop.are) ∙ some.2 } in
     let read = taken t c.args.trext levels _ c.args.out.now c.loop-sixteen.out _ at next loop.read within c.put_bits.ensures in
-    rw (c.CHIPS.ensures, some.taken.2) (begins_at t c.args.trext levels _ _ c.args.out.now _ (at + count) (omega arith) read (behind rest count ∙ further levels rest count loop.are))
+    let further : drop count rest ≡ drop (at + count) levels = ap (drop count) loop.are ∙ drop-drop count at levels ∙ ap (λ (n : ℕ). drop n levels) (omega arith) in
+    rw (c.CHIPS.ensures, some.3) (begins_at t c.args.trext levels _ _ c.args.out.now _ (at + count) read (behind rest count ∙ further))
 
 pub put_bits-requires-in-Some-next_four : goal.put_bits-requires-in-Some-next_four
 put_bits-requires-in-Some-next_four g c =

@@ -1,8 +1,7 @@
-use Rattle.std.proofs.Common.{◌≡◌, ◌∙◌, ◌-◌, ◌/◌, ◌<◌, ℕ, Bool, true, false, List, length, drop, take_all, get_or, ap, sym, arith}
+use Rattle.std.proofs.Common.{◌≡◌, ◌∙◌, ◌/◌, ◌<◌, ℕ, Bool, true, false, List, length, get_or, ap, sym, arith}
 use Rattle.std.specs.Prelude.{bit_and}
 use Rattle.std.specs.Simd.Lanes.{mask_l}
 use Rattle.std.proofs.Math.Bool.{cond}
-use Rattle.std.proofs.lemmas.List.{length-drop}
 use Rattle.std.proofs.lemmas.Simd.{bit_mask_l}
 use Rattle.fm0_line.specs.Stays.{stays}
 use Rattle.fm0_line.proofs.Places.{none_set, length-stays}
@@ -21,13 +20,12 @@ last_level word levels small is = told (get_or levels 31 false) (word / 21474836
 pub returns : goal.returns
 returns c =
     let levels = c.args.levels.now in
-    let symbols = drop 1 levels in
     let phase = c.args.mark.last_level in
-    let size : length symbols ≡ 32 = omega (arith, c.requires, length-drop 1 levels) in
-    let word_is : c.word_of-word.result ≡ mask_l symbols = c.word_of-word.ensures ∙ ap mask_l (take_all (length levels - 1) symbols (omega (arith, length-drop 1 levels))) in
-    let stays_are = c.stays_of-stays.ensures symbols size word_is in
-    let many : length (stays phase symbols) ≡ 32 = length-stays phase symbols ∙ size in
-    let none = none_set 16 (stays phase symbols) many (ap (λ (word : ℕ). bit_and word 1431655765) (sym stays_are) ∙ c.if-stays-ne0.false) in
+    let size : length levels ≡ 32 = c.requires in
+    let word_is : c.word_of-word.result ≡ mask_l levels = c.word_of-word.ensures in
+    let stays_are = c.stays_of-stays.ensures levels size word_is in
+    let many : length (stays phase levels) ≡ 32 = length-stays phase levels ∙ size in
+    let none = none_set 16 (stays phase levels) many (ap (λ (word : ℕ). bit_and word 1431655765) (sym stays_are) ∙ c.if-stays-ne0.false) in
     let bits = c.bits_of_middles-bits in
-    let read = are_read c.args.mark.bit phase symbols bits.result size none (bits.ensures (stays phase symbols) many stays_are) in
-    (read.0, ap (λ (level : Bool). record { before = get_or bits.result 15 false; phase = level }) (last_level c.word_of-word.result symbols c.word_of-word.type_inv word_is) ∙ read.1)
+    let read = are_read c.args.mark.bit phase levels bits.result size none (bits.ensures (stays phase levels) many stays_are) in
+    (read.0, ap (λ (level : Bool). record { before = get_or bits.result 15 false; phase = level }) (last_level c.word_of-word.result levels c.word_of-word.type_inv word_is) ∙ read.1)
