@@ -1,5 +1,6 @@
 pub mod Bitwise
 pub mod Bytes
+pub mod EightCycles
 pub mod FaultLists
 pub mod FourCycles
 pub mod FourSymbols

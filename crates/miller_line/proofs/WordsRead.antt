@@ -14,6 +14,7 @@ use Rattle.miller_line.proofs.Bitwise.{differ, both, xor_bits, and_bits}
 use Rattle.miller_line.proofs.FaultLists.{faults, none_of, same_op, changes_are, faults_are, length-changed}
 use Rattle.miller_line.proofs.Halves.{at}
 use Rattle.miller_line.proofs.TwoCycles as two
+use Rattle.miller_line.proofs.EightCycles as eight
 use Rattle.miller_line.proofs.FourCycles as four
 use mir.Val.{bool_byte}
 
@@ -100,6 +101,39 @@ read_four before phase levels changes bits long changes_is bits_is none =
       ap₂ at (ap (λ n. n / 2 ^ 60 % 2 == 1) bs_is ∙ digit_is bs 60) (digit_is levels 63) ∙ sym read.1 ∙ ap (context_after (miller 4) (at before phase)) (sym bits_are),
     )
 
+before_eight : (before : Bool) → bool_byte before * 2 ^ 8 % 2 ^ 64 ≡ mask_l (eight.before_of before)
+before_eight true = refl
+before_eight false = refl
+
+pub read_eight : (before phase : Bool) (levels : List Bool) (changes bits : ℕ) → length levels ≡ 64
+    → changes ≡ changes_of 8 (mask_l (replicate 8 phase)) (phases_of (mask_l levels))
+    → bits ≡ bit_and changes 72058693566333184
+    → faults_of 8 18374403900871474942 72058693566333184 (bool_byte before * 2 ^ 8 % 2 ^ 64) (phases_of (mask_l levels)) changes bits ≡ 0
+    → IsRead 8 before phase levels bits
+read_eight before phase levels changes bits long changes_is bits_is none =
+    let carry = replicate 8 phase in
+    let shift = false ∷ false ∷ false ∷ false ∷ false ∷ false ∷ false ∷ false ∷ [] in
+    let ph = eight.phases 4 levels in
+    let ch = eight.changes 4 carry levels in
+    let bs = eight.bits 4 carry levels in
+    let long_ph : length ph ≡ 64 = length-zip2 differ levels (eight.alternating 4) long ∙ long in
+    let long_ch = length-changed carry ph long_ph in
+    let long_bs : length bs ≡ 64 = length-zip2 both ch (eight.middles 4) long_ch ∙ long_ch in
+    let ph_is : phases_of (mask_l levels) ≡ mask_l ph = same_op bit_xor differ xor_bits levels (eight.alternating 4) long refl in
+    let ch_is : changes ≡ mask_l ch = changes_is ∙ ap (changes_of 8 (mask_l carry)) ph_is ∙ changes_are 8 carry ph (omega arith) refl long_ph in
+    let bs_is : bits ≡ mask_l bs = bits_is ∙ ap (λ n. bit_and n 72058693566333184) ch_is ∙ same_op bit_and both and_bits ch (eight.middles 4) long_ch refl in
+    let zeros : mask_l (eight.all_faults 4 before false carry shift levels) ≡ 0 =
+    sym (faults_are 8 (eight.inside 4) (eight.middles 4) (eight.before_of before) shift ph ch bs (omega arith) refl refl refl refl refl long_ph long_ch long_bs)
+    ∙ ap (λ n. faults_of 8 18374403900871474942 72058693566333184 n (mask_l ph) (mask_l ch) (mask_l bs)) (sym (before_eight before))
+    ∙ ap (λ n. faults_of 8 18374403900871474942 72058693566333184 (bool_byte before * 2 ^ 8 % 2 ^ 64) n (mask_l ch) (mask_l bs)) (sym ph_is)
+    ∙ ap₂ (λ n k. faults_of 8 18374403900871474942 72058693566333184 (bool_byte before * 2 ^ 8 % 2 ^ 64) (phases_of (mask_l levels)) n k) (sym ch_is) (sym bs_is)
+    ∙ none in
+    let read = eight.eight_read 4 levels before phase false false false false false false false false false phase phase phase phase phase phase phase long (none_of _ zeros) in
+    let bits_are : bits_at 8 bits ≡ eight.picked 4 bs = ap (bits_at 8) bs_is ∙ tests bs (places 8 16 4) in (
+      read.0 ∙ ap (blocks (miller 8) (at before phase)) (sym bits_are),
+      ap₂ at (ap (λ n. n / 2 ^ 56 % 2 == 1) bs_is ∙ digit_is bs 56) (digit_is levels 63) ∙ sym read.1 ∙ ap (context_after (miller 8) (at before phase)) (sym bits_are),
+    )
+
 -- the same, as the words are read
 pub read_word : (m inside middles : ℕ) (before phase : Bool) (levels : List Bool) (word carry changes faults : ℕ) → ArePlaces m inside middles → length levels ≡ 64
     → word ≡ mask_l levels → carry ≡ mask_l (replicate m phase) → changes ≡ changes_of m carry (phases_of word)
@@ -114,7 +148,7 @@ read_word m inside middles before phase levels word carry changes faults (inl (m
     ∙ ap₂ (λ i k. faults_of 2 i k (bool_byte before * 2 ^ 2 % 2 ^ 64) (phases_of word) changes (bit_and changes k)) inside_is middles_is
     ∙ ap (λ n. faults_of 2 12297829382473034410 4919131752989213764 (bool_byte before * 2 ^ 2 % 2 ^ 64) (phases_of n) changes (bit_and changes 4919131752989213764)) word_is) ∙ none in
     rw (m_is, middles_is, word_is) (read_two before phase levels changes (bit_and changes 4919131752989213764) long changes' refl faults')
-read_word m inside middles before phase levels word carry changes faults (inr (m_is, inside_is, middles_is)) long word_is carry_is changes_is faults_is none =
+read_word m inside middles before phase levels word carry changes faults (inr (inl (m_is, inside_is, middles_is))) long word_is carry_is changes_is faults_is none =
     let carry' : carry ≡ mask_l (replicate 4 phase) = carry_is ∙ ap (λ k. mask_l (replicate k phase)) m_is in
     let changes' = changes_is ∙ ap₂ (λ k n. changes_of k n (phases_of word)) m_is carry' ∙ ap (λ n. changes_of 4 (mask_l (replicate 4 phase)) (phases_of n)) word_is in
     let faults' = sym (
@@ -122,6 +156,14 @@ read_word m inside middles before phase levels word carry changes faults (inr (m
     ∙ ap₂ (λ i k. faults_of 4 i k (bool_byte before * 2 ^ 4 % 2 ^ 64) (phases_of word) changes (bit_and changes k)) inside_is middles_is
     ∙ ap (λ n. faults_of 4 17216961135462248174 1157442765409226768 (bool_byte before * 2 ^ 4 % 2 ^ 64) (phases_of n) changes (bit_and changes 1157442765409226768)) word_is) ∙ none in
     rw (m_is, middles_is, word_is) (read_four before phase levels changes (bit_and changes 1157442765409226768) long changes' refl faults')
+read_word m inside middles before phase levels word carry changes faults (inr (inr (m_is, inside_is, middles_is))) long word_is carry_is changes_is faults_is none =
+    let carry' : carry ≡ mask_l (replicate 8 phase) = carry_is ∙ ap (λ k. mask_l (replicate k phase)) m_is in
+    let changes' = changes_is ∙ ap₂ (λ k n. changes_of k n (phases_of word)) m_is carry' ∙ ap (λ n. changes_of 8 (mask_l (replicate 8 phase)) (phases_of n)) word_is in
+    let faults' = sym (
+    faults_is ∙ ap (λ k. faults_of k inside middles (bool_byte before * 2 ^ k % 2 ^ 64) (phases_of word) changes (bit_and changes middles)) m_is
+    ∙ ap₂ (λ i k. faults_of 8 i k (bool_byte before * 2 ^ 8 % 2 ^ 64) (phases_of word) changes (bit_and changes k)) inside_is middles_is
+    ∙ ap (λ n. faults_of 8 18374403900871474942 72058693566333184 (bool_byte before * 2 ^ 8 % 2 ^ 64) (phases_of n) changes (bit_and changes 72058693566333184)) word_is) ∙ none in
+    rw (m_is, middles_is, word_is) (read_eight before phase levels changes (bit_and changes 72058693566333184) long changes' refl faults')
 
 -- two words, one behind the other
 pub both_read : (t : Table) (front back levels xs ys all : List Bool) (before between behind : Context) → front ++ back ≡ levels

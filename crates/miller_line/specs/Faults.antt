@@ -28,4 +28,5 @@ bits_at m word = map (λ place. word / 2 ^ place % 2 == 1) (places m (2 * m) (32
 -- what holds of M and of the places of a word within halves and in the middles of symbols
 abbrev pub ArePlaces : ℕ → ℕ → ℕ → Type 0
 ArePlaces m inside middles = ((m ≡ 2) × (inside ≡ 12297829382473034410) × (middles ≡ 4919131752989213764))
-    ⊎ ((m ≡ 4) × (inside ≡ 17216961135462248174) × (middles ≡ 1157442765409226768))
+    ⊎ (((m ≡ 4) × (inside ≡ 17216961135462248174) × (middles ≡ 1157442765409226768))
+    ⊎ ((m ≡ 8) × (inside ≡ 18374403900871474942) × (middles ≡ 72058693566333184)))

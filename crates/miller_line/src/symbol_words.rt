@@ -4,7 +4,7 @@ ghost use Rattle.std.specs.Simd.Lanes.{mask_l};
 ghost use Rattle.line_code.specs.Stream.{blocks};
 ghost use Rattle.line_code.specs.States.{context_after};
 ghost use Rattle.miller_line.specs.Faults.{phases_of, changes_of, faults_of, bits_at, ArePlaces};
-ghost use Rattle.miller_line.specs.Miller.{miller};
+ghost use Rattle.miller_line.specs.Miller.{miller, IsOneOfThree};
 ghost use Rattle.miller_line.specs.SymbolContext.{context};
 
 use crate::subcarrier::SymbolBefore;
@@ -63,12 +63,14 @@ fn faults_of(
 /// The phase of a half, for each of its levels.
 #[inline(always)]
 fn phases_of_half(m: u32, phase: bool) -> u64
-    requires { (m ≡ 2) ⊎ (m ≡ 4) }
+    requires { IsOneOfThree m }
     ensures { result ≡ mask_l (replicate m phase) }
 {
-    match m {
-        2 => (phase as u64) * 3,
-        _ => (phase as u64) * 15,
+    match (m, phase) {
+        (_, false) => 0,
+        (2, _) => 3,
+        (4, _) => 15,
+        (_, _) => 255,
     }
 }
 
@@ -100,15 +102,15 @@ fn symbols_of_word(
     Some((bits, last))
 }
 
-/// Which of 16 bytes are odd.
+/// Which of 16 bytes have this digit.
 #[inline(always)]
-fn are_odd(bytes: u8x16) -> [bool; 16]
-    ensures { result ≡ map (λ byte. bit_and byte 1 == 1) bytes }
+fn have_digit(bytes: u8x16, digit: u8) -> [bool; 16]
+    ensures { result ≡ map (λ byte. bit_and byte digit == digit) bytes }
 {
-    let digits = (bytes & u8x16::splat(1)).to_array();
+    let digits = (bytes & u8x16::splat(digit)).to_array();
     let mut bits = [false; 16];
     for at in 0..16 {
-        bits[at] = digits[at] == 1;
+        bits[at] = digits[at] == digit;
     }
     bits
 }
@@ -118,8 +120,10 @@ fn are_odd(bytes: u8x16) -> [bool; 16]
 fn bits_of_word(word: u64) -> [bool; 16]
     ensures { result ≡ bits_at 2 word }
 {
-    let bytes = u64x2::from_array([word >> 2, word >> 6]).to_le_bytes();
-    are_odd(bytes.swizzle([0, 8, 1, 9, 2, 10, 3, 11, 4, 12, 5, 13, 6, 14, 7, 15]))
+    let bytes = u64x2::from_array([word, word >> 4])
+        .to_le_bytes()
+        .swizzle([0, 8, 1, 9, 2, 10, 3, 11, 4, 12, 5, 13, 6, 14, 7, 15]);
+    have_digit(bytes, 4)
 }
 
 /// The bits of the 16 symbols of two words with M = 4, of which a byte has one.
@@ -127,7 +131,37 @@ fn bits_of_word(word: u64) -> [bool; 16]
 fn bits_of_words(first: u64, second: u64) -> [bool; 16]
     ensures { result ≡ bits_at 4 first ++ bits_at 4 second }
 {
-    are_odd(u64x2::from_array([first >> 4, second >> 4]).to_le_bytes())
+    have_digit(u64x2::from_array([first, second]).to_le_bytes(), 16)
+}
+
+/// The bits of the 16 symbols of four words with M = 8, of which every second byte has one.
+#[inline(always)]
+fn bits_of_four_words(first: u64, second: u64, third: u64, fourth: u64) -> [bool; 16]
+    ensures { result ≡ (bits_at 8 first ++ bits_at 8 second) ++ (bits_at 8 third ++ bits_at 8 fourth) }
+{
+    let front = u64x2::from_array([first, second]).to_le_bytes();
+    let back = u64x2::from_array([third, fourth]).to_le_bytes();
+    have_digit(front.deinterleave(back).1, 1)
+}
+
+/// The bits of the symbols whose levels are two words, as [`symbols_of_word`] gives them.
+#[inline(always)]
+fn symbols_of_two_words(
+    m: u32,
+    inside: u64,
+    middles: u64,
+    before: SymbolBefore,
+    levels: &[bool],
+) -> Option<(u64, u64, SymbolBefore)>
+    requires places { ArePlaces m inside middles }
+    requires whole { length levels.now ≡ 128 }
+    ensures { IfSome result (λ it. (levels.now ≡ blocks (miller m) (context before) (bits_at m it.0 ++ bits_at m it.1)) × (context it.2 ≡ context_after (miller m) (context before) (bits_at m it.0 ++ bits_at m it.1))) }
+{
+    let word = word_of(&levels[..64]);
+    let (first, between) = symbols_of_word(m, inside, middles, before, word)?;
+    let word = word_of(&levels[64..]);
+    let (second, last) = symbols_of_word(m, inside, middles, between, word)?;
+    Some((first, second, last))
 }
 
 /// The sixteen bits whose blocks with M = 2, one behind the other, the levels are, and what stands before the bit that follows them.
@@ -159,11 +193,34 @@ pub(crate) fn sixteen_of_four_cycles(
     requires { length levels.now ≡ 128 }
     ensures { IfSome result (λ it. (levels.now ≡ blocks (miller 4) (context before) it.0) × (context it.1 ≡ context_after (miller 4) (context before) it.0)) }
 {
-    let inside = 0xeeee_eeee_eeee_eeee;
-    let middles = 0x1010_1010_1010_1010;
-    let word = word_of(&levels[..64]);
-    let (first, between) = symbols_of_word(4, inside, middles, before, word)?;
-    let word = word_of(&levels[64..]);
-    let (second, last) = symbols_of_word(4, inside, middles, between, word)?;
+    let (first, second, last) = symbols_of_two_words(
+        4,
+        0xeeee_eeee_eeee_eeee,
+        0x1010_1010_1010_1010,
+        before,
+        levels,
+    )?;
     Some((bits_of_words(first, second), last))
+}
+
+/// The same with M = 8.
+#[inline(always)]
+pub(crate) fn sixteen_of_eight_cycles(
+    before: SymbolBefore,
+    levels: &[bool],
+) -> Option<([bool; 16], SymbolBefore)>
+    requires { length levels.now ≡ 256 }
+    ensures { IfSome result (λ it. (levels.now ≡ blocks (miller 8) (context before) it.0) × (context it.1 ≡ context_after (miller 8) (context before) it.0)) }
+{
+    let inside = 0xfefe_fefe_fefe_fefe;
+    let middles = 0x0100_0100_0100_0100;
+    let (first, second, between) = symbols_of_two_words(
+        8,
+        inside,
+        middles,
+        before,
+        &levels[..128],
+    )?;
+    let (third, fourth, last) = symbols_of_two_words(8, inside, middles, between, &levels[128..])?;
+    Some((bits_of_four_words(first, second, third, fourth), last))
 }
