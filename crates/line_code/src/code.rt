@@ -82,13 +82,10 @@ pub trait LineCode {
         ensures none { IfNone result ((first second third fourth : Bool) → levels.now ≢ blocks table (context_of mark) (first ∷ second ∷ third ∷ fourth ∷ [])) };
 
     /// The sixteen bits whose blocks, one behind the other, the levels are, and the mark of the bit that follows them. It may be none for any
-    /// levels, since [`LineCode::four_bits`] answers exactly: it is for a code that reads so many blocks at once.
+    /// levels, since [`LineCode::four_bits`] answers exactly.
     fn sixteen_bits(mark: Self::Mark, levels: &[bool]) -> Option<([bool; 16], Self::Mark)>
         requires { length levels.now ≡ 16 * CHIPS }
-        ensures { IfSome result (λ it. (levels.now ≡ blocks table (context_of mark) it.0) × (context_of it.1 ≡ context_after table (context_of mark) it.0)) }
-    {
-        None
-    }
+        ensures { IfSome result (λ it. (levels.now ≡ blocks table (context_of mark) it.0) × (context_of it.1 ≡ context_after table (context_of mark) it.0)) };
 
     /// The mark of the bit that follows a bit.
     fn after(mark: Self::Mark, bit: bool) -> Self::Mark
