@@ -16,6 +16,7 @@ use crate::request::{
     MOST_INTERVALS, MOST_LEVELS, MOST_SAMPLES, MOST_WORDS, Request, RequestKind, kind_of_line,
     read_intervals, request_of,
 };
+use crate::stream_lines::read_stream;
 use bit_strings::{Bits, Code, Levels, OutOfMemory};
 use checked_lines::FaultReason;
 use command_grammar::{Command, CommandRefusal, decode_command_to};
@@ -61,6 +62,7 @@ impl Workspace {
         match kind_of_line(line) {
             None => Ok(Err(FaultReason::Word)),
             Some((RequestKind::Pie, others)) => self.answer_pie(others, text),
+            Some((RequestKind::Stream(code), others)) => self.answer_stream(code, others, text),
             Some((kind, others)) => self.answer_other(kind, others, text),
         }
     }
@@ -84,7 +86,27 @@ impl Workspace {
         Ok(Ok(()))
     }
 
-    /// Adds the answer to a line of another kind, by its other fields.
+    /// Adds the answer to a line that begins with a code's name, by its other fields. Where its levels are not read
+    /// at once, the line is answered as others are, so that each refusal has its reason.
+    fn answer_stream(
+        &mut self,
+        code: Code,
+        others: Fields,
+        text: &mut String,
+    ) -> Result<Result<(), FaultReason>, OutOfMemory>
+        ensures ok { IfOk result (λ answered. OnOk answered (AnswersBehind (RequestKind.Stream code) others.entry (string_bytes text.old) (string_bytes text.new))) }
+        ensures refused { IfOk result (λ answered. IfErr answered (AreFaulty (RequestKind.Stream code) others.entry)) }
+    {
+        match read_stream(others.again(), &mut self.rooms.levels) {
+            Some(trext) => {
+                self.rooms.answer_levels(code, trext, text)?;
+                Ok(Ok(()))
+            }
+            None => self.answer_other(RequestKind::Stream(code), others, text),
+        }
+    }
+
+    /// Adds the answer to a line of any kind but `pie`, by its other fields.
     fn answer_other(
         &mut self,
         kind: RequestKind,
@@ -178,6 +200,19 @@ impl Rooms {
         ensures { OnOk result (AddsAnswer (Request.Stream code trext levels.now) (string_bytes text.old) (string_bytes text.new)) }
     {
         levels.copy_to(&mut self.levels);
+        self.answer_levels(code, trext, text)
+    }
+
+    /// Adds the bits of the levels in the room, or the place at which they are no stream.
+    fn answer_levels(
+        &mut self,
+        code: Code,
+        trext: bool,
+        text: &mut String,
+    ) -> Result<(), OutOfMemory>
+        requires { length self.old.levels.items ≤ MOST_LEVELS }
+        ensures { OnOk result (AddsAnswer (Request.Stream code trext self.old.levels.items) (string_bytes text.old) (string_bytes text.new)) }
+    {
         let outcome = decode_levels(code, trext, &self.levels, &mut self.bits);
         push_outcome(text, outcome, &self.bits)
     }

@@ -1,13 +1,8 @@
 use Rattle.std.proofs.Common.{ap}
-use Rattle.std.proofs.lemmas.Result.{on_ok_weaker}
 use Rattle.bit_strings.specs.BitString.{BitString}
-use Rattle.decode_lines.specs.Answer.{streamed, with_left}
-use Rattle.decode_lines.proofs.RightAnswers.{streamed_right}
 use Rattle.decode_lines.proofs.answer.Rooms.answer_stream.Goals as goal
 
 pub returns : goal.returns
 returns c =
     let same = ap (λ (b : BitString). b.items) c.copy_to.ensures in
-    let bits = c.decode_levels-outcome.new.out.items in
-    let right = streamed_right c.args.code c.args.trext c.args.levels.now _ bits c.decode_levels-outcome.result same c.decode_levels-outcome.ensures.ok c.decode_levels-outcome.ensures.refused in
-    on_ok_weaker c.push_outcome.result (λ line. record { answer = streamed (with_left (λ done. bits) c.decode_levels-outcome.result); right = right; line = line }) c.push_outcome.ensures
+    rw same at c.answer_levels.ensures
