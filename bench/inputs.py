@@ -1,12 +1,14 @@
 #!/usr/bin/env python3
-"""Writes an input of one kind: inputs.py KIND SIZE > FILE. It has at most SIZE bytes; of the kinds `run` and `slots`, SIZE rounds; of the
-kind `operations`, SIZE operations; of `many`, `floating` and `portals`, SIZE rounds of the most tags that version 2 has.
+"""Writes an input of one kind: inputs.py KIND SIZE > FILE. It has at most SIZE bytes; of the kinds `run`, `slots`, `few`, `empty` and `full`, SIZE rounds;
+of the kinds `operations` and `banks`, SIZE operations; of `many`, `floating` and `portals`, SIZE rounds of the most tags that version 2 has.
 
 Of decode lines each line is as long as a line may be (or a whole reply), and each stream, reply and sample group is a
 good one, so that the decoder goes over all of it. `scenario` is a scenario without steps, with as many tags of full banks as
 fit, and `long` one whose first tag line is as long as fits, so that its last field is refused. `run` is a scenario that is
 played: 256 tags, and rounds in each of which every tag is listed; `slots` rounds with Q 15 that come to
-their limit of 70,000 slots. `operations` is one round of `run`, with operations on each tag. `raw` is a
+their limit of 70,000 slots, `few` such rounds of two tags that collide in the first slot of each frame, and `empty` rounds of 32,768 slots in which
+nobody answers; `full` rounds of 256 tags of full banks. `operations` is one round of `run`, with operations on each tag, and `banks` a round of 16 tags
+with operations that read a User bank of 512 words and write it, in Miller 8. `raw` is a
 scenario of raw streams, each of the longest reply, a Read's of 512 words in Miller 8 with a pilot; it is played, and each comes in place
 of a tag's reply. `names` is list lines, each of an SGTIN-96. `encode-KIND` is lines
 of that kind for `encode`, as long as they may be, whose output has at most SIZE bytes. `probe` is SIZE lines for one tag: rounds of commands
@@ -220,6 +222,31 @@ def slots(rounds, rng):
     return HEAD + "".join(lines) + "".join(text) + END
 
 
+def few(rounds, rng):
+    """Such rounds of two tags, each of which draws the first slot of each frame, and collides there."""
+    tags = "".join(f"tag 00000000 00000000 0000000000 0800{number:04X} E200{number:04X} - 0000\n" for number in range(2))
+    return HEAD + tags + "round all 0 a 15 100 70000\n" * rounds + END
+
+
+def empty(rounds, rng):
+    """Rounds of one frame of 32,768 slots, for tags with flag B, of which there is none."""
+    return HEAD_2 + "tag 00000000 00000000 0000000000 08000000 E2000000 - 0000\n" + "round all 0 b 15 fixed 70000\n" * rounds + END
+
+
+def full(rounds, rng):
+    """Rounds of 256 tags of full banks, which ask for A and B in turn."""
+    text = [f"round all 0 {'ab'[number % 2]} 8 300 1024\n" for number in range(rounds)]
+    return HEAD + "".join(tag(rng) for _ in range(256)) + "".join(text) + END
+
+
+def banks(count, rng):
+    """One round of 16 tags of full banks in Miller 8, and on each tag operations that read the whole User bank and write as many words of it as
+    one command can, in turn."""
+    between = ["read user 0 0", f"blockwrite user 0 {words(255, rng)}", "read user 0 0", f"blockwrite user 257 {words(255, rng)}"]
+    text = [f"op {between[place % len(between)]}\n" for place in range(count)]
+    return HEAD.replace("m4", "m8") + "".join(tag(rng) for _ in range(16)) + "round all 0 a 4 300 1024\n" + "".join(text) + END
+
+
 # How many bits and digits the company of an SGTIN-96 has, by the partition.
 PARTITIONS = [(40, 12), (37, 11), (34, 10), (30, 9), (27, 8), (24, 7), (20, 6)]
 
@@ -297,7 +324,7 @@ def raw(size, rng):
 def main():
     kind, size = sys.argv[1], int(sys.argv[2])
     rng = random.Random(7)
-    whole = {"scenario": scenario, "long": long, "run": run, "slots": slots, "many": many, "floating": floating, "portals": portals, "operations": operations, "raw": raw, "names": names, "probe": probe}
+    whole = {"scenario": scenario, "long": long, "run": run, "slots": slots, "few": few, "empty": empty, "full": full, "banks": banks, "many": many, "floating": floating, "portals": portals, "operations": operations, "raw": raw, "names": names, "probe": probe}
     if kind in whole:
         sys.stdout.write(whole[kind](size, rng))
         return
