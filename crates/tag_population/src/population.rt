@@ -27,6 +27,9 @@ use waiting_tags::{Participation, TagSet, Waiting, next_marked};
 /// How many bits of an answer there is room for: more than the 8,225 of the longest reply.
 const REPLY_ROOM: u32 = 8240;
 
+/// How many tags a population may have that hear each QueryAdjust one by one: what is drawn for all at once takes longer than what so few draw.
+const FEW_TAGS: usize = 4;
+
 /// Tags, numbered from 0, of which there are at most 4,096.
 ///
 /// A tag that waits for its slot isn't counted down one by one: its slot counter is the one that `waiting` says, and
@@ -240,8 +243,13 @@ fn hear_at_rest<A: AnswerTaker, L: Ledger>(
         call_hearers(seats, waiting, *session, entry, steps);
         hear_called(seats, waiting, command, entry, missed, room, answers, steps);
     } else if let Command::QueryAdjust { session, updn } = command {
-        adjust_waiting(seats, waiting, marks, *session, *updn, entry, steps);
-        hear_called(seats, waiting, command, entry, missed, room, answers, steps);
+        if seats.len() <= FEW_TAGS {
+            waiting.unlink();
+            hear_all(seats, waiting, command, entry, missed, room, answers, steps);
+        } else {
+            adjust_waiting(seats, waiting, marks, *session, *updn, entry, steps);
+            hear_called(seats, waiting, command, entry, missed, room, answers, steps);
+        }
     } else if reaches_waiting(command) {
         waiting.unlink();
         hear_all(seats, waiting, command, entry, missed, room, answers, steps);

@@ -47,29 +47,32 @@ returns-else-reaches_waiting-clause-replies g c =
     let called = none_called_for c.args.command.now c.args.entry.now c.args.waiting.now c.args.seats.now c.requires.rest (sym c.reaches_waiting.ensures.value ∙ c.if-reaches_waiting.false) in
     subst (λ (l : List Outcome). g.A.AnswerTaker.took c.args.answers.now (replies_from 0 l) c.hear_called-else-reaches_waiting.new.answers) called.outcomes c.hear_called-else-reaches_waiting.ensures.replies
 
-pub returns-in-QueryAdjust-clause-heard : goal.returns-in-QueryAdjust-clause-heard
-returns-in-QueryAdjust-clause-heard g c =
+pub returns-else-len-le-FEW_TAGS-clause-heard : goal.returns-else-len-le-FEW_TAGS-clause-heard
+returns-else-len-le-FEW_TAGS-clause-heard g c =
     let called : AreCalledFor c.args.command.now c.args.entry.now (tags_of c.args.waiting.now c.args.seats.now) c.adjust_waiting.new.waiting c.adjust_waiting.new.seats =
     rw c.in-QueryAdjust.is c.adjust_waiting.ensures.called in
     record {
-      tags = c.hear_called-in-QueryAdjust.ensures.tags ∙ ap (λ (l : List Outcome). tags_after l) called.outcomes;
+      tags = c.hear_called-else-len-le-FEW_TAGS.ensures.tags ∙ ap (λ (l : List Outcome). tags_after l) called.outcomes;
       counted =
           omega (
             arith,
-            c.hear_called-in-QueryAdjust.ensures.counted,
+            c.hear_called-else-len-le-FEW_TAGS.ensures.counted,
             c.adjust_waiting.ensures.counted,
             called_most c.adjust_waiting.new.waiting,
             called.whole,
             c.adjust_waiting.ensures.seats_whole,
           );
-      rest = c.hear_called-in-QueryAdjust.ensures.rest;
+      rest = c.hear_called-else-len-le-FEW_TAGS.ensures.rest;
     }
 
-pub returns-in-QueryAdjust-clause-replies : goal.returns-in-QueryAdjust-clause-replies
-returns-in-QueryAdjust-clause-replies g c =
+pub returns-else-len-le-FEW_TAGS-clause-replies : goal.returns-else-len-le-FEW_TAGS-clause-replies
+returns-else-len-le-FEW_TAGS-clause-replies g c =
     let called : AreCalledFor c.args.command.now c.args.entry.now (tags_of c.args.waiting.now c.args.seats.now) c.adjust_waiting.new.waiting c.adjust_waiting.new.seats =
     rw c.in-QueryAdjust.is c.adjust_waiting.ensures.called in
-    subst (λ (l : List Outcome). g.A.AnswerTaker.took c.args.answers.now (replies_from 0 l) c.hear_called-in-QueryAdjust.new.answers) called.outcomes c.hear_called-in-QueryAdjust.ensures.replies
+    subst (λ (l : List Outcome). g.A.AnswerTaker.took c.args.answers.now (replies_from 0 l) c.hear_called-else-len-le-FEW_TAGS.new.answers) called.outcomes c.hear_called-else-len-le-FEW_TAGS.ensures.replies
 
-pub returns-in-QueryAdjust-clause-bound : goal.returns-in-QueryAdjust-clause-bound
-returns-in-QueryAdjust-clause-bound g c = λ is. absurd (c.in_default.not-QueryRep is.0 is.1)
+pub returns-else-len-le-FEW_TAGS-clause-bound : goal.returns-else-len-le-FEW_TAGS-clause-bound
+returns-else-len-le-FEW_TAGS-clause-bound g c = λ is. absurd (c.in_default.not-QueryRep is.0 is.1)
+
+pub returns-then-len-le-FEW_TAGS-clause-bound : goal.returns-then-len-le-FEW_TAGS-clause-bound
+returns-then-len-le-FEW_TAGS-clause-bound g c = λ is. absurd (c.in_default.not-QueryRep is.0 is.1)
