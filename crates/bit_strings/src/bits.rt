@@ -1,5 +1,5 @@
 //! A list of bits with a capacity.
-ghost use Rattle.std.specs.Prelude.{◌≡◌, ◌+◌, ◌*◌, ◌<◌, ◌≤◌, ◌↔◌, List, [], ◌∷◌, ◌++◌, length, take, drop, replicate, Bool, false, not, Some, IsErr, IsTrue, IsNone, IfSome, IfNone, OnErr, IfOk, slice_get, slice_set, map, ◌==◌};
+ghost use Rattle.std.specs.Prelude.{◌≡◌, ◌+◌, ◌*◌, ◌<◌, ◌≤◌, ◌↔◌, List, [], ◌∷◌, ◌++◌, length, Bool, not, Some, IsErr, IsTrue, IsNone, IfSome, IfNone, OnErr, IfOk, slice_get, slice_set, map, ◌==◌};
 ghost use Rattle.bit_strings.specs.Words.{bits_of_words};
 
 use crate::list::List;
@@ -157,25 +157,6 @@ impl Bits {
         }
     }
 
-    /// Puts this many zeros in place of what the list holds.
-    pub fn fill_zeros(&mut self, count: usize)
-        requires { count ≤ self.old.capacity }
-        ensures { self.new ≡ record self.old { items = replicate count false } }
-    {
-        self.bits.clear();
-        // There is room for each bit.
-        let _ = self.bits.resize(count, false);
-    }
-
-    /// Puts these bits in place of as many from the place `at` on.
-    #[inline]
-    pub fn overwrite(&mut self, at: usize, bits: &[bool])
-        requires { at + length bits.now ≤ length self.old.items }
-        ensures { self.new ≡ record self.old { items = take at self.old.items ++ bits.now ++ drop (at + length bits.now) self.old.items } }
-    {
-        self.bits[at..at + bits.len()].copy_from_slice(bits);
-    }
-
     /// Puts one bit for each byte in place of what the list holds: 1 where the byte is `one`, else 0.
     /// `Full` comes exactly where there are more bytes than the list has room for, and changes
     /// nothing.
@@ -187,8 +168,7 @@ impl Bits {
         if bytes.len() > self.room as usize {
             return Err(Full);
         }
-        self.bits.clear();
-        // There is room for each bit.
+        // There is room for each bit, and each is written: what the list holds may stay until then.
         let _ = self.bits.resize(bytes.len(), false);
         write_matches(bytes, one, self.bits.as_mut_slice());
         Ok(())

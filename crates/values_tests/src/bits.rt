@@ -149,34 +149,6 @@ fn words_are_written_and_read(rt: HostRuntime) {
     assert_eq!(rt; words_are_written(rt.alloc()), Some(true));
 }
 
-/// Four zeros, of which the two in the middle are written over, and a 1 behind them.
-fn written_over(alloc: Global) -> Option<Bits> {
-    let mut bits = Bits::new(alloc, 5).ok()?;
-    if bits.capacity() < 5 {
-        return None;
-    }
-    bits.fill_zeros(4);
-    if bits.len() != 4 {
-        return None;
-    }
-    bits.overwrite(1, &[true, true]);
-    if bits.len() < bits.capacity() {
-        bits.push_reserved(true);
-    }
-    Some(bits)
-}
-
-/// Whether these are the bits 01101.
-fn are_written_over(alloc: Global) -> Option<bool> {
-    let bits = written_over(alloc)?;
-    Some(bits.as_slice() == [false, true, true, false, true].as_slice())
-}
-
-#[test]
-fn bits_are_written_over(rt: HostRuntime) {
-    assert_eq!(rt; are_written_over(rt.alloc()), Some(true));
-}
-
 /// The bit that is taken off 100, the last bit of the rest after it was flipped, and whether none is left in the end.
 fn changes(alloc: Global) -> Option<(Option<bool>, Option<bool>, bool)> {
     let mut bits = bits_of(alloc, "100")?;
