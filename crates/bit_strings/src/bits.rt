@@ -16,6 +16,9 @@ pub type OutOfMemory = AllocError;
 #[error("the list has too few free places")]
 pub struct Full;
 
+/// How many bits are told of bytes at once.
+const TOGETHER: usize = 64;
+
 /// A list of bits. Its capacity, in bits, is fixed when it is made, and no later call takes memory.
 ///
 /// A contract sees it as a record of the list `items` and the number `capacity`.
@@ -168,10 +171,27 @@ impl Bits {
         if bytes.len() > self.room as usize {
             return Err(Full);
         }
-        // There is room for each bit, and each is written: what the list holds may stay until then.
-        let _ = self.bits.resize(bytes.len(), false);
-        write_matches(bytes, one, self.bits.as_mut_slice());
+        self.clear();
+        self.put_matches_reserved(bytes, one);
         Ok(())
+    }
+
+    /// Adds, for each byte, whether it is `one`, to a list that has room for as many bits.
+    fn put_matches_reserved(&mut self, bytes: &[u8], one: u8)
+        requires { length self.old.items + length bytes.now ≤ self.old.capacity }
+        ensures { self.new ≡ record self.old { items = self.old.items ++ map (λ byte. byte == one) bytes.now } }
+    {
+        // Many are written to a place of their own first and added at once, so that the list isn't filled before.
+        let mut bits = [false; TOGETHER];
+        let mut rest = bytes;
+        while let Some((part, behind)) = rest.split_first_chunk::<TOGETHER>() {
+            write_matches(part, one, &mut bits);
+            self.put_all_reserved(&bits);
+            rest = behind;
+        }
+        let last = &mut bits[..rest.len()];
+        write_matches(rest, one, last);
+        self.put_all_reserved(last);
     }
 
     /// Takes the last bit off and answers it; none where the list is empty, and then nothing changes.
