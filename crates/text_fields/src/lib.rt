@@ -2,8 +2,8 @@
 //! binary digits, hexadecimal digits and the names of the line codes as fields.
 //!
 //! A text that is read is a slice of bytes, and nothing here copies it. A text that is written is a
-//! `String`; it, and a list of bits or words that is read into, are all that takes memory. The line of a fault has a room
-//! of its own.
+//! `String`; it, and a list of bits or words that is read into, are all that takes memory. The line of a fault and the text
+//! of a kept number have a room of their own.
 #![tactic(auto)]
 
 mod ascii;
@@ -15,6 +15,7 @@ mod fields;
 mod fields_fault;
 mod hex_bytes;
 mod hex_words;
+mod kept_number;
 mod laws;
 mod lines;
 mod more_fields;
@@ -27,13 +28,14 @@ mod word_lists;
 
 pub use ascii::push_ascii;
 pub use code_names::{code_named, name_of};
-pub use digits::{Digits, list_digits, push_bits};
+pub use digits::{Digits, is_binary_digit, list_digits, push_bits};
 pub use exact::{are_filled, four_fields, is_at_end, one_field, three_fields, two_fields};
 pub use fault_lines::fault_line;
 pub use fields::Fields;
 pub use fields_fault::FieldsFault;
 pub use hex_bytes::HexBytes;
 pub use hex_words::{byte, push_byte_hex, push_hex_digit, push_word, push_words, word};
+pub use kept_number::KeptNumber;
 pub use laws::{
     bits_are_told_apart, fields_come_back, lines_come_back, numbers_are_told_apart,
     spellings_are_field_texts, word_lists_are_told_apart, words_are_told_apart,

@@ -43,6 +43,10 @@ pub fn number(field: &[u8], most: u32) -> Option<u32>
 pub fn push_number(text: &mut String, number: u32) -> Result<(), OutOfMemory>
     ensures { OnOk result (string_bytes text.new ≡ string_bytes text.old ++ decimal number) }
 {
+    // One digit takes no call.
+    if number < 10 {
+        return text.push(char::from(b'0' + number as u8));
+    }
     text.push_str(Buffer::new().format(number))
 }
 
