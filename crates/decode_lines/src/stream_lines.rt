@@ -6,7 +6,7 @@ ghost use Rattle.decode_lines.specs.Request.{most_levels};
 
 use crate::request::MOST_LEVELS;
 use bit_strings::Levels;
-use text_fields::{Fields, one_bit};
+use text_fields::{Fields, is_binary_digit, one_bit};
 
 /// How many digits are read at once.
 const TOGETHER: usize = 128;
@@ -86,11 +86,4 @@ fn write_bits(digits: &[u8], bits: &mut [bool]) -> bool
         binary &= is_binary_digit(*digit);
     }
     binary
-}
-
-/// Whether a byte is one of the digits 0 and 1.
-fn is_binary_digit(byte: u8) -> bool
-    ensures { result ≡ is_binary_digit byte }
-{
-    matches!(byte, b'0' | b'1')
 }
