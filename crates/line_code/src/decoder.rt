@@ -106,6 +106,10 @@ fn whole_lead<C: LineCode>(trext: bool, levels: &[bool]) -> Option<usize>
     ensures { IfSome result (λ lead. (lead ≤ length levels.now) × (take lead levels.now ≡ C.table.lead trext)) }
 {
     let lead = C::lead_levels(trext);
+    // A stream that is broken, as by several tags that reply, has most often another first level.
+    if levels.first() != lead.first() {
+        return None;
+    }
     if lead.len() <= levels.len() && same_levels(&levels[..lead.len()], lead) {
         Some(lead.len())
     } else {

@@ -70,7 +70,7 @@ put_all_reserved-requires-in-loop-next g c =
     let n = c.loop-next.next in
     let is = c.loop-next.invariant in
     let size = written_size code c.args.trext bits n _ _ c.loop-next.out is in
-    let block = ap length c.block.ensures ∙ code.even.blocks_even (g.C.LineCode.context_of c.loop-next.mark) (get_or bits n false) in
+    let block = ap length c.block.ensures ∙ code.even.blocks_even (g.C.LineCode.context_of c.loop-next.mark) _ in
     let same = capacity_of c.put_all_reserved.new.self c.clear.new.self _ c.put_all_reserved.ensures ∙ capacity_of c.clear.new.self c.args.out.now _ c.clear.ensures in
     let all = ap (λ (bs : List Bool). code.chips * (length bs + 1)) c.as_slice-bits.ensures.value in
     omega (arith, size, block, is.same, c.loop-sixteen.invariant.same, same, all, room_for code.chips n 1 (length bits) (omega (arith, c.loop-next-test.true)), c.requires)
@@ -97,7 +97,7 @@ put_all_reserved-requires-2 g c =
     let n = c.loop-next.next in
     let is = c.loop-next.invariant in
     let size = written_size code c.args.trext bits n _ _ c.loop-next.out is in
-    let block = ap length c.block-2.ensures ∙ code.even.blocks_even (g.C.LineCode.context_of c.loop-next.mark) true in
+    let block = ap length c.block-2.ensures ∙ code.even.blocks_even (g.C.LineCode.context_of c.loop-next.mark) _ in
     let same = capacity_of c.put_all_reserved.new.self c.clear.new.self _ c.put_all_reserved.ensures ∙ capacity_of c.clear.new.self c.args.out.now _ c.clear.ensures in
     let all = ap (λ (bs : List Bool). code.chips * (length bs + 1)) c.as_slice-bits.ensures.value in
     omega (arith, size, block, is.same, c.loop-sixteen.invariant.same, same, all, mul-add code.chips (length bits) 1, mul-le-mul_left code.chips is.within, c.requires)

@@ -23,22 +23,22 @@ room_left code c number left old now is room =
 pub put_four-third-requires : goal.put_four-third-requires
 put_four-third-requires g c =
     let code : CodeTable = record { table = g.C.LineCode.table; chips = g.C.LineCode.CHIPS; even = g.met.C.LineCode.even; tells = g.met.C.LineCode.tells_bits } in
-    let second = room_left code _ (c.args.word / 4096) 12 c.args.out.now c.put_four-second.new.out c.put_four-second.ensures.levels c.requires in
+    let second = room_left code _ _ 12 c.args.out.now c.put_four-second.new.out c.put_four-second.ensures.levels c.requires in
     omega (arith, second)
 
 pub put_four-fourth-requires : goal.put_four-fourth-requires
 put_four-fourth-requires g c =
     let code : CodeTable = record { table = g.C.LineCode.table; chips = g.C.LineCode.CHIPS; even = g.met.C.LineCode.even; tells = g.met.C.LineCode.tells_bits } in
-    let second = room_left code _ (c.args.word / 4096) 12 c.args.out.now c.put_four-second.new.out c.put_four-second.ensures.levels c.requires in
-    let third = room_left code _ (c.args.word / 256) 8 c.put_four-second.new.out c.put_four-third.new.out c.put_four-third.ensures.levels second in
+    let second = room_left code _ _ 12 c.args.out.now c.put_four-second.new.out c.put_four-second.ensures.levels c.requires in
+    let third = room_left code _ _ 8 c.put_four-second.new.out c.put_four-third.new.out c.put_four-third.ensures.levels second in
     omega (arith, third)
 
 pub put_four-requires : goal.put_four-requires
 put_four-requires g c =
     let code : CodeTable = record { table = g.C.LineCode.table; chips = g.C.LineCode.CHIPS; even = g.met.C.LineCode.even; tells = g.met.C.LineCode.tells_bits } in
-    let second = room_left code _ (c.args.word / 4096) 12 c.args.out.now c.put_four-second.new.out c.put_four-second.ensures.levels c.requires in
-    let third = room_left code _ (c.args.word / 256) 8 c.put_four-second.new.out c.put_four-third.new.out c.put_four-third.ensures.levels second in
-    room_left code _ (c.args.word / 16) 4 c.put_four-third.new.out c.put_four-fourth.new.out c.put_four-fourth.ensures.levels third
+    let second = room_left code _ _ 12 c.args.out.now c.put_four-second.new.out c.put_four-second.ensures.levels c.requires in
+    let third = room_left code _ _ 8 c.put_four-second.new.out c.put_four-third.new.out c.put_four-third.ensures.levels second in
+    room_left code _ _ 4 c.put_four-third.new.out c.put_four-fourth.new.out c.put_four-fourth.ensures.levels third
 
 -- the context behind more bits
 behind : (code : CodeTable) (c : Context) (bits more : List Bool) (now next : Context) → now ≡ context_after code.table c bits → next ≡ context_after code.table now more
