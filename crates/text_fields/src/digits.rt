@@ -1,5 +1,5 @@
 //! Binary digits as fields.
-ghost use Rattle.std.specs.Prelude.{◌≡◌, ◌≢◌, ◌≤◌, ◌<◌, ℕ, ◌↔◌, ◌++◌, [], ◌∷◌, length, map, Bool, List, IsTrue, IfOk, IfSome, IsSomeAnd, OnOk};
+ghost use Rattle.std.specs.Prelude.{◌≡◌, ◌≢◌, ◌≤◌, ℕ, ◌↔◌, ◌++◌, [], ◌∷◌, length, map, Bool, List, IsTrue, IfOk, IfSome, IsSomeAnd, OnOk};
 ghost use Rattle.std.specs.List.{AllPass};
 ghost use Rattle.std.specs.String.{string_bytes};
 ghost use Rattle.text_fields.specs.Binary.{binary, binary_digit, hyphen, is_binary_digit, or_hyphen};
@@ -111,11 +111,8 @@ impl<'a> Digits<'a> {
     }
 }
 
-/// How many digits are written at once, as long as there are so many.
+/// How many digits are written at once.
 const TOGETHER: usize = 64;
-
-/// How many of the digits behind these are written at once: as many as a vector of any processor has.
-const FEW: usize = 16;
 
 /// Writes bits in binary digits, or a hyphen for none, at the end of the text. After an error the
 /// text may hold a part of them.
@@ -129,54 +126,34 @@ pub fn push_bits(text: &mut String, bits: &[bool]) -> Result<(), OutOfMemory>
     push_parts(text, bits)
 }
 
-/// Writes bits in binary digits at the end of the text.
+/// Writes bits in binary digits at the end of the text. It is a call of its own, so that a hyphen takes none.
 #[inline(never)]
 fn push_parts(text: &mut String, bits: &[bool]) -> Result<(), OutOfMemory>
     ensures { OnOk result (string_bytes text.new ≡ string_bytes text.old ++ map binary_digit bits.now) }
 {
-    let rest = push_whole_parts::<TOGETHER>(text, bits)?;
-    let rest = push_whole_parts::<FEW>(text, rest)?;
-    push_last(text, rest)
-}
-
-/// Writes bits in binary digits at the end of the text, `COUNT` at once, and gives those that are left.
-#[inline(always)]
-fn push_whole_parts<'a, const COUNT: usize>(
-    text: &mut String,
-    bits: &'a [bool],
-) -> Result<&'a [bool], OutOfMemory>
-    requires some { 0 < COUNT }
-    requires few { COUNT ≤ TOGETHER }
-    ensures text { IfOk result (λ rest. string_bytes text.new ++ map binary_digit rest.now ≡ string_bytes text.old ++ map binary_digit bits.now) }
-    ensures few { IfOk result (λ rest. length rest.now < COUNT) }
-{
     let mut rest = bits;
-    while let Some((part, behind)) = rest.split_first_chunk::<COUNT>() {
+    while let Some((part, behind)) = rest.split_first_chunk::<TOGETHER>() {
         push_whole_part(text, part)?;
         rest = behind;
     }
-    Ok(rest)
+    push_part(text, rest)
 }
 
-/// Writes `COUNT` bits in binary digits at the end of the text.
-#[inline(always)]
-fn push_whole_part<const COUNT: usize>(
-    text: &mut String,
-    bits: &[bool; COUNT],
-) -> Result<(), OutOfMemory>
+/// Writes [`TOGETHER`] bits in binary digits at the end of the text.
+fn push_whole_part(text: &mut String, bits: &[bool; TOGETHER]) -> Result<(), OutOfMemory>
     ensures { OnOk result (string_bytes text.new ≡ string_bytes text.old ++ map binary_digit bits.now) }
 {
-    let mut digits = [b'0'; COUNT];
+    let mut digits = [b'0'; TOGETHER];
     write_digits(bits, &mut digits);
     push_ascii(text, &digits)
 }
 
-/// Writes at most [`FEW`] bits in binary digits at the end of the text.
-fn push_last(text: &mut String, bits: &[bool]) -> Result<(), OutOfMemory>
-    requires { length bits.now ≤ FEW }
+/// Writes at most [`TOGETHER`] bits in binary digits at the end of the text.
+fn push_part(text: &mut String, bits: &[bool]) -> Result<(), OutOfMemory>
+    requires { length bits.now ≤ TOGETHER }
     ensures { OnOk result (string_bytes text.new ≡ string_bytes text.old ++ map binary_digit bits.now) }
 {
-    let mut room = [b'0'; FEW];
+    let mut room = [b'0'; TOGETHER];
     let digits = &mut room[..bits.len()];
     write_digits(bits, digits);
     push_ascii(text, digits)

@@ -3,4 +3,4 @@ use Rattle.text_fields.specs.laws.BinaryLaws.{IsAscii-digits}
 use Rattle.text_fields.proofs.digits.push_whole_part.Goals as goal
 
 pub push_ascii-requires : goal.push_ascii-requires
-push_ascii-requires g c = rw c.write_digits.ensures (IsAscii-digits c.args.bits.now)
+push_ascii-requires c = rw c.write_digits.ensures (IsAscii-digits c.args.bits.now)
