@@ -17,8 +17,8 @@ use std::sync::ledger::Ledger;
 use tag_body::Steps;
 
 impl AnyTag {
-    /// What the tag makes of a command. Most tags are moved by a QueryRep, so that is made here; what is made of each other command
-    /// stands in a call of its own, and none pays for the room that a Read takes for its words.
+    /// What the tag makes of a command. A QueryRep or a QueryAdjust comes in each slot, so these are made here; what is made of each
+    /// other command stands in a call of its own, and these two don't pay for the room that a Read takes for its words.
     #[inline(always)]
     fn take(self, command: &Command, out: &mut Bits) -> Heard
         requires room { reply_room ≤ out.old.capacity }
@@ -27,7 +27,10 @@ impl AnyTag {
         if let Command::QueryRep { session } = command {
             return self.query_rep(*session, out);
         }
-        // Bound first, so that what the call writes to memory has room of its own, and the answer to a QueryRep stays out of memory.
+        if let Command::QueryAdjust { session, updn } = command {
+            return self.query_adjust(*session, *updn, out);
+        }
+        // Bound first, so that what the call writes to memory has room of its own, and the answers to those two stay out of memory.
         let heard = self.take_any(command, out);
         heard
     }

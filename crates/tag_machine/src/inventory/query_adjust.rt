@@ -15,7 +15,7 @@ use tag_body::{Steps, adjusted};
 
 impl AnyTag {
     /// QueryAdjust, in each state.
-    #[inline(never)]
+    #[inline(always)]
     pub(crate) fn query_adjust(self, session: Session, updn: UpDn, out: &mut Bits) -> Heard
         requires room { reply_room ≤ out.old.capacity }
         ensures { GivesOutcome (query_adjust session updn (tag_value_of self).state (tag_value_of self).body) result out.old out.new }
