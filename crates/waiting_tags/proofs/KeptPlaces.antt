@@ -359,6 +359,18 @@ pub found_on : (k : Kept) (place : ℕ) (found : Option ℕ) → k.from ≤ plac
 found_on k place None least most none = λ number stands. none number ((k.kept.same number place least most).1 stands)
 found_on k place (Some number) least most is = (k.kept.same number place least most).0 is
 
+-- the tags below a number stand on other places
+abbrev pub NoneBelow : ℕ → List ℕ → ℕ → Type 0
+NoneBelow place places number = (other : ℕ) → other < number → get_or places other 0 ≢ place
+
+-- ... and so all do
+pub passed_all : (place : ℕ) (places : List ℕ) (number : ℕ) → NoneBelow place places number → length places ≤ number → IsTagOn (stands_of places) place None
+passed_all place places number before past other stands =
+    elim (cases_lt other number) [
+      | inl under ↦ absurd (before other under (stands_read places other place stands))
+      | inr beyond ↦ absurd (none_some place (sym (get_or_past (stands_of places) other None (omega (arith, length-stands places, past, beyond))) ∙ stands))
+    ]
+
 -- a place that is read
 pub place_small : (k : Kept) (number place : ℕ) → number < length k.places → place ≡ get_or k.places number place → place ≤ most_places
 place_small k number place within is = rw (is ∙ get_or_default_zero k.places number place within) (k.kept.inside number)

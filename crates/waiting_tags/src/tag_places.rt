@@ -1,7 +1,7 @@
 //! Where tags stand, with links between those of one place only once a tag there is asked for.
 ghost use Rattle.std.specs.Prelude.{◌≡◌, ◌⊎◌, ◌==◌, ◌≢◌, ◌+◌, ◌-◌, ◌%◌, ◌/◌, ◌<◌, ◌≤◌, ℕ, true, Some, None, length, replicate, slice_set, get_or, if◌then◌else◌, IfOk};
 ghost use Rattle.air_events.specs.TagNumbers.{most_tags};
-ghost use Rattle.waiting_tags.specs.KeptPlaces.{HasBelow, HasSame, IsKept, last_place, stand_of, stands_in};
+ghost use Rattle.waiting_tags.specs.KeptPlaces.{HasBelow, HasSame, IsKept, last_place, stand_of, stands_in, stands_of};
 ghost use Rattle.waiting_tags.specs.PlaceNumbers.{IsNear};
 ghost use Rattle.waiting_tags.specs.Waiting.{slot_place};
 ghost use Rattle.waiting_tags.specs.Wheel.{IsTagOn, most_places, place_of};
@@ -26,11 +26,14 @@ const NEAR: usize = 4;
 /// The most places that are linked without a step for each tag.
 const MOST_NEAR: usize = 1024;
 
+/// How many tags there may be that are looked through where one on a place is asked for: so few are sooner looked through than linked.
+const FEW_TAGS: usize = 4;
+
 /// Tags, each of which stands on one place or on none.
 ///
 /// Where all tags go to other places, only the places are written, and the links are left as they were. When a tag of a place is next asked
 /// for, the tags on this place and some behind it are linked, and all tags only when one is asked for that is further on. Often all tags
-/// go to other places before.
+/// go to other places before. Where there are few tags, their places are looked through instead.
 ///
 /// A contract sees for each tag the place where it stands, or none.
 #[derive(Drop)]
@@ -99,6 +102,9 @@ impl TagPlaces {
         ensures same { self.new ≡ self.old }
         ensures on { IsTagOn self.old place result }
     {
+        if self.places.len() <= FEW_TAGS {
+            return first_on(&self.places, place);
+        }
         self.linked = link(&self.places, &mut self.wheel, self.linked, place);
         self.wheel.tag_on(place)
     }
@@ -156,6 +162,20 @@ impl TagPlaces {
             self.wheel.take(number);
         }
     }
+}
+
+/// The first tag on a place that isn't the last; none exactly where no tag stands there.
+fn first_on(places: &PlaceNumbers, place: usize) -> Option<TagNumber>
+    requires few { length places.now ≤ most_tags }
+    requires place { place < last_place }
+    ensures { IsTagOn (stands_of places.now) place result }
+{
+    for at in 0..places.len() {
+        if places.place(at) == place {
+            return Some(TagNumber::from_index(at));
+        }
+    }
+    None
 }
 
 /// Lets tags of a wheel stand on their places, so that all tags of a place do, and answers of which places they do.
