@@ -1,5 +1,5 @@
 -- The words of symbols as lists of their digits.
-use Rattle.std.proofs.Common.{◌≡◌, ◌∙◌, ℕ, zero, suc, ◌+◌, ◌-◌, ◌*◌, ◌%◌, ◌^◌, ◌<◌, ◌≤◌, Bool, false, List, [], ◌∷◌, ◌++◌, length, ap, ap₂, sym, refl, arith, bit_and, length-append, subst}
+use Rattle.std.proofs.Common.{◌≡◌, ◌∙◌, ℕ, zero, suc, ◌+◌, ◌-◌, ◌*◌, ◌%◌, ◌^◌, ◌<◌, ◌≤◌, Bool, true, false, List, [], ◌∷◌, ◌++◌, length, ap, ap₂, sym, refl, arith, bit_and, length-append, subst}
 use Rattle.std.specs.Prelude.{bit_or, bit_xor}
 use Rattle.std.specs.Simd.Lanes.{zip2, mask_l}
 use Rattle.std.proofs.lemmas.Nat.{mod-pow-add, or_shifted, shl-shr, shr_high, mod_low}
@@ -109,3 +109,32 @@ faults_are m inside middles before shift phases changes bits small size shift_si
     ∙ ap (λ n. bit_and n (mask_l middles)) (same_op bit_xor differ xor_bits starts middles long_t long_m)
     ∙ same_op bit_and both and_bits wrong middles long_w long_m in
     ap₂ bit_or broken wrong_are ∙ same_op bit_or either or_bits (zip2 both steps inside) (zip2 both wrong middles) (long_zip both steps inside long_s long_i) (long_zip both wrong middles long_w long_m)
+
+none_in_both : (xs ys : List Bool) → length xs ≡ length ys → None (zip2 either xs ys) → None xs × None ys
+none_in_both [] [] long none = (tt, tt)
+none_in_both [] (y ∷ ys) long none = absurd (omega (arith, long))
+none_in_both (x ∷ xs) [] long none = absurd (omega (arith, long))
+none_in_both (x ∷ xs) (y ∷ ys) long none =
+    let first = neither x y none.0 in
+    let more = none_in_both xs ys (omega (arith, long)) none.1 in
+    ((first.0, more.0), (first.1, more.1))
+  where
+    neither : (x y : Bool) → either x y ≡ false → (x ≡ false) × (y ≡ false)
+    neither x true none = cc
+    neither x false none = (none, refl)
+
+-- without a fault, no level within a half and no symbol's start is wrong
+pub none_in_parts : (inside middles before shift phases changes bits : List Bool)
+    → length inside ≡ 64 → length middles ≡ 64 → length phases ≡ 64 → length changes ≡ 64 → length bits ≡ 64
+    → None (faults inside middles false before shift phases changes bits)
+    → None (zip2 both (zip2 differ phases (false ∷ phases)) inside)
+    × None (zip2 both (zip2 differ (zip2 differ (zip2 either bits (before ++ bits)) (shift ++ changes)) middles) middles)
+none_in_parts inside middles before shift phases changes bits long_i long_m long_p long_c long_b none =
+    let steps = zip2 differ phases (false ∷ phases) in
+    let broken = long_zip both steps inside (long_front differ phases (false ∷ []) phases long_p long_p) long_i in
+    let ones = zip2 either bits (before ++ bits) in
+    let starts = zip2 differ ones (shift ++ changes) in
+    let long_s = long_front differ ones shift changes (long_front either bits before bits long_b long_b) long_c in
+    let wrong = zip2 differ starts middles in
+    let long_w = long_zip both wrong middles (long_zip differ starts middles long_s long_m) long_m in
+    none_in_both (zip2 both steps inside) (zip2 both wrong middles) (broken ∙ sym long_w) none

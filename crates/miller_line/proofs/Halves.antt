@@ -1,15 +1,11 @@
 -- A symbol, by the phases of its halves.
-use Rattle.std.proofs.Common.{◌≡◌, ◌∙◌, ℕ, zero, suc, Bool, true, false, List, [], ◌++◌, ap, ap₂, refl}
+use Rattle.std.proofs.Common.{◌≡◌, ◌∙◌, ℕ, Bool, true, false, ap, ap₂, refl}
 use Rattle.line_code.specs.Table.{Context}
 use Rattle.miller_line.specs.Miller.{symbol, miller_block, miller_next, start_phase, middle_phase}
 use Rattle.miller_line.proofs.Bitwise.{differ, either}
 
 abbrev pub at : Bool → Bool → Context
 at before phase = record { before = before; phase = phase }
-
-abbrev pub repeated : ℕ → List Bool → List Bool
-repeated zero pattern = []
-repeated (suc n) pattern = pattern ++ repeated n pattern
 
 pub same_phase : (a b : Bool) → differ a b ≡ false → a ≡ b
 same_phase true true e = refl
@@ -23,7 +19,7 @@ pub record HasPhases (before phase start middle : Bool) : Type 0 where
   pub inverts : middle_phase start (differ middle start) ≡ middle
 
 -- where the phase inverts at the start exactly between two data-0, it is the phase of the symbol
-pub phases_are : (before phase start middle : Bool) → either false (differ (differ (either (differ middle start) before) (differ start phase)) true) ≡ false → HasPhases before phase start middle
+pub phases_are : (before phase start middle : Bool) → differ (differ (either (differ middle start) before) (differ start phase)) true ≡ false → HasPhases before phase start middle
 phases_are true true true true e = record { starts = refl; inverts = refl }
 phases_are true true true false e = record { starts = refl; inverts = refl }
 phases_are true true false true e = cc

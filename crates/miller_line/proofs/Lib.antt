@@ -1,10 +1,8 @@
 pub mod Bitwise
 pub mod Bytes
-pub mod EightCycles
 pub mod FaultLists
-pub mod FourCycles
 pub mod FourSymbols
 pub mod Halves
 pub mod Levels
-pub mod TwoCycles
+pub mod SymbolDigits
 pub mod WordsRead
