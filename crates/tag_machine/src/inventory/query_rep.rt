@@ -15,6 +15,7 @@ use tag_body::{Body, Slot, Steps};
 
 /// What a QueryRep of the tag's session does in arbitrate: the counter falls by one, and where it becomes 0
 /// the tag draws an RN16 and answers it.
+#[inline(always)]
 fn count_down(body: Body, session: Session, q: QValue, slot: Slot, out: &mut Bits) -> Heard
     requires room { reply_room ≤ out.old.capacity }
     ensures { GivesOutcome (count_down session q slot body) result out.old out.new }
