@@ -56,8 +56,8 @@ pub(crate) fn hear<A: AnswerTaker, L: Ledger>(
 }
 
 /// Lets a tag that is called hear a command, unless it misses it, and has its answer taken.
-// What is heard in its place isn't tried: it moves nearly each tag that is called.
-#[inline]
+// What is heard in its place isn't tried: it moves nearly each tag that is called. Both loops that need it have it in them.
+#[inline(always)]
 pub(crate) fn hear_when_called<A: AnswerTaker, L: Ledger>(
     seat: &mut Seat,
     number: TagNumber,

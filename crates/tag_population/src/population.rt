@@ -14,7 +14,7 @@ ghost use Rattle.waiting_tags.specs.TagSets.{IsSetOf};
 ghost use Rattle.waiting_tags.specs.Waiting.{participation_at, waits_in};
 
 use crate::answering::AnswerTaker;
-use crate::seats::Seats;
+use crate::seats::{FEW_TAGS, Seats};
 use air_events::TagNumber;
 use bit_strings::{Bits, OutOfMemory, Session};
 use command_grammar::{Command, UpDn};
@@ -26,9 +26,6 @@ use waiting_tags::{Participation, TagSet, Waiting, next_marked};
 
 /// How many bits of an answer there is room for: more than the 8,225 of the longest reply.
 const REPLY_ROOM: u32 = 8240;
-
-/// How many tags a population may have that hear each QueryAdjust one by one: what is drawn for all at once takes longer than what so few draw.
-const FEW_TAGS: usize = 4;
 
 /// Tags, numbered from 0, of which there are at most 4,096.
 ///
@@ -245,7 +242,7 @@ fn hear_at_rest<A: AnswerTaker, L: Ledger>(
     } else if let Command::QueryAdjust { session, updn } = command {
         if seats.len() <= FEW_TAGS {
             waiting.unlink();
-            hear_all(seats, waiting, command, entry, missed, room, answers, steps);
+            hear_few(seats, waiting, command, entry, missed, room, answers, steps);
         } else {
             adjust_waiting(seats, waiting, marks, *session, *updn, entry, steps);
             hear_called(seats, waiting, command, entry, missed, room, answers, steps);
@@ -400,7 +397,7 @@ fn call_due<L: Ledger>(
 
 /// Lets each tag hear a command, unless it misses it, in the order of their numbers. Each takes part afterwards as its state
 /// says.
-// Its loop over all tags stands apart, and what few of them need stands apart from it, so that the registers are its own.
+// Its loop over all tags stands apart, so that the registers are its own.
 #[inline(never)]
 fn hear_all<A: AnswerTaker, L: Ledger>(
     seats: &mut Seats,
@@ -420,22 +417,75 @@ fn hear_all<A: AnswerTaker, L: Ledger>(
     ensures replies { A.took answers.old (replies_from 0 (hearing_from 0 command.now entry.now (tags_of waiting.old seats.old))) answers.new }
     ensures room { reply_room ≤ room.new.capacity }
 {
+    hear_each(
+        seats, waiting, true, command, entry, missed, room, answers, steps,
+    );
+}
+
+/// Does so with a QueryAdjust where there are few tags.
+// Nearly each of so few tags that draw again answers, so what is heard in its place isn't tried.
+#[inline(never)]
+fn hear_few<A: AnswerTaker, L: Ledger>(
+    seats: &mut Seats,
+    waiting: &mut Waiting,
+    command: &Command,
+    entry: &Entry,
+    missed: &TagSet,
+    room: &mut Bits,
+    answers: &mut A,
+    steps: &mut Steps<L>,
+)
+    requires marks { IsSetOf missed.now entry.now.missed }
+    requires rest { AreAtRest waiting.old seats.old }
+    requires room { reply_room ≤ room.old.capacity }
+    requires begun { A.took answers.old [] answers.old }
+    ensures heard { HearsAtRest command.now entry.now waiting.old seats.old steps.old waiting.new seats.new steps.new }
+    ensures replies { A.took answers.old (replies_from 0 (hearing_from 0 command.now entry.now (tags_of waiting.old seats.old))) answers.new }
+    ensures room { reply_room ≤ room.new.capacity }
+{
+    hear_each(
+        seats, waiting, false, command, entry, missed, room, answers, steps,
+    );
+}
+
+/// Does so, where it is said whether most tags only wait.
+#[inline(always)]
+fn hear_each<A: AnswerTaker, L: Ledger>(
+    seats: &mut Seats,
+    waiting: &mut Waiting,
+    most_wait: bool,
+    command: &Command,
+    entry: &Entry,
+    missed: &TagSet,
+    room: &mut Bits,
+    answers: &mut A,
+    steps: &mut Steps<L>,
+)
+    requires marks { IsSetOf missed.now entry.now.missed }
+    requires rest { AreAtRest waiting.old seats.old }
+    requires room { reply_room ≤ room.old.capacity }
+    requires begun { A.took answers.old [] answers.old }
+    ensures heard { HearsAtRest command.now entry.now waiting.old seats.old steps.old waiting.new seats.new steps.new }
+    ensures replies { A.took answers.old (replies_from 0 (hearing_from 0 command.now entry.now (tags_of waiting.old seats.old))) answers.new }
+    ensures room { reply_room ≤ room.new.capacity }
+{
     for at in 0..seats.len() {
         let number = TagNumber::from_index(at);
         let misses = is_missed(number, entry, missed);
         hear_written_back(
-            seats, waiting, number, misses, command, room, answers, steps,
+            seats, waiting, number, misses, most_wait, command, room, answers, steps,
         );
     }
 }
 
 /// Lets a tag hear a command, unless it misses it, once its slot counter is written back. It takes part afterwards as its state says.
-#[inline(never)]
+#[inline(always)]
 fn hear_written_back<A: AnswerTaker, L: Ledger>(
     seats: &mut Seats,
     waiting: &mut Waiting,
     number: TagNumber,
     misses: bool,
+    most_wait: bool,
     command: &Command,
     room: &mut Bits,
     answers: &mut A,
@@ -453,7 +503,7 @@ fn hear_written_back<A: AnswerTaker, L: Ledger>(
     ensures room { reply_room ≤ room.new.capacity }
 {
     write_back(seats, waiting, number, steps);
-    let participation = seats.hear(number, misses, command, room, answers, steps);
+    let participation = seats.hear(number, misses, most_wait, command, room, answers, steps);
     waiting.put(number, participation);
 }
 

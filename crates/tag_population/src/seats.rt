@@ -27,6 +27,9 @@ use std::sync::ledger::Ledger;
 use tag_machine::{AnyTag, Event, Steps};
 use waiting_tags::{Drawings, Participation, Waiting};
 
+/// How many tags a population may have that hear each QueryAdjust one by one: what is drawn for all at once takes longer than what so few draw.
+pub(crate) const FEW_TAGS: usize = 4;
+
 /// The seats of a population.
 ///
 /// While a tag waits and hears QueryAdjusts, its Q and the place of its next draw are told beside it. They are written back into it before anything
@@ -128,8 +131,40 @@ impl Seats {
     }
 
     /// Lets a tag hear a command, unless it misses it, and has its answer taken. It answers how the tag takes part then.
+    /// Where most tags only wait, that is looked at first.
     #[inline(always)]
     pub(crate) fn hear<A: AnswerTaker, L: Ledger>(
+        &mut self,
+        number: TagNumber,
+        misses: bool,
+        most_wait: bool,
+        command: &Command,
+        room: &mut Bits,
+        answers: &mut A,
+        steps: &mut Steps<L>,
+    ) -> Option<Participation>
+        requires number { number < length self.old }
+        requires room { reply_room ≤ room.old.capacity }
+        requires few { TookFew A.took answers.old }
+        ensures room { reply_room ≤ room.new.capacity }
+        ensures took { (first : A) (replies : List Replied) → A.took first replies answers.old
+            → A.took first (replies ++ reply_of number (outcome_unless misses command.now (get_or self.old number no_tag)).answer) answers.new }
+        ensures tag { self.new ≡ slice_set self.old number (outcome_unless misses command.now (get_or self.old number no_tag)).tag }
+        ensures takes_part { result ≡ participation_in (outcome_unless misses command.now (get_or self.old number no_tag)).tag.state }
+        ensures can { IsLegalParticipation result }
+        ensures legal { AreLegalTags self.new }
+        ensures heard_legal { IsLegalTag (outcome_unless misses command.now (get_or self.old number no_tag)).tag }
+        ensures counted { steps.new ≤ steps.old + 1 }
+    {
+        if most_wait {
+            return self.hear_waiting(number, misses, command, room, answers, steps);
+        }
+        self.hear_when_called(number, misses, command, room, answers, steps)
+    }
+
+    /// Does so where most tags only wait.
+    #[inline(always)]
+    fn hear_waiting<A: AnswerTaker, L: Ledger>(
         &mut self,
         number: TagNumber,
         misses: bool,
@@ -158,7 +193,7 @@ impl Seats {
         seat.participation()
     }
 
-    /// Does so for a tag that is called.
+    /// Does so for a tag that is called, or is as likely to be moved.
     #[inline(always)]
     pub(crate) fn hear_when_called<A: AnswerTaker, L: Ledger>(
         &mut self,
@@ -179,6 +214,7 @@ impl Seats {
         ensures takes_part { result ≡ participation_in (outcome_unless misses command.now (get_or self.old number no_tag)).tag.state }
         ensures can { IsLegalParticipation result }
         ensures legal { AreLegalTags self.new }
+        ensures heard_legal { IsLegalTag (outcome_unless misses command.now (get_or self.old number no_tag)).tag }
         ensures counted { steps.new ≤ steps.old + 1 }
     {
         let at = number.index();
@@ -303,7 +339,7 @@ fn write_slot<L: Ledger>(
     }
 }
 
-/// Tells the Q and the place of the next draw of a tag in arbitrate beside it.
+/// Tells the Q and the place of the next draw of a tag in arbitrate beside it. Where there are few tags, they draw one by one, and nothing is told.
 #[inline(always)]
 fn tell(seats: &[Seat], drawings: &mut Drawings, at: usize)
     requires at { at < length seats.now }
@@ -312,6 +348,9 @@ fn tell(seats: &[Seat], drawings: &mut Drawings, at: usize)
     ensures are { AreSeats drawings.new seats.now }
     ensures same { tags_told 0 drawings.new seats.now ≡ tags_told 0 drawings.old seats.now }
 {
+    if seats.len() <= FEW_TAGS {
+        return;
+    }
     if let Some(drawn) = seats[at].drawn() {
         drawings.put(at, drawn);
     }

@@ -1,5 +1,5 @@
 use Rattle.std.proofs.Common.{sym, ap, subst, ◌∙◌, set, List}
-use Rattle.tag_machine.specs.TagValue.{TagValue}
+use Rattle.tag_machine.specs.TagValue.{TagValue, IsLegalTag}
 use Rattle.tag_population.proofs.ToldTags.{GivenBack, at_inside, inside_given, given_at, legal_given, then_are, then_inside, told_legal, told_set}
 use Rattle.std.proofs.Common.{◌++◌}
 use Rattle.tag_machine.specs.Exchange.{outcome_unless, reply_of}
@@ -79,3 +79,10 @@ pub returns-clause-legal : goal.returns-clause-legal
 returns-clause-legal g c =
     let b : GivenBack = back g (goal.at.returns-clause-legal g c).After-give_back in
     told_legal b c.hear_when_called.new.seat c.tell.new.drawings c.as_slice.result.now c.as_slice.ensures.value c.tell.ensures.same c.hear_when_called.ensures.legal
+
+pub returns-clause-heard_legal : goal.returns-clause-heard_legal
+returns-clause-heard_legal g c =
+    let b : GivenBack = back g (goal.at.returns-clause-heard_legal g c).After-give_back in
+    subst (λ (t : TagValue). IsLegalTag t)
+    (c.hear_when_called.ensures.tag ∙ ap (λ (t : TagValue). (outcome_unless c.args.misses c.args.command.now t).tag) (c.index_mut-seat.ensures.value ∙ given_at b c.index_mut-seat.result.now))
+    c.hear_when_called.ensures.legal

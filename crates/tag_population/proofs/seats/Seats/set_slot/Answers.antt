@@ -1,7 +1,5 @@
 use Rattle.std.proofs.Common.{sym, ◌∙◌}
 use Rattle.std.proofs.lemmas.List.{with_items_is}
-use Rattle.tag_machine.specs.Exchange.{AreLegalTags}
-use Rattle.tag_machine.specs.TagValue.{TagValue}
 use Rattle.tag_population.proofs.ToldTags.{at_inside}
 use Rattle.tag_population.proofs.SlottedTags.{Slotted, slotted_are, slotted_long, slotted_told}
 use Rattle.tag_population.proofs.seats.Seats.set_slot.Given.{Over}

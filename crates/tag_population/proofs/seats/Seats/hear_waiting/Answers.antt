@@ -5,9 +5,9 @@ use Rattle.std.proofs.Common.{◌++◌}
 use Rattle.tag_machine.specs.Exchange.{outcome_unless, reply_of}
 use Rattle.tag_population.proofs.WordsKept.{outcome_words}
 use Rattle.tag_population.specs.Seated.{participation_in}
-use Rattle.tag_population.proofs.seats.Seats.hear.Given.{Over}
-use Rattle.tag_population.proofs.seats.Seats.hear.Goals.{After-give_back}
-use Rattle.tag_population.proofs.seats.Seats.hear.Goals as goal
+use Rattle.tag_population.proofs.seats.Seats.hear_waiting.Given.{Over}
+use Rattle.tag_population.proofs.seats.Seats.hear_waiting.Goals.{After-give_back}
+use Rattle.tag_population.proofs.seats.Seats.hear_waiting.Goals as goal
 
 abbrev back : (g : Over) (c : After-give_back g) → GivenBack
 back g c = record {

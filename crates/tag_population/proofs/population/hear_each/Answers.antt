@@ -5,7 +5,7 @@ use Rattle.tag_population.proofs.TagsAtRest.{settled_none, settled_all, new_tags
 use Rattle.tag_machine.specs.Exchange.{Replied, is_missed, reply_of}
 use Rattle.tag_population.specs.Hearing.{hearing_from}
 use Rattle.tag_population.specs.Seated.{HearsSeated, outcome_seated, tags_of}
-use Rattle.tag_population.proofs.population.hear_all.Goals as goal
+use Rattle.tag_population.proofs.population.hear_each.Goals as goal
 
 pub loop-at-init : goal.loop-at-init
 loop-at-init g c = record {

@@ -3,7 +3,7 @@ use Rattle.reply_grammar.specs.Table.{reply_room}
 use Rattle.tag_population.proofs.HeardByEach.{HeardBelow, replied_below}
 use Rattle.tag_population.proofs.TagsAtRest.{SettledBelow}
 use Rattle.waiting_tags.specs.Waiting.{participation_at}
-use Rattle.tag_population.proofs.population.hear_all.Given as goal
+use Rattle.tag_population.proofs.population.hear_each.Given as goal
 
 abbrev pub invariant-loop-at : goal.invariant-loop-at
 invariant-loop-at g l = record {
