@@ -4,6 +4,7 @@ use Rattle.std.specs.List.{All}
 use Rattle.air_events.specs.declared.Entry.{Entry}
 use Rattle.air_events.specs.declared.Event.{Event}
 use Rattle.command_grammar.specs.declared.commands.Command.{Command}
+use Rattle.pie_line.specs.Link.{LinkValue}
 use Rattle.tag_machine.specs.Answers.{Outcome}
 use Rattle.tag_machine.specs.TagValue.{TagValue}
 use Rattle.tag_population.proofs.OneExchange.{one_exchange}
@@ -35,40 +36,46 @@ pub exchange_replies : (old : List TagValue) (command : Command) (entry : Entry)
     → replies_from 0 (hearing_from 0 is.heard entry is.befallen) ≡ replies_in command entry old
 exchange_replies old command entry is = ap (λ (l : List Outcome). replies_from 0 l) (outcomes_are old command entry is)
 
--- ... and what came of it for the air
+-- ... and what came of it for the air: its link, and the one by which the reply was encoded, are the link before
 pub record ChangedAir (old : AirValue) (command : Command) (entry : Entry) (outcomes : List Outcome) : Type 0 where
+  pub link : LinkValue
+  pub reply_link : LinkValue
   pub tags : List TagValue
   pub frame : List ℕ
   pub stream : List Bool
   pub kept : KeptReplies
   pub exchanges : ℕ
+  pub link_is : link ≡ old.link
+  pub reply_link_is : reply_link ≡ old.link
   pub heard_all : tags ≡ tags_after outcomes
   pub wave : frame ≡ wave_for old.link command
   pub stands : RepliesStandFor (replies_from 0 outcomes) kept
-  pub gives : (replies : List Replied) → RepliesStandFor replies kept → stream ≡ heard_levels old.link (given_of old.link replies entry.choice old.several)
+  pub gives : (replies : List Replied) → RepliesStandFor replies kept → stream ≡ heard_levels reply_link (given_of reply_link replies entry.choice old.several)
   pub counts : exchanges ≡ next_exchange old.exchanges
 
 -- the steps of an exchange make the air after it
 pub exchange_air : (old : AirValue) (command : Command) (entry : Entry) (is : Exchanged old.tags command entry) (new : ChangedAir old command entry (hearing_from 0 is.heard entry is.befallen))
     → (let air : AirValue =
-    record { link = old.link; several = old.several; tags = new.tags; frame = new.frame; stream = new.stream; replies = new.kept.count; exchanges = new.exchanges } in air)
+    record { link = new.link; several = old.several; tags = new.tags; frame = new.frame; stream = new.stream; replies = new.kept.count; exchanges = new.exchanges } in air)
     ≡ air_after old command entry
 exchange_air old command entry is new =
     let outcomes = outcomes_are old.tags command entry is in
     let tags_are : new.tags ≡ tags_after (outcomes_in command entry old.tags) = new.heard_all ∙ ap (λ (l : List Outcome). tags_after l) outcomes in
     let stream_is : new.stream ≡ heard_levels old.link (given_in old.link old.several command entry old.tags) =
     new.gives (replies_from 0 (hearing_from 0 is.heard entry is.befallen)) new.stands
+    ∙ ap (λ (link : LinkValue). heard_levels link (given_of link (replies_from 0 (hearing_from 0 is.heard entry is.befallen)) entry.choice old.several)) new.reply_link_is
     ∙ ap (λ (l : List Outcome). heard_levels old.link (given_of old.link (replies_from 0 l) entry.choice old.several)) outcomes in
     let count_is : new.kept.count ≡ length (replies_in command entry old.tags) = new.stands.count_is ∙ ap (λ (l : List Outcome). length (replies_from 0 l)) outcomes in
-    rw (tags_are, new.wave, stream_is, count_is, new.counts) refl
+    rw (new.link_is, tags_are, new.wave, stream_is, count_is, new.counts) refl
 
 -- whether anything comes is what the channel gives
-pub exchange_got : (old : AirValue) (command : Command) (entry : Entry) (is : Exchanged old.tags command entry) (kept : KeptReplies) (got : Got)
+pub exchange_got : (old : AirValue) (command : Command) (entry : Entry) (is : Exchanged old.tags command entry) (link : LinkValue) (kept : KeptReplies) (got : Got) → link ≡ old.link
     → RepliesStandFor (replies_from 0 (hearing_from 0 is.heard entry is.befallen)) kept
-    → ((replies : List Replied) → RepliesStandFor replies kept → got ≡ got_of (given_of old.link replies entry.choice old.several))
+    → ((replies : List Replied) → RepliesStandFor replies kept → got ≡ got_of (given_of link replies entry.choice old.several))
     → got ≡ got_of (given_in old.link old.several command entry old.tags)
-exchange_got old command entry is kept got stands gives =
+exchange_got old command entry is link kept got same stands gives =
     gives (replies_from 0 (hearing_from 0 is.heard entry is.befallen)) stands
+    ∙ ap (λ (l : LinkValue). got_of (given_of l (replies_from 0 (hearing_from 0 is.heard entry is.befallen)) entry.choice old.several)) same
     ∙ ap (λ (l : List Outcome). got_of (given_of old.link (replies_from 0 l) entry.choice old.several)) (outcomes_are old.tags command entry is)
 
 -- the numbers of steps: before the exchange, behind the events, and at its end

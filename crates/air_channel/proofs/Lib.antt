@@ -1,3 +1,4 @@
 pub mod RepliesKept
 pub mod GivenReplies
 pub mod ExchangeFacts
+pub mod SlotFrames

@@ -3,3 +3,5 @@ pub mod Kept
 pub mod Giving
 pub mod Rooms
 pub mod Lent
+pub mod Transmitting
+pub mod Receiving

@@ -1,5 +1,5 @@
 //! The air between one interrogator and a population of tags.
-ghost use Rattle.std.specs.Prelude.{◌≡◌, ◌+◌, ◌*◌, ◌<◌, ◌≤◌, List, [], ◌++◌, All, Some, length, slice_get, IfOk};
+ghost use Rattle.std.specs.Prelude.{◌≡◌, ◌+◌, ◌*◌, ◌<◌, ◌≤◌, List, [], ◌++◌, All, Ok, Some, length, slice_get, IfOk};
 ghost use Rattle.std.specs.Borrow.{sem};
 ghost use Rattle.air_events.specs.Streams.{longest_stream};
 ghost use Rattle.air_events.specs.TagNumbers.{most_tags};
@@ -9,16 +9,16 @@ ghost use Rattle.tag_machine.specs.Hearing.{tag_value_of};
 ghost use Rattle.tag_machine.specs.TagValue.{IsLegalTag};
 ghost use Rattle.tag_machine.specs.Exchange.{AreLegalTags, IsQueryRep, Replied, busy_from, replies_in};
 ghost use Rattle.air_channel.specs.Air.{NamesTags, air_after, air_after_event};
-ghost use Rattle.air_model.specs.Channel.{HasFewLevels, given_in, got_of};
+ghost use Rattle.air_model.specs.Channel.{HasFewLevels, given_in, got_of, wave_for};
 ghost use Rattle.air_channel.specs.Lent.{KeepsAir};
-ghost use Rattle.air_channel.specs.Rooms.{longest_frame};
+ghost use Rattle.air_channel.specs.Rooms.{longest_frame, room_for_frames};
 
 use crate::listening::{AnswerListener, tell};
 use crate::receiver::Receiver;
 use crate::replies::Replies;
-use crate::transmit::transmit;
+use crate::transmitter::Transmitter;
 use air_model::Got;
-use bit_strings::{Bits, Levels, OutOfMemory};
+use bit_strings::{Levels, OutOfMemory};
 use command_grammar::Command;
 use pie_line::{Intervals, Link};
 use std::alloc::Global;
@@ -27,8 +27,7 @@ use std::sync::ledger::{Blank, Ledger};
 use tag_machine::{AnyTag, Entry, Event, Several, Steps};
 use tag_population::Population;
 
-/// How many bits of a command there is room for, and how many intervals of its frame: more than the 4,162 and
-/// the 8,331 of the longest command.
+/// How many bits of a frame there is room for, no more than its intervals, of which the longest has 8,331.
 const FRAME_ROOM: u32 = 8400;
 
 /// How many levels there is room for: more than the 131,968 of the longest stream.
@@ -40,11 +39,9 @@ const STREAM_ROOM: u32 = 132_208;
 /// tags that replied, and the number of exchanges.
 #[derive(Drop)]
 pub struct Air {
-    link: Link,
+    transmitter: Transmitter,
     several: Several,
     population: Population,
-    bits: Bits,
-    frame: Intervals,
     receiver: Receiver,
     replies: Replies,
     stream: Levels,
@@ -53,14 +50,15 @@ pub struct Air {
 
 impl Model for Air {
     ghost use Rattle.air_channel.specs.Air.{AirValue};
-    ghost use Rattle.std.specs.Prelude.{◌≤◌};
-    ghost use Rattle.air_channel.specs.Rooms.{HasRoom, room_for_frames};
+    ghost use Rattle.std.specs.Prelude.{◌≤◌, length};
+    ghost use Rattle.air_events.specs.Streams.{longest_stream};
+    ghost use Rattle.air_channel.specs.Rooms.{room_for_frames, room_for_streams};
 
     ghost Value = { AirValue };
 
-    ghost view = { λ a. record { link = a.link; several = a.several; tags = a.population; frame = a.frame.items; stream = a.stream.items; replies = a.replies.count; exchanges = a.exchanges } };
+    ghost view = { λ a. record { link = a.transmitter.link; several = a.several; tags = a.population; frame = a.transmitter.frame; stream = a.stream.items; replies = a.replies.count; exchanges = a.exchanges } };
 
-    ghost invariant = { λ a. HasRoom a.bits a.frame a.stream × (room_for_frames ≤ a.receiver.bits.capacity) };
+    ghost invariant = { λ a. (room_for_frames ≤ a.receiver.room) × (room_for_streams ≤ a.stream.capacity) × (length a.stream.items ≤ longest_stream) };
 }
 
 impl Air {
@@ -74,17 +72,14 @@ impl Air {
     ) -> Result<Air, OutOfMemory>
         ensures { IfOk result (λ air. air ≡ record { link = link; several = several; tags = population; frame = []; stream = []; replies = 0; exchanges = 0 }) }
     {
-        let bits = Bits::new(alloc, FRAME_ROOM)?;
-        let frame = Intervals::new(alloc, FRAME_ROOM)?;
+        let transmitter = Transmitter::new(alloc, link)?;
         let receiver = Receiver::new(alloc, FRAME_ROOM)?;
         let replies = Replies::new(alloc)?;
         let stream = Levels::new(alloc, STREAM_ROOM)?;
         Ok(Air {
-            link,
+            transmitter,
             several,
             population,
-            bits,
-            frame,
             receiver,
             replies,
             stream,
@@ -114,13 +109,7 @@ impl Air {
         ensures command { IsLegalCommand command.now }
     {
         self.population.befall_all(entry.events.as_slice(), steps);
-        transmit(
-            &self.link,
-            command,
-            &mut self.bits,
-            &mut self.frame,
-            &mut self.receiver,
-        );
+        transmit(&mut self.transmitter, command, &mut self.receiver);
         self.replies.begin(&entry.choice);
         let heard = self.receiver.command();
         tell(
@@ -132,8 +121,12 @@ impl Air {
             steps,
         );
         self.exchanges = self.exchanges.saturating_add(1);
-        self.replies
-            .give(&entry.choice, self.several, &self.link, &mut self.stream)
+        self.replies.give(
+            &entry.choice,
+            self.several,
+            self.transmitter.link(),
+            &mut self.stream,
+        )
     }
 
     /// Lets an event befall the tag with this number.
@@ -162,7 +155,7 @@ impl Air {
     pub fn link(&self) -> &Link
         ensures { result.now ≡ self.now.link }
     {
-        &self.link
+        self.transmitter.link()
     }
 
     /// What the channel gives where several tags reply and nothing is chosen.
@@ -198,7 +191,7 @@ impl Air {
         ensures count { length self.now.frame ≤ longest_frame }
         ensures each { All (λ interval. interval ≤ longest_interval) self.now.frame }
     {
-        &self.frame
+        self.transmitter.frame()
     }
 
     /// The stream of the last exchange; none after silence, and before the first exchange.
@@ -229,4 +222,18 @@ impl Air {
     {
         self.exchanges
     }
+}
+
+/// Sends a command as a frame, from which the tags' receiver reads the command again.
+#[inline]
+fn transmit(transmitter: &mut Transmitter, command: &Command, receiver: &mut Receiver)
+    requires room { room_for_frames ≤ receiver.old.room }
+    ensures link { transmitter.new.link ≡ transmitter.old.link }
+    ensures wave { transmitter.new.frame ≡ wave_for transmitter.old.link command.now }
+    ensures legal { IsLegalCommand command.now }
+    ensures heard { receiver.new.heard ≡ Ok command.now }
+    ensures capacity { receiver.new.room ≡ receiver.old.room }
+{
+    transmitter.send(command);
+    receiver.read(transmitter.frame());
 }

@@ -5,7 +5,7 @@ mod air;
 mod listening;
 mod receiver;
 mod replies;
-mod transmit;
+mod transmitter;
 
 pub use air::Air;
 pub use air_model::Got;

@@ -1,4 +1,4 @@
-use Rattle.std.proofs.Common.{List, ◌++◌, length, sym, subst, ◌<◌}
+use Rattle.std.proofs.Common.{List, ◌++◌, ◌∙◌, length, sym, subst, ◌<◌}
 use Rattle.tag_machine.specs.Exchange.{Replied}
 use Rattle.std.specs.List.{All}
 use Rattle.air_channel.specs.Air.{AirValue}
@@ -9,14 +9,18 @@ pub returns-clause-air : goal.returns-clause-air
 returns-clause-air g c =
     let air = c.self.inside in
     let old : AirValue =
-    record { link = air.link; several = air.several; tags = air.population; frame = air.frame.items; stream = air.stream.items; replies = air.replies.count; exchanges = air.exchanges } in
+    record { link = air.transmitter.link; several = air.several; tags = air.population; frame = air.transmitter.frame; stream = air.stream.items; replies = air.replies.count; exchanges = air.exchanges } in
     let is : Exchanged air.population c.args.command.now c.args.entry.now =
     record { heard = c.command-heard.result.now; events = c.as_slice.result.now; befallen = c.befall_all.new.self; same = cc; events_are = c.as_slice.ensures.value; befell = c.befall_all.ensures.tags } in
     rw (← c.self.view_is)
     (exchange_air old c.args.command.now c.args.entry.now is
     (record {
+      link = c.transmit.new.transmitter.link;
+      reply_link = c.link.result.now;
+      link_is = c.transmit.ensures.link;
+      reply_link_is = c.link.ensures ∙ c.transmit.ensures.link;
       tags = c.tell.new.population;
-      frame = c.transmit.new.frame.items;
+      frame = c.transmit.new.transmitter.frame;
       stream = c.give.new.stream.items;
       kept = c.tell.new.replies;
       exchanges = c.saturating_add-self-inside.result;
@@ -33,8 +37,8 @@ returns-clause-got g c =
     let is : Exchanged c.self.inside.population c.args.command.now c.args.entry.now =
     record { heard = c.command-heard.result.now; events = c.as_slice.result.now; befallen = c.befall_all.new.self; same = cc; events_are = c.as_slice.ensures.value; befell = c.befall_all.ensures.tags } in
     rw (← c.self.view_is)
-    (exchange_got (record { link = air.link; several = air.several; tags = air.population; frame = air.frame.items; stream = air.stream.items; replies = air.replies.count; exchanges = air.exchanges })
-    c.args.command.now c.args.entry.now is c.tell.new.replies c.give.result c.tell.ensures.replies.stands c.give.ensures.got)
+    (exchange_got (record { link = air.transmitter.link; several = air.several; tags = air.population; frame = air.transmitter.frame; stream = air.stream.items; replies = air.replies.count; exchanges = air.exchanges })
+    c.args.command.now c.args.entry.now is c.link.result.now c.tell.new.replies c.give.result (c.link.ensures ∙ c.transmit.ensures.link) c.tell.ensures.replies.stands c.give.ensures.got)
 
 pub returns-clause-told : goal.returns-clause-told
 returns-clause-told g c = λ first before heard.
