@@ -24,7 +24,7 @@ take_stored room text filled count in_room in_text =
 none_ascii : IsAscii []
 none_ascii i = lit< tt
 
-field_ascii : (number : ℕ) → number < 2 ^ 32 → IsAscii (space ∷ decimal number)
+pub field_ascii : (number : ℕ) → number < 2 ^ 32 → IsAscii (space ∷ decimal number)
 field_ascii number fits zero = lit< tt
 field_ascii number fits (suc i) = IsAscii-decimal number (omega arith) i
 

@@ -5,102 +5,13 @@ ghost use Rattle.std.specs.Fmt.{decimal};
 ghost use Rattle.std.specs.Str.{IsAscii};
 ghost use Rattle.text_fields.specs.Lines.{fields_behind};
 
-use arrayvec::ArrayString;
+use crate::kept_frames::KeptFrames;
+use crate::kept_texts::{KeptText, LONGEST, VECTOR};
 use bit_strings::OutOfMemory;
-use itoa::Buffer;
-use std::simd::prelude::*;
 use text_fields::{push_ascii, push_next_numbers};
-
-/// How many bytes are stored for intervals, whatever the length of their text: as many as a vector has, which takes no call.
-const STORED: usize = 64;
-
-/// How many bytes the text of [`LEAD`] intervals has at most: each is a space and the digits of a number of 32 bits.
-const LONGEST: usize = 55;
 
 /// Room for texts that are put one behind another.
 const ROOM: usize = 512;
-
-/// Intervals, in nanoseconds, and their text as fields.
-#[derive(Drop)]
-struct KeptText<const COUNT: usize> {
-    intervals: [u32; COUNT],
-    /// Their text, and what fills it up.
-    text: [u8; STORED],
-    /// How long their text is.
-    length: usize,
-    ghost short: { length ≤ 55 },
-    ghost spelled: { take length text ≡ fields_behind (map decimal intervals) },
-}
-
-impl<const COUNT: usize> KeptText<COUNT> {
-    /// These intervals with their text.
-    fn new(intervals: &[u32; COUNT]) -> KeptText<COUNT>
-        requires { COUNT ≤ LEAD }
-        ensures { result.intervals ≡ intervals.now }
-    {
-        let mut digits = Buffer::new();
-        let mut spelled = ArrayString::<LONGEST>::new();
-        for interval in intervals {
-            spelled.push(' ');
-            spelled.push_str(digits.format(*interval));
-        }
-        let length = spelled.len();
-        let mut text = [b' '; STORED];
-        text[..length].copy_from_slice(spelled.as_bytes());
-        KeptText {
-            intervals: *intervals,
-            text,
-            length,
-        }
-    }
-
-    /// Whether these intervals are kept.
-    #[inline(always)]
-    fn is(&self, intervals: &[u32; COUNT]) -> bool
-        ensures { IsTrue result → self.now.intervals ≡ intervals.now }
-    {
-        // All intervals are looked at, so that no jump depends on one of them.
-        let mut same = true;
-        for at in 0..COUNT {
-            same &= self.intervals[at] == intervals[at];
-        }
-        same
-    }
-
-    /// Keeps these intervals, where they aren't kept.
-    #[inline(always)]
-    fn keep(&mut self, intervals: &[u32; COUNT])
-        requires { COUNT ≤ LEAD }
-        ensures { self.new.intervals ≡ intervals.now }
-    {
-        if !self.is(intervals) {
-            self.replace(intervals);
-        }
-    }
-
-    /// Keeps these intervals in place of those that were kept. It is a call of its own, so that the room of a new text is filled only here.
-    #[cold]
-    #[inline(never)]
-    fn replace(&mut self, intervals: &[u32; COUNT])
-        requires { COUNT ≤ LEAD }
-        ensures { self.new.intervals ≡ intervals.now }
-    {
-        *self = KeptText::new(intervals);
-    }
-
-    /// Puts the text behind what fills the room up to a place, and tells where the text ends. What stands behind that end may
-    /// change.
-    #[inline(always)]
-    fn put(&self, room: &mut [u8], filled: usize) -> usize
-        requires { filled + STORED ≤ length room.old }
-        ensures end { result ≤ filled + STORED }
-        ensures text { take result room.new ≡ take filled room.old ++ fields_behind (map decimal self.now.intervals) }
-        ensures length { length room.new ≡ length room.old }
-    {
-        u8x64::from_array(self.text).copy_to_slice(&mut room[filled..]);
-        filled + self.length
-    }
-}
 
 /// How many intervals a frame has before its bits, or before TRcal: the delimiter, and a high and a low each of data-0 and RTcal.
 const LEAD: usize = 5;
@@ -111,13 +22,27 @@ const TWO_BITS: usize = 4;
 /// How many pairs of bits there are.
 const PAIRS: usize = 4;
 
-/// The leads and the pairs of bits that were written, with their texts. The lines of frames have few others, and most of their text is
-/// copied.
+/// How many intervals the frame of a QueryRep has, and of each command of 4 bits.
+const OF_QUERY_REP: usize = LEAD + 2 * 4;
+
+/// How many bytes their text has at most.
+const QUERY_REP_ROOM: usize = LONGEST * OF_QUERY_REP;
+
+/// How many intervals the frame of a QueryAdjust has, and of each command of 9 bits.
+const OF_QUERY_ADJUST: usize = LEAD + 2 * 9;
+
+/// How many bytes their text has at most.
+const QUERY_ADJUST_ROOM: usize = LONGEST * OF_QUERY_ADJUST;
+
+/// The frames of slot commands, and the leads and the pairs of bits of other frames, that were written, with their texts. The lines of
+/// frames have few others, and most of their text is copied.
 #[derive(Drop)]
 pub struct KeptIntervals {
-    lead: KeptText<LEAD>,
+    query_reps: KeptFrames<OF_QUERY_REP, QUERY_REP_ROOM>,
+    query_adjusts: KeptFrames<OF_QUERY_ADJUST, QUERY_ADJUST_ROOM>,
+    lead: KeptText<LEAD, VECTOR>,
     /// The pairs of bits, each at a place of its own.
-    pairs: [KeptText<TWO_BITS>; PAIRS],
+    pairs: [KeptText<TWO_BITS, VECTOR>; PAIRS],
     /// Where texts are put one behind another.
     room: [u8; ROOM],
 }
@@ -125,21 +50,31 @@ pub struct KeptIntervals {
 impl KeptIntervals {
     /// Intervals before the first line.
     pub fn new() -> KeptIntervals {
-        let none = [0; TWO_BITS];
         KeptIntervals {
+            query_reps: KeptFrames::new(),
+            query_adjusts: KeptFrames::new(),
             lead: KeptText::new(&[0; LEAD]),
-            pairs: [
-                KeptText::new(&none),
-                KeptText::new(&none),
-                KeptText::new(&none),
-                KeptText::new(&none),
-            ],
+            pairs: [KeptText::new(&[0; TWO_BITS]); PAIRS],
             room: [b' '; ROOM],
         }
     }
 
     /// Writes intervals as the next fields, in decimal digits. After an error the text may hold a part of them.
     pub fn push_next(&mut self, text: &mut String, intervals: &[u32]) -> Result<(), OutOfMemory>
+        ensures { OnOk result (string_bytes text.new ≡ string_bytes text.old ++ fields_behind (map decimal intervals.now)) }
+    {
+        if let Ok(frame) = <&[u32; OF_QUERY_REP]>::try_from(intervals) {
+            return self.query_reps.push_next(text, frame);
+        }
+        if let Ok(frame) = <&[u32; OF_QUERY_ADJUST]>::try_from(intervals) {
+            return self.query_adjusts.push_next(text, frame);
+        }
+        self.push_parts(text, intervals)
+    }
+
+    /// Writes intervals as the next fields, a lead and the bits behind it two by two.
+    #[inline(never)]
+    fn push_parts(&mut self, text: &mut String, intervals: &[u32]) -> Result<(), OutOfMemory>
         ensures { OnOk result (string_bytes text.new ≡ string_bytes text.old ++ fields_behind (map decimal intervals.now)) }
     {
         let Some((lead, behind)) = intervals.split_first_chunk::<LEAD>() else {
@@ -151,7 +86,7 @@ impl KeptIntervals {
 
     /// Puts the text of a lead at the beginning of the room, and tells where it ends.
     fn put_lead(&mut self, lead: &[u32; LEAD]) -> usize
-        ensures end { result ≤ STORED }
+        ensures end { result ≤ VECTOR }
         ensures text { take result self.new.room ≡ fields_behind (map decimal lead.now) }
         ensures ascii { IsAscii (take result self.new.room) }
     {
@@ -185,8 +120,8 @@ impl KeptIntervals {
     /// Puts the text of two bits behind what fills the room up to a place, and tells where it ends.
     #[inline(always)]
     fn put_pair(&mut self, pair: &[u32; TWO_BITS], short: u32, filled: usize) -> usize
-        requires { filled + STORED ≤ ROOM }
-        ensures end { result ≤ filled + STORED }
+        requires { filled + VECTOR ≤ ROOM }
+        ensures end { result ≤ filled + VECTOR }
         ensures text { take result self.new.room ≡ take filled self.old.room ++ fields_behind (map decimal pair.now) }
         ensures ascii { IsAscii (take filled self.old.room) → IsAscii (take result self.new.room) }
     {
@@ -207,11 +142,11 @@ fn place_of(pair: &[u32; TWO_BITS], short: u32) -> usize
 fn make_place(text: &mut String, room: &[u8; ROOM], filled: usize) -> Result<usize, OutOfMemory>
     requires few { filled ≤ ROOM }
     requires ascii { IsAscii (take filled room.now) }
-    ensures place { IfOk result (λ left. left + STORED ≤ ROOM) }
+    ensures place { IfOk result (λ left. left + VECTOR ≤ ROOM) }
     ensures text { IfOk result (λ left. string_bytes text.new ++ take left room.now ≡ string_bytes text.old ++ take filled room.now) }
     ensures ascii { IfOk result (λ left. IsAscii (take left room.now)) }
 {
-    if filled + STORED <= ROOM {
+    if filled + VECTOR <= ROOM {
         return Ok(filled);
     }
     push_ascii(text, &room[..filled])?;

@@ -3,7 +3,9 @@
 #![tactic(auto)]
 
 mod frames;
+mod kept_frames;
 mod kept_intervals;
+mod kept_texts;
 mod laws;
 mod leading;
 mod numbers;

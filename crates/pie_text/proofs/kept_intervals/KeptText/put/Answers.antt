@@ -1,7 +1,7 @@
 -- The text is the front of what is stored.
 use Rattle.std.proofs.Common.{arith, rules}
 use Rattle.pie_text.proofs.PairTexts.{take_stored}
-use Rattle.pie_text.proofs.kept_intervals.KeptText.put.Goals as goal
+use Rattle.pie_text.proofs.kept_texts.KeptText+COUNT+VECTOR.put.Goals as goal
 
 pub returns-clause-text : goal.returns-clause-text
 returns-clause-text g c =
