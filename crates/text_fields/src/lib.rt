@@ -2,8 +2,8 @@
 //! binary digits, hexadecimal digits and the names of the line codes as fields.
 //!
 //! A text that is read is a slice of bytes, and nothing here copies it. A text that is written is a
-//! `String`; it, and a list of bits or words that is read into, are all that takes memory. The line of a fault and the text
-//! of a kept number have a room of their own.
+//! `String`; it, and a list of bits or words that is read into, are all that takes memory. The line of a fault has a room
+//! of its own.
 #![tactic(auto)]
 
 mod ascii;
@@ -15,7 +15,6 @@ mod fields;
 mod fields_fault;
 mod hex_bytes;
 mod hex_words;
-mod kept_number;
 mod laws;
 mod lines;
 mod more_fields;
@@ -35,7 +34,6 @@ pub use fields::Fields;
 pub use fields_fault::FieldsFault;
 pub use hex_bytes::HexBytes;
 pub use hex_words::{byte, push_byte_hex, push_hex_digit, push_word, push_words, word};
-pub use kept_number::KeptNumber;
 pub use laws::{
     bits_are_told_apart, fields_come_back, lines_come_back, numbers_are_told_apart,
     spellings_are_field_texts, word_lists_are_told_apart, words_are_told_apart,
