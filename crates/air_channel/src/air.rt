@@ -72,10 +72,10 @@ impl Air {
     ) -> Result<Air, OutOfMemory>
         ensures { IfOk result (λ air. air ≡ record { link = link; several = several; tags = population; frame = []; stream = []; replies = 0; exchanges = 0 }) }
     {
-        let transmitter = Transmitter::new(alloc, link)?;
         let receiver = Receiver::new(alloc, FRAME_ROOM)?;
         let replies = Replies::new(alloc)?;
         let stream = Levels::new(alloc, STREAM_ROOM)?;
+        let transmitter = Transmitter::new(alloc, link)?;
         Ok(Air {
             transmitter,
             several,
