@@ -1,4 +1,5 @@
-use Rattle.std.proofs.Common.{inr, rules}
+use Rattle.std.proofs.Common.{◌∙◌, Err, ap, inr, rules}
+use Rattle.std.proofs.lemmas.Result.{err_from_is_err_and}
 use Rattle.top_call.specs.words.Reported.{run_job}
 use Rattle.top_call.proofs.Ends.{write_failed}
 use Rattle.top_call.proofs.RunEnds.{play_failed}
@@ -8,7 +9,8 @@ pub returns-in_err-play-in-Ok : goal.returns-in_err-play-in-Ok
 returns-in_err-play-in-Ok g c =
     let read = c.in-Ok.ensures.ok in
     let cut = c.in_err-play-in-Ok.ensures in
-    play_failed c.args.mode _ (c.in-Ok.scenario, read.0, read.1) (record { written = _; written' = _; writes = _; writes' = _ }) c.in_err-play-in-Ok.field-0.0 _ (search rules)
+    let end = err_from_is_err_and c.from_residual-in_err-play-in-Ok.result c.from_residual-in_err-play-in-Ok.ensures.1 in
+    play_failed c.args.mode _ (c.in-Ok.scenario, read.0, read.1) (record { written = _; written' = _; writes = _; writes' = _ }) c.in_err-play-in-Ok.field-0.0 _ (end.1 ∙ ap Err end.2)
     (record { rose = cut.write; steady = cut.memory; part = cut.part })
 
 pub returns-in_err-write_all-in-Err-Line : goal.returns-in_err-write_all-in-Err-Line
