@@ -1,0 +1,11 @@
+pub mod Settling
+pub mod KindsOfSteps
+pub mod Guesses
+pub mod OneKind
+pub mod SuitedKinds
+pub mod OneExchange
+pub mod OneEntry
+pub mod Standing
+pub mod Wants
+pub mod Decided
+pub mod OneVerdict

@@ -1,0 +1,4 @@
+pub mod Log
+pub mod Explaining
+pub mod Verdicts
+pub mod laws
