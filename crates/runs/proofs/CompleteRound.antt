@@ -163,7 +163,7 @@ module _ (round : PlayedRound) (last : LastSlot) (history : List Item) (by : IsT
       → StandsAtEnd round.spec.session (tag_after_query (number_of round) history number tag) (by.listed number) (by.listed_now number) (tag_behind number tag last.now)
   at-end number tag numbered = end-stands (frame_behind round last.earlier) last.outcome (member_told round last history by number tag) (tag_behind number tag last.now) (by.tags number tag numbered)
 
-  at-quiet : last.end ≡ ends.Quiet → (number : ℕ) (tag : TagValue) → HasNumber round.start number tag
+  pub at-quiet : last.end ≡ ends.Quiet → (number : ℕ) (tag : TagValue) → HasNumber round.start number tag
       → StandsAtQuiet round.spec.session (tag_after_query (number_of round) history number tag) (by.listed number) (by.listed_now number) (tag_behind number tag last.now)
   at-quiet is number tag numbered =
       quiet-stands (frame_behind round last.earlier) last.outcome (member_told round last history by number tag) (tag_behind number tag last.now) (by.quiet is) (by.tags number tag numbered)
@@ -285,12 +285,12 @@ module _ (round : PlayedRound) (last : LastSlot) (history : List Item) (by : IsT
   )
 
 -- steps follow one another
-past_behind-append : (start : Start) (before after : List Step) (past : List Item)
+pub past_behind-append : (start : Start) (before after : List Step) (past : List Item)
     → past_behind start (before ++ after) past ≡ past_behind start after (past_behind start before past)
 past_behind-append start [] after past = refl
 past_behind-append start (step ∷ before) after past = past_behind-append start before after (past_behind_step start step past)
 
-legal-split : (before after : List Step) → AreLegalSteps (before ++ after) → AreLegalSteps before × AreLegalSteps after
+pub legal-split : (before after : List Step) → AreLegalSteps (before ++ after) → AreLegalSteps before × AreLegalSteps after
 legal-split [] after legal = (tt, legal)
 legal-split (step ∷ before) after legal = let rest = legal-split before after legal.1 in ((legal.0, rest.0), rest.1)
 
@@ -302,10 +302,12 @@ RoundsHaveFacts = (spec : SpecValue) (link : LinkValue) → IsLegalSpec spec →
 pub record IsTold (round : PlayedRound) (history : List Item) : Type 0 where
   pub last : LastSlot
   pub by : IsToldBy round last history
+  pub behind_is : past_behind_played round ≡ ended (number_of round) last.end (slots_to last) ∷ last.now
 
-told-behind : (round : PlayedRound) (later behind : List Item) → AreOfOthers (number_of round) later → AllRecords (IsFairIn round.start (number_of round)) (later ++ behind)
-    → IsOver round behind → IsTold round (later ++ behind)
-told-behind round later behind others unsaid over =
+told-behind : (round : PlayedRound) (later : List Item) → AreOfOthers (number_of round) later
+    → AllRecords (IsFairIn round.start (number_of round)) (later ++ past_behind_played round)
+    → IsOver round (past_behind_played round) → IsTold round (later ++ past_behind_played round)
+told-behind round later others unsaid over =
     let last = over.last in
     let whole = ended (number_of round) last.end (slots_to last) ∷ last.now in
     let unsaid_now : AllRecords (IsFairIn round.start (number_of round)) last.now =
@@ -314,6 +316,7 @@ told-behind round later behind others unsaid over =
     record {
       last = last;
       by = subst (λ (items : List Item). IsToldBy round last (later ++ items)) (sym over.is) (told round last later others (over.stands unsaid_now) over.quiet);
+      behind_is = over.is;
     }
 
 -- a round among the steps of a run
@@ -338,7 +341,7 @@ pub record IsFairRound (start : Start) (history : List Item) (round : ℕ) (oper
   pub apart : start.several ≡ severals.Capture → IsApart history round
 
 -- its number is that of the rounds before it and one
-number-among : RoundsKeepLimit → (among : RoundAmong) → AreLegalSteps (steps_around among) → number_of (played among) ≡ rounds_of among.before + 1
+pub number-among : RoundsKeepLimit → (among : RoundAmong) → AreLegalSteps (steps_around among) → number_of (played among) ≡ rounds_of among.before + 1
 number-among keeps among legal =
     let (legal_before, legal_after) = legal-split among.before (steps.Round among.spec among.operations ∷ among.after) legal in
     let first : Adds [] (past_behind among.start among.before []) (rounds_of among.before) = steps-add keeps among.start among.before [] legal_before in
@@ -375,11 +378,11 @@ history-told keeps facts among legal fair =
       apart = λ captures begins. (fair.apart captures).apart sent earlier recorded same begins;
     })) in
     subst (λ (items : List Item). IsTold round items) (sym here)
-    (told-behind round rest.own behind none_behind (subst (AllRecords (IsFairIn start number)) here each_fair)
+    (told-behind round rest.own none_behind (subst (AllRecords (IsFairIn start number)) here each_fair)
     (round-stands round keeps legal_after.0.legal (facts among.spec start.link legal_after.0.legal) fair.honest.no_operations none_before))
 
 -- ... also where the steps of the run are called by a name
-taken-told : RoundsKeepLimit → RoundsHaveFacts → (among : RoundAmong) (taken : List Step) → AreLegalSteps taken → taken ≡ steps_around among
+pub taken-told : RoundsKeepLimit → RoundsHaveFacts → (among : RoundAmong) (taken : List Step) → AreLegalSteps taken → taken ≡ steps_around among
     → IsFairRound among.start (history_of among.start taken) (rounds_of among.before + 1) among.operations → IsTold (played among) (history_of among.start taken)
 taken-told keeps facts among taken legal is fair =
     subst (λ (s : List Step). IsTold (played among) (history_of among.start s)) (sym is)

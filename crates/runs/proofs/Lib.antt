@@ -33,6 +33,8 @@ pub mod TagSteps
 pub mod TagQuery
 pub mod Totals
 pub mod CompleteRound
+pub mod SideBySide
+pub mod Recounting
 pub mod Keeping
 pub mod PlainRounds
 pub mod OneRound

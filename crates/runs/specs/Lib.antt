@@ -17,6 +17,7 @@ pub mod Honest
 pub mod EveryTag
 pub mod ListLines
 pub mod CompleteRounds
+pub mod Recounts
 pub mod RoundsTold
 pub mod Portals
 pub mod laws

@@ -26,6 +26,7 @@ ghost use Rattle.scenario.specs.declared.values.Step.{Step};
 ghost use Rattle.scenario.specs.declared.values.Step.TheVariants as steps;
 
 use crate::laws::{records_follow_from_the_past, scenario_steps_are_legal};
+use crate::recounts::recounts_list_every_tag;
 use q_round::{round_facts, round_laws};
 
 /// Complete inventory. In an honest round of a run no tag is listed twice, and only tags that the Query
@@ -122,11 +123,13 @@ pub fn rounds_go_by_replies()
 }
 
 /// What the honest rounds of the run of a scenario prove, in one: each counts its tags, and leaves them, as
-/// the three laws above say.
+/// the three laws above say; and rounds that count the same tags again make up for spoiled ones among them, as
+/// `recounts_list_every_tag` says.
 pub fn rounds_are_complete()
     ensures { (scenario : Scenario) → IsScenario scenario → RoundsAreComplete scenario }
 {
     complete_inventory();
     honest_rounds_count_tags();
     list_lines_are_of_listed_tags();
+    recounts_list_every_tag();
 }

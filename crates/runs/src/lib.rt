@@ -5,6 +5,7 @@
 
 mod inventory;
 mod laws;
+mod recounts;
 mod rounds;
 mod summary;
 
@@ -19,6 +20,7 @@ pub use laws::{
     histories_send_legal_commands, operations_are_told, records_follow_from_the_past,
     scenario_steps_are_legal, upgraded_scenarios_run_the_same,
 };
+pub use recounts::recounts_list_every_tag;
 pub use rounds::{
     portal_rounds_are_played, portals_are_independent, rounds_go_by_tags, rounds_list_their_tags,
 };
