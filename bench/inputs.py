@@ -207,7 +207,7 @@ def floating(rounds, rng):
 def portals(rounds, rng):
     """As many tags, and rounds of the sessions 2 and 3 in turn, in each of which every tag is listed."""
     text = [f"round all {2 + number % 2} {'ab'[number // 2 % 2]} 12 fixed 10000\n" for number in range(rounds)]
-    return many(0, rng).removesuffix(END) + "".join(text) + END
+    return many(0, rng)[: -len(END)] + "".join(text) + END
 
 
 def slots(rounds, rng):

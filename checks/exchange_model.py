@@ -89,7 +89,8 @@ def commands_of(program, exchanges):
     """Reads the command of each exchange in its intervals."""
     bits = [line.split(" ")[-1] for line in run(program, ["decode"], "".join(f"pie {' '.join(it.intervals)}\n" for it in exchanges))]
     lines = run(program, ["decode"], "".join(f"command {it}\n" for it in bits))
-    for exchange, line in zip(exchanges, lines, strict=True):
+    assert len(lines) == len(exchanges)
+    for exchange, line in zip(exchanges, lines):
         exchange.command = line
 
 

@@ -1,9 +1,26 @@
-# Read by gen2run and its checks: which words the program has, by the table of README.md, and which of them may have a file behind them.
-# checks/words compares what is told here with the program. `top` is the top of the repository.
+# shellcheck shell=bash disable=SC2034,SC2154
+# Read by gen2run, tools/ and the checks: which words the program has, by docs/help.txt, which of them may have a file behind them, and what
+# --help and --version print. checks/words compares what is told here with the program. `top` is the top of the repository.
 
-# Prints the table, a row a line: FORM | INPUT | OUTPUT. A word in capitals stands for a number.
+# Prints the table of words, a row a line: FORM | INPUT | OUTPUT. A word in capitals stands for a number, and the input is `nothing` where none
+# is read.
 table_of_words() {
-    sed -n '/^| words | standard input | standard output |$/,/^$/ { s/^| `\([^`]*\)` | \(.*\) | \(.*\) |$/\1 | \2 | \3/p }' "$top/README.md"
+    sed -nE '/^words +input -> output$/,/^$/ { s/^  ([^ ]+( [^ ]+)*) {2,}(.+) -> (.+)$/\1 | \3 | \4/p }' "$top/docs/help.txt"
+}
+
+# Prints what the program says under --help.
+help_text() {
+    cat "$top/docs/help.txt"
+}
+
+# Prints what the program of these sources says under --version: the proved one, or one that is built without a proof.
+version_text() {
+    if [ "$1" = proved ]; then cat "$top/docs/version.txt"; else sed 's/^proved with /unproved, built with /' "$top/docs/version.txt"; fi
+}
+
+# Prints the version of the program.
+version_number() {
+    sed -n '1s/^gen2run //p' "$top/docs/version.txt"
 }
 
 # Tells whether a word is one of those that a word of a form stands for.
@@ -18,6 +35,8 @@ fits_word() {
     esac
     [[ $2 =~ ^(0|[1-9][0-9]*)$ ]] || return 1
     [ ${#2} -lt ${#most} ] && return
+    # (of numbers with the same number of digits the order is that of texts, also beyond 64 bits)
+    # shellcheck disable=SC2071
     [ ${#2} -eq ${#most} ] && [[ ! $2 > $most ]]
 }
 
@@ -44,12 +63,12 @@ judge_words() {
         form=${row%% | *} input=${row#* | } input=${input%% | *}
         if fits_form "$form" "$@"; then
             meant=form
-        elif [ $# -gt 0 ] && [ "$input" != "nothing is read" ] && [[ ${*: -1} != -* && -n ${*: -1} ]] && fits_form "$form" "${@:1:$#-1}"; then
-            [ $meant = form ] || meant=file
+        elif [ $# -gt 0 ] && [ "$input" != nothing ] && [[ ${*: -1} != -* && -n ${*: -1} ]] && fits_form "$form" "${@:1:$#-1}"; then
+            [ $meant = form ] || meant="file"
         else
             continue
         fi
-        [ "$input" = "nothing is read" ] || has_input=yes
+        [ "$input" = nothing ] || has_input=yes
     done
     # A word that isn't UTF-8 can't be read; only one with other bytes than ASCII has can be such.
     [[ $meant != none || ! "$*" == *[$'\x80'-$'\xff']* ]] ||

@@ -6,6 +6,7 @@ import argparse
 import json
 import os
 import sys
+from typing import NoReturn
 from dataclasses import dataclass, field
 
 from awaited import awaited
@@ -209,8 +210,15 @@ def printed(exchanges: list[Exchange], strays: list[frames.Stray], form: str) ->
     return [text for _, text in sorted(lines, key=lambda it: it[0])]
 
 
+class Options(argparse.ArgumentParser):
+    """Arguments of which an error is one line."""
+
+    def error(self, message: str) -> NoReturn:
+        self.exit(2, f"{self.prog}: {message}; {self.prog} --help says more\n")
+
+
 def options() -> argparse.ArgumentParser:
-    parser = argparse.ArgumentParser(prog="explain_capture", description=HELP, epilog=AFTER, formatter_class=argparse.RawDescriptionHelpFormatter)
+    parser = Options(prog="explain_capture", description=HELP, epilog=AFTER, formatter_class=argparse.RawDescriptionHelpFormatter)
     parser.add_argument("program", metavar="PROGRAM")
     parser.add_argument("file", metavar="FILE")
     form = parser.add_mutually_exclusive_group()

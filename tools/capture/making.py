@@ -11,6 +11,7 @@ import json
 import os
 import subprocess
 import sys
+from typing import NoReturn
 import zipfile
 from dataclasses import dataclass, fields
 
@@ -208,8 +209,15 @@ FORMS = ["wav8", "wav16", "wav24", "wav32", "wavf", "wav16-iq", "wavf-iq", "u8",
 FORMS += [f"sigmf-{it}" for it in ("u8", "i16", "f32", "ci16", "cf32")] + ["csv", "vcd", "sr"]
 
 
+class Options(argparse.ArgumentParser):
+    """Arguments of which an error is one line."""
+
+    def error(self, message: str) -> NoReturn:
+        self.exit(2, f"{self.prog}: {message}; {self.prog} --help says more\n")
+
+
 def options() -> argparse.ArgumentParser:
-    parser = argparse.ArgumentParser(prog="make_recording", description=__doc__, formatter_class=argparse.RawDescriptionHelpFormatter)
+    parser = Options(prog="make_recording", description=__doc__, formatter_class=argparse.RawDescriptionHelpFormatter)
     parser.add_argument("program", metavar="PROGRAM", help="./gen2run, or the program itself")
     parser.add_argument("scenario", metavar="SCENARIO", help="the file with the scenario that is played")
     parser.add_argument("path", metavar="FILE", help="the recording")

@@ -51,7 +51,7 @@ impl OpRun {
     /// Puts what comes next in place of what came before. The list is the same each time. An answer is given
     /// exactly behind a command; a whole reply in it is one that the command expects. What comes next has room for
     /// the longest list of words, and is never copied.
-    pub fn next_to(&mut self, list: &OpList, answer: Option<&Answer>, next: &mut OpNext)
+    pub fn next(&mut self, list: &OpList, answer: Option<&Answer>, next: &mut OpNext)
         ensures next { (epc : List ℕ) (rn : ℕ) (moves : List Move) → OpRunStandsFor self.old list.now epc rn moves → option_copied answer.entry ≡ last_answer moves
             → IsNextOperation next.new self.new list.now epc rn moves }
         ensures turns { turns_left list.now self.new + turns_in next.new ≤ turns_left list.now self.old }

@@ -13,9 +13,12 @@ pub mod RxLines
 pub mod Behind
 pub mod Exchanges
 pub mod Following
-pub mod GivenAnswers
+pub mod OneExchange
+pub mod HeardAnswers
 pub mod Positions
 pub mod ReadLines
 pub mod Received
 pub mod SentFrames
 pub mod Walks
+pub mod ReceivedLists
+pub mod SomeVerdict

@@ -18,7 +18,7 @@ use Rattle.tag_machine.specs.Exchange.{Replied}
 use Rattle.air_model.specs.Channel.{Given, IsOfStreamLength, whole_or_silence, first_broken, default_given, given_of, got_of, heard_levels, silence, whole, broken, raw}
 use Rattle.air_model.specs.Past.{Start, Record, Item, next_entry, next_record, tags_behind}
 use Rattle.air_model.specs.Reception.{IsGivenFor, reception_of}
-use Rattle.air_model.specs.declared.got.Got.TheVariants.{Stream}
+use Rattle.air_model.specs.declared.got.Got.TheVariants.{Silence}
 use Rattle.air_model.specs.laws.ReceptionLaws.{stream_reception}
 use Rattle.runs.proofs.Answering.{TagLaws, given-in-expected}
 use Rattle.runs.proofs.MadeRecords.{made-read}
@@ -54,11 +54,11 @@ made-length start past sent auditor is =
     subst (λ (g : Given). IsOfStreamLength g) (sym (ap (λ (r : Record). r.given) is.made))
     (given-length start.link _ _ start.several (is.keeps.given.streams _))
 
-some-stream : (link : LinkValue) (given : Given) → heard_levels link given ≢ [] → got_of given ≡ Stream
-some-stream link silence some = absurd (some refl)
-some-stream link (whole replied) some = refl
-some-stream link (broken replied place) some = refl
-some-stream link (raw code trext levels) some = refl
+some-stream : (link : LinkValue) (given : Given) → heard_levels link given ≢ [] → got_of link given ≢ Silence
+some-stream link silence some got = some refl
+some-stream link (whole replied) some got = cc
+some-stream link (broken replied place) some got = cc
+some-stream link (raw code trext levels) some got = cc
 
 -- what a reception lists
 lists-from : (sent : Record) (reception : Reception) → listed_by sent ≡ listed_from sent reception → Lists (pair_received reception) sent
@@ -67,7 +67,7 @@ lists-from sent (whole_reply (replies.Epc pc epc)) same = same
 lists-from sent (whole_reply reply) same = same
 lists-from sent no_such_reply same = same
 
-made-again : (start : Start) (past : List Item) (sent : Record) → sent ≡ record_of start past sent.command → sent ≡ next_record start sent.round sent.slot sent.command past
+pub made-again : (start : Start) (past : List Item) (sent : Record) → sent ≡ record_of start past sent.command → sent ≡ next_record start sent.round sent.slot sent.command past
 made-again start past sent made =
     let round : sent.round ≡ (place_of_command (place_in past) sent.command).round = ap (λ (r : Record). r.round) made in
     let slot : sent.slot ≡ (place_of_command (place_in past) sent.command).slot = ap (λ (r : Record). r.slot) made in

@@ -41,7 +41,7 @@ told-word told None = inr (line-word DoneLine (codes "done") _ refl (word-text 1
 told-word told (Some tag) = inl (line-word (TagLine told tag) (codes "tag") _ refl (word-text 116 (codes "ag") refl))
 
 -- two words have different bytes at a place
-differ : (one other : List ℕ) (place : ℕ) → get_or one place 0 ≢ get_or other place 0 → one ≢ other
+pub differ : (one other : List ℕ) (place : ℕ) → get_or one place 0 ≢ get_or other place 0 → one ≢ other
 differ one other place unequal same = unequal (ap (λ (bytes : List ℕ). get_or bytes place 0) same)
 
 -- a word that no line of an operation, of a round, of a count or of a tag begins with, nor the last line

@@ -1,5 +1,5 @@
 -- Profile: an audit that is under way. A contract says of each part of it how the trace goes on with a line, or why it doesn't.
-use Rattle.std.specs.Prelude.{◌≡◌, ◌≢◌, ℕ, ◌+◌, ◌<◌, ◌≤◌, List, [], ◌∷◌, All, length, Option, Some, None, Result, Ok, Err}
+use Rattle.std.specs.Prelude.{◌≡◌, ◌≢◌, ℕ, ◌+◌, ◌<◌, ◌≤◌, Bool, List, [], ◌∷◌, All, length, Option, Some, None, Result, Ok, Err}
 use Rattle.air_events.specs.Cursor.{IsLeft}
 use Rattle.air_events.specs.Entries.{Rises, entry_at}
 use Rattle.air_events.specs.Streams.{HasStreamLength}
@@ -18,7 +18,6 @@ use Rattle.air_model.specs.Past.{Start, Record, Item, exchanged, exchanges_in, t
 use Rattle.report_lines.specs.ReportLine.{ReportLine, report_line_text}
 use Rattle.runs.specs.Listing.{Listed, listed_by}
 use Rattle.runs.specs.Report.{list_line}
-use Rattle.air_audit.specs.Giving.{AnswersValue}
 use Rattle.air_audit.specs.LineRefusals.{IsRefusedHere}
 use Rattle.air_audit.specs.Standing.{Standing, begun, between, sending, listing, telling, ended, GoesOn, place_in, record_of, told_line}
 use Rattle.report_lines.specs.ReadLines.{text_of}
@@ -41,6 +40,12 @@ pub record AreAsGiven (tags : ℕ) (entries : List (ℕ × Entry)) : Type 0 wher
   pub events : (exchange : ℕ) → All (λ event. event.1 < tags) (entry_at entries exchange).events
   pub missed : (exchange : ℕ) → All (λ tag. tag < tags) (entry_at entries exchange).missed
   pub streams : (exchange : ℕ) → GivesStream (entry_at entries exchange).choice
+
+-- what was answered to the last command: over which link, how many tags did, and the levels that the channel gives of it
+pub record AnswersValue : Type 0 where
+  pub link : LinkValue
+  pub count : ℕ
+  pub levels : List Bool
 
 -- What a contract sees of an audit: what the channel gives of several replies, the tags as they are, what is said of later
 -- exchanges, where the trace stands, how many exchanges there were, the round and the slot of the last one, its command, what was

@@ -7,7 +7,7 @@ pub mod OwnTraces
 pub mod Sent
 pub mod FirstWords
 pub mod Rooms
-pub mod Giving
 pub mod Auditing
 pub mod TraceBehind
 pub mod VerdictText
+pub mod ReceivedLists

@@ -1,6 +1,18 @@
--- The room of the buffers of an auditor.
-use Rattle.std.specs.Prelude.{ℕ}
+-- What an auditor hears, and the room of its buffers.
+use Rattle.std.specs.Prelude.{ℕ, ◌≤◌, Bool, List, length}
+use Rattle.pie_line.specs.Link.{LinkValue}
+use Rattle.reply_grammar.specs.Table.{longest_reply}
+use Rattle.tag_population.specs.Answers.{AnswerValue}
 
 -- the room for the stream of each reply, in levels
 abbrev pub room_for_streams : ℕ
 room_for_streams = 132208
+
+-- an answer that has no more bits than the longest reply
+abbrev pub IsShort : AnswerValue → Type 0
+IsShort answer = length answer.bits ≤ longest_reply
+
+-- the link, and the levels that are heard over it
+pub record HeardValue : Type 0 where
+  pub link : LinkValue
+  pub levels : List Bool

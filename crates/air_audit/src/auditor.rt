@@ -15,8 +15,8 @@ ghost use Rattle.air_audit.specs.Standing.{Standing, begun, between, listing, se
 ghost use Rattle.report_lines.specs.ReadLines.{first_field};
 
 use crate::AuditReason;
-use crate::answers::{Answers, STREAM_ROOM};
 use crate::first_words::{Word, word_of_line};
+use crate::heard_levels::{HeardLevels, STREAM_ROOM};
 use crate::rounds::place_of_command;
 use crate::rx_line::compare_rx_line;
 use crate::sent_frame::SentFrame;
@@ -26,14 +26,14 @@ use air_events::EntryCursor;
 use bit_strings::{Bits, OutOfMemory};
 use command_grammar::Command;
 use pie_line::Link;
-use reply_grammar::{EpcWords, Expect, Received};
-use reply_wire::receive_epc;
+use reply_grammar::{EpcWords, Expect, Received, Reply};
+use reply_wire::receive;
 use report_lines::{push_blf_line, push_done_line, push_list_line, push_tag_line};
 use std::alloc::Global;
 use std::marker::Model;
 use std::sync::ledger::Ledger;
 use tag_machine::{Several, Steps, answers_are_replies, steps_keep_tags_legal};
-use tag_population::Population;
+use tag_population::{Answers, Population};
 
 /// Where a trace stands.
 #[derive(Clone, Copy, Debug, PartialEq, Eq)]
@@ -65,25 +65,28 @@ pub(crate) struct Auditor<'a, L: Ledger> {
     slot: u32,
     /// The frame of the last tx line.
     frame: SentFrame,
-    /// What the tags answered it.
+    /// What the tags answered it, and what the channel gives of that.
     answers: Answers,
+    heard: HeardLevels,
     /// Room for the levels of a line, and for the bits of a reply.
     room: Bits,
+    /// Room for a reply.
+    received: Received,
     /// The line that has to come, where one is written.
     text: String,
 }
 
 impl<'a, L: Ledger> Model for Auditor<'a, L> {
-    ghost use Rattle.std.specs.Prelude.{◌≤◌};
+    ghost use Rattle.std.specs.Prelude.{◌≤◌, length};
     ghost use Rattle.std.specs.String.{string_bytes};
     ghost use Rattle.air_audit.specs.Auditing.{AuditorValue};
     ghost use Rattle.air_audit.specs.Rooms.{room_for_streams};
 
     ghost Value = { AuditorValue };
 
-    ghost view = { λ a. record { several = a.several; tags = a.population; entries = a.entries; position = a.position; exchanges = a.exchanges; round = a.round; slot = a.slot; sent = a.frame; answers = a.answers; text = string_bytes a.text } };
+    ghost view = { λ a. record { several = a.several; tags = a.population; entries = a.entries; position = a.position; exchanges = a.exchanges; round = a.round; slot = a.slot; sent = a.frame; answers = record { link = a.heard.link; count = length a.answers.items; levels = a.heard.levels }; text = string_bytes a.text } };
 
-    ghost invariant = { λ a. room_for_streams ≤ a.room.capacity };
+    ghost invariant = { λ a. (room_for_streams ≤ a.room.capacity) × (length a.population ≤ a.answers.tags) };
 }
 
 impl<'a, L: Ledger> Auditor<'a, L> {
@@ -99,7 +102,8 @@ impl<'a, L: Ledger> Auditor<'a, L> {
         ensures { IfOk result (λ auditor. IsBegun link several population entries.entry auditor) }
     {
         let frame = SentFrame::new(alloc)?;
-        let answers = Answers::new(alloc, link)?;
+        let answers = Answers::new(alloc, population.len() as usize)?;
+        let heard = HeardLevels::new(alloc, link)?;
         let room = Bits::new(alloc, STREAM_ROOM)?;
         Ok(Auditor {
             several,
@@ -112,7 +116,9 @@ impl<'a, L: Ledger> Auditor<'a, L> {
             slot: 0,
             frame,
             answers,
+            heard,
             room,
+            received: Received::Refused(0),
             text: String::new(alloc),
         })
     }
@@ -150,7 +156,7 @@ impl<'a, L: Ledger> Auditor<'a, L> {
         ensures follows { (start : Start) → KeepsUp start [] self.old → GoesOnOrStops result start begun line.now self.new }
         ensures early { (most : ℕ) → IsEarly most self.old → IsEarly (most + 1) self.new }
     {
-        let (numerator, denominator) = self.answers.link().blf();
+        let (numerator, denominator) = self.heard.link().blf();
         self.text.clear();
         push_blf_line(&mut self.text, numerator, denominator)?;
         if !is_text(line, self.text.as_str()) {
@@ -196,9 +202,9 @@ impl<'a, L: Ledger> Auditor<'a, L> {
         let (round, slot) = place_of_command(self.round, self.slot, command);
         self.population
             .befall_all(entry.events.as_slice(), &mut self.steps);
-        self.answers.begin(&entry.choice, self.several);
         self.population
             .hear(command, entry, &mut self.answers, &mut self.steps);
+        self.heard.hear(&self.answers, &entry.choice, self.several);
         self.exchanges = exchange;
         self.round = round;
         self.slot = slot;
@@ -232,8 +238,8 @@ impl<'a, L: Ledger> Auditor<'a, L> {
         if let Err(reason) = compare_rx_line(
             line,
             self.exchanges,
-            self.answers.count(),
-            self.answers.levels(),
+            self.answers.len(),
+            self.heard.levels(),
             &mut self.room,
         ) {
             return Err(Stop::Refused(reason));
@@ -256,7 +262,7 @@ impl<'a, L: Ledger> Auditor<'a, L> {
         // By these laws what is received of a stream is what the channel gives.
         answers_are_replies();
         steps_keep_tags_legal();
-        if !self.frame.is_ack() || self.answers.levels().is_empty() {
+        if !self.frame.is_ack() || self.heard.levels().is_empty() {
             return None;
         }
         self.hear_epc()
@@ -267,13 +273,16 @@ impl<'a, L: Ledger> Auditor<'a, L> {
         ensures same { self.new ≡ self.old }
         ensures received { (received : Received) × IsReceived (table_of self.old.answers.link.code) self.old.answers.link.trext Expect.Epc self.old.answers.levels received × (result ≡ pair_received (reception_from received)) }
     {
-        let link = self.answers.link();
-        receive_epc(
-            self.answers.levels(),
+        let link = self.heard.link();
+        receive(
+            self.heard.levels(),
             link.code(),
             link.trext(),
+            &Expect::Epc,
             &mut self.room,
-        )
+            &mut self.received,
+        );
+        pair_of(&self.received)
     }
 
     /// Goes on with a line behind an exchange that lists an EPC: its list line has to follow.
@@ -326,6 +335,16 @@ impl<'a, L: Ledger> Auditor<'a, L> {
         }
         push_tag(&mut self.text, told, &mut self.population, &mut self.steps)?;
         Ok(Position::Telling(told + 1))
+    }
+}
+
+/// The PC and the EPC, where they were received whole.
+fn pair_of(received: &Received) -> Option<(u16, EpcWords)>
+    ensures { result ≡ pair_received (reception_from received.now) }
+{
+    match received {
+        Received::Whole(Reply::Epc { pc, epc }) => Some((*pc, EpcWords::of(epc.as_slice()))),
+        _ => None,
     }
 }
 

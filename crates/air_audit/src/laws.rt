@@ -6,18 +6,22 @@ ghost use Rattle.runs.specs.Report.{report_text_of};
 ghost use Rattle.runs.specs.ScenarioStart.{start_of};
 ghost use Rattle.scenario.specs.Limits.{IsScenario};
 ghost use Rattle.scenario.specs.declared.values.Scenario.{Scenario};
+ghost use Rattle.tag_machine.specs.Exchange.{AreLegalTags};
 ghost use Rattle.air_audit.specs.AuditedTrace.{IsAudited};
 ghost use Rattle.air_audit.specs.FirstRefusal.{IsVerdict, IsFirstRefusal, IsFirstThatBeginsNone};
 ghost use Rattle.air_audit.specs.OwnTraces.{HasNoEventStep};
+ghost use Rattle.air_audit.specs.ReceivedLists.{ListsWhatIsReceived};
 ghost use Rattle.air_audit.specs.declared.verdict.AuditReason.{AuditReason};
 ghost use Rattle.air_audit.specs.declared.verdict.Verdict.{Verdict};
 
 use command_grammar::spelling_laws;
 use pie_line::{one_answer, written_frame};
+use pie_text::numbers_or_refused;
 use runs::{
     exchanges_are_few, histories_grow_by_the_next_item, histories_send_legal_commands,
     records_follow_from_the_past, scenario_steps_are_legal,
 };
+use tag_machine::{answers_are_replies, steps_keep_tags_legal};
 
 /// No two verdicts on a trace are right: one that is audited has no refused line, and one that isn't has one first refused line,
 /// which is refused for one first reason.
@@ -25,6 +29,15 @@ pub fn traces_have_at_most_one_verdict()
     ensures { (start : Start) (bytes : List ℕ) (one other : Verdict) →
         IsVerdict start bytes one → IsVerdict start bytes other → one ≡ other }
 {
+    one_answer();
+    spelling_laws();
+}
+
+/// Each list of bytes has a verdict by each start: it is audited, or has a first refused line.
+pub fn traces_have_a_verdict()
+    ensures { (start : Start) (bytes : List ℕ) → (verdict : Verdict) × IsVerdict start bytes verdict }
+{
+    numbers_or_refused();
     one_answer();
     spelling_laws();
 }
@@ -37,6 +50,16 @@ pub fn refused_lines_end_the_beginnings()
 {
     one_answer();
     spelling_laws();
+}
+
+/// Each list line of an audited trace stands behind the lines of an exchange that sent an ACK, and says the PC and the EPC that are
+/// received of the levels which came.
+pub fn list_lines_are_received()
+    ensures { (start : Start) (bytes : List ℕ) → AreLegalTags start.tags → IsAudited start bytes →
+        ListsWhatIsReceived start.link bytes }
+{
+    answers_are_replies();
+    steps_keep_tags_legal();
 }
 
 /// The trace of each scenario without an event step is audited.

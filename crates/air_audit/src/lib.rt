@@ -1,11 +1,10 @@
 //! Audit of traces: whether a trace is what the standard's tags and the channel make of the commands in it.
 #![tactic(auto)]
 
-mod answers;
 mod auditor;
-mod chosen;
 mod fields;
 mod first_words;
+mod heard_levels;
 mod laws;
 mod rounds;
 mod rx_line;
@@ -18,7 +17,8 @@ mod verdict;
 mod verdict_lines;
 
 pub use laws::{
-    own_traces_are_audited, refused_lines_end_the_beginnings, traces_have_at_most_one_verdict,
+    list_lines_are_received, own_traces_are_audited, refused_lines_end_the_beginnings,
+    traces_have_a_verdict, traces_have_at_most_one_verdict,
 };
 pub use trace_behind::{has_event_step, split_scenario};
 pub use traces::audit;

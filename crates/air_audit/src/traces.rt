@@ -4,9 +4,12 @@ ghost use Rattle.tag_machine.specs.Hearing.{tag_value_of};
 ghost use Rattle.air_model.specs.Past.{Start};
 ghost use Rattle.air_audit.specs.Auditing.{AreAsGiven, IsEarly, StandsAt};
 ghost use Rattle.air_audit.specs.FirstRefusal.{IsVerdict};
+ghost use Rattle.air_audit.specs.ReceivedLists.{ListsWhatIsReceived};
+ghost use Rattle.air_audit.specs.declared.verdict.Verdict.TheVariants.{Yes};
 ghost use Rattle.air_audit.specs.Standing.{begun};
 
 use crate::auditor::Auditor;
+use crate::laws::list_lines_are_received;
 use crate::stop::Stop;
 use crate::{AuditReason, Verdict};
 use air_events::{Entry, EntryCursor, MOST_TAGS, empty_entry};
@@ -37,6 +40,7 @@ pub fn audit(
     requires given { AreAsGiven (vec_len tags) entries }
     requires trace { length trace.now ≤ 2 ^ 24 }
     ensures exact { IfOk result (IsVerdict (record { link = link; tags = map tag_value_of tags.items; entries = entries; several = several }) trace.now) }
+    ensures listed { IfOk result (λ verdict. verdict ≡ Yes → ListsWhatIsReceived link trace.now) }
 {
     audit_counted::<Brand>(Blank::new(1), alloc, tags, link, entries, several, trace)
 }
@@ -57,7 +61,10 @@ fn audit_counted<L: Ledger>(
     requires given { AreAsGiven (vec_len tags) entries }
     requires trace { length trace.now ≤ 2 ^ 24 }
     ensures exact { IfOk result (IsVerdict (record { link = link; tags = map tag_value_of tags.items; entries = entries; several = several }) trace.now) }
+    ensures listed { IfOk result (λ verdict. verdict ≡ Yes → ListsWhatIsReceived link trace.now) }
 {
+    // By this law the list lines of an audited trace say what is received.
+    list_lines_are_received();
     let population = Population::new(alloc, tags)?;
     // Tags are legal, and no more than that.
     prove!(population.len() <= u32::from(MOST_TAGS));

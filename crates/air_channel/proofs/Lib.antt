@@ -1,4 +1,3 @@
-pub mod RepliesKept
-pub mod GivenReplies
+pub mod GivenAnswers
+pub mod TagsBefallen
 pub mod ExchangeFacts
-pub mod SlotFrames

@@ -1,5 +1,5 @@
 -- Profile: what a contract sees of the air between one interrogator and a population of tags, and what an exchange makes of it.
-use Rattle.std.specs.Prelude.{ℕ, ◌+◌, ◌<◌, Bool, List, length, min, All}
+use Rattle.std.specs.Prelude.{ℕ, ◌+◌, ◌<◌, Bool, List, min, All}
 use Rattle.air_events.specs.declared.Entry.{Entry}
 use Rattle.air_events.specs.declared.Event.{Event}
 use Rattle.air_events.specs.declared.Several.{Several}
@@ -7,17 +7,18 @@ use Rattle.command_grammar.specs.declared.commands.Command.{Command}
 use Rattle.pie_line.specs.Link.{LinkValue}
 use Rattle.tag_machine.specs.TagValue.{TagValue}
 use Rattle.tag_machine.specs.Exchange.{outcomes_in, replies_in, tags_after, tags_after_event}
+use Rattle.tag_population.specs.Answers.{AnswerValue, answers_of}
 use Rattle.air_model.specs.Channel.{given_in, heard_levels, wave_for}
 
 -- the link, what the channel gives of several replies, the tags in the order of their numbers, the frame that was sent last,
--- the stream that came back, how many tags replied, and how many exchanges there were
+-- the stream that came back, what tags answered, in the order of their numbers, and how many exchanges there were
 pub record AirValue : Type 0 where
   pub link : LinkValue
   pub several : Several
   pub tags : List TagValue
   pub frame : List ℕ
   pub stream : List Bool
-  pub replies : ℕ
+  pub answers : List AnswerValue
   pub exchanges : ℕ
 
 -- the last value of the number of exchanges, at which it stays
@@ -35,7 +36,7 @@ air_after air command entry = record {
   tags = tags_after (outcomes_in command entry air.tags);
   frame = wave_for air.link command;
   stream = heard_levels air.link (given_in air.link air.several command entry air.tags);
-  replies = length (replies_in command entry air.tags);
+  answers = answers_of (replies_in command entry air.tags);
   exchanges = next_exchange air.exchanges;
 }
 

@@ -1,15 +1,24 @@
--- What is said of what the channel gives, where one reply alone is kept.
-use Rattle.std.specs.Prelude.{◌≡◌, ℕ, List, Some, slice_get}
+-- What is said of what the channel gives, where tags' answers are at hand.
+use Rattle.std.specs.Prelude.{◌≡◌, Bool, ◌||◌, List, Some}
+use Rattle.std.specs.List.{All}
+use Rattle.line_code.specs.Stream.{stream_of}
+use Rattle.line_codes.specs.Codes.{table_of}
 use Rattle.pie_line.specs.Link.{LinkValue}
+use Rattle.tag_machine.specs.Answers.{IsSent}
 use Rattle.tag_machine.specs.Exchange.{Replied}
-use Rattle.air_model.specs.Channel.{Given, silence, whole, broken, raw}
-use Rattle.air_channel.specs.declared.replies.Giving.{Giving}
-use Rattle.air_channel.specs.declared.replies.Giving.TheVariants.{Nothing, Whole, Broken, Raw}
+use Rattle.tag_population.specs.Answers.{AnswerValue, answer_of, answers_of, value_of}
+use Rattle.tag_population.specs.declared.answers.Answer.{Answer}
 
--- what the channel gives at a link is the one of these replies that has the number, whole or broken, or nothing, or it is levels that
--- no reply has to do with
-abbrev pub Means : LinkValue → Giving → List Replied → ℕ → Given → Type 0
-Means link Nothing replies wanted given = given ≡ silence
-Means link Whole replies wanted given = (replied : Replied) × (slice_get replies wanted ≡ Some replied) × (given ≡ whole replied)
-Means link (Broken place) replies wanted given = (replied : Replied) × (slice_get replies wanted ≡ Some replied) × (given ≡ broken replied place)
-Means link (Raw levels) replies wanted given = given ≡ raw link.code link.trext levels.now
+-- these are the answers to one command, of which each was sent
+pub record AreAnswers (answers : List AnswerValue) (replies : List Replied) : Type 0 where
+  pub same : answers ≡ answers_of replies
+  pub sent : All (λ replied. IsSent (Some replied.sent)) replies
+
+-- an answer is what was sent
+pub record IsAnswer (answer : Answer) (replied : Replied) : Type 0 where
+  pub same : value_of answer ≡ answer_of replied
+  pub sent : IsSent (Some replied.sent)
+
+-- the levels of an answer
+abbrev pub answer_levels : LinkValue → Answer → List Bool
+answer_levels link answer = stream_of (table_of link.code) (answer.extended || link.trext) answer.bits.now

@@ -1,7 +1,5 @@
 pub mod Air
-pub mod Kept
-pub mod Giving
 pub mod Rooms
-pub mod Lent
-pub mod Transmitting
 pub mod Receiving
+pub mod Giving
+pub mod Lent

@@ -1,13 +1,10 @@
--- Profile: what a contract sees of a tag's receiver.
-use Rattle.std.specs.Prelude.{ℕ, Bool, Result, if◌then◌else◌}
-use Rattle.command_grammar.specs.declared.commands.Command.{Command}
-use Rattle.command_grammar.specs.declared.refusal.CommandRefusal.{CommandRefusal}
+-- Profile: a tag's receiver, which takes the intervals of a frame one by one and reads a command from them bit by bit.
+use Rattle.std.specs.Prelude.{ℕ, Bool, List}
+use Rattle.command_grammar.specs.reading.Framing.{FramerValue, FramerStandsFor}
+use Rattle.pie_line.specs.Edges.{EdgesValue, EdgesStandFor}
 
--- the room for the bits of a frame, and what was made of the frame that was read last
-pub record ReceiverValue : Type 0 where
-  pub room : ℕ
-  pub heard : Result Command CommandRefusal
-
--- what was read last: into the room for commands as long as a QueryRep, or into that for all others
-abbrev pub heard_of : Bool → Result Command CommandRefusal → Result Command CommandRefusal → Result Command CommandRefusal
-heard_of was_short short other = if was_short then short else other
+-- it took these intervals, and its framer each bit that was read from them
+pub record HasTaken (edges : EdgesValue) (framer : FramerValue) (intervals : List ℕ) : Type 0 where
+  pub bits : List Bool
+  pub read : EdgesStandFor edges bits intervals
+  pub framed : FramerStandsFor framer bits

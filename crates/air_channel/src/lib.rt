@@ -2,13 +2,9 @@
 #![tactic(auto)]
 
 mod air;
-mod listening;
+mod channel;
 mod receiver;
-mod replies;
-mod transmitter;
 
 pub use air::Air;
 pub use air_model::Got;
-pub use listening::{AnswerListener, Unheard};
-pub use replies::{Giving, giving_of, wanted_by};
-pub use tag_population::Population;
+pub use tag_population::{Answer, Answers, Population};

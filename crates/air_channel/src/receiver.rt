@@ -1,96 +1,141 @@
-//! What a tag makes of a frame: its intervals to bits, and these to a command.
-ghost use Rattle.std.specs.Prelude.{◌≡◌, ◌≤◌, Bool, List, All, IfOk, IsOk, Ok, length};
-ghost use Rattle.bit_strings.specs.BitString.{most_counted};
-ghost use Rattle.command_grammar.specs.Commands.{SpellsCommand};
-ghost use Rattle.command_grammar.specs.declared.commands.Command.{Command};
-ghost use Rattle.pie_line.specs.Pie.{IsFrame, longest_interval};
-ghost use Rattle.pie_line.specs.declared.frame.FrameKind.{FrameKind};
+//! A command on its way from the interrogator to the tags: to bits, to the intervals of a frame, and to a command again.
+ghost use Rattle.std.specs.Prelude.{◌≡◌, ◌+◌, ◌*◌, ◌≤◌, [], Ok, IsOk, length};
+ghost use Rattle.command_grammar.specs.Commands.{IsLegalCommand};
+ghost use Rattle.command_grammar.specs.reading.Framing.{FramerStandsFor};
+ghost use Rattle.pie_line.specs.Pie.{wave_of};
+ghost use Rattle.air_model.specs.Channel.{lead_of, wave_for};
+ghost use Rattle.air_channel.specs.Rooms.{IsShort, room_for_frames};
 
-use bit_strings::{Bits, OutOfMemory};
-use command_grammar::{Command, CommandRefusal, decode_command_to};
-use pie_line::{Intervals, decode_frame};
-use std::alloc::Global;
+use bit_strings::Bits;
+use command_grammar::{Command, CommandRefusal, Framer, encode_command};
+use pie_line::{Edge, Edges, FrameTaker, Intervals, Lead, Link, send_frame};
 use std::marker::Model;
 
-/// How many bits a QueryRep has, and no other command.
-const SHORTEST: usize = 4;
-
-/// A tag's receiver, with room for the bits of a frame. It keeps the command that it read last.
+/// A tag's receiver. It keeps the command that it heard last.
 ///
-/// A command has room for its lists of words, which are filled where a command of another kind is read in its place. A QueryRep is read so
-/// often between others that it has a room of its own: then each of these is filled no more often than needed.
-///
-/// A contract sees the room, and what was made of the frame that was read last.
+/// A contract sees that command, or why what it heard is none.
 #[derive(Drop)]
 pub(crate) struct Receiver {
-    bits: Bits,
-    short: Result<Command, CommandRefusal>,
-    other: Result<Command, CommandRefusal>,
-    was_short: bool,
+    framer: Framer,
+    heard: Result<Command, CommandRefusal>,
 }
 
 impl Model for Receiver {
-    ghost use Rattle.air_channel.specs.Receiving.{ReceiverValue, heard_of};
+    ghost use Rattle.std.specs.Prelude.{Result, []};
+    ghost use Rattle.command_grammar.specs.declared.commands.Command.{Command};
+    ghost use Rattle.command_grammar.specs.declared.refusal.CommandRefusal.{CommandRefusal};
+    ghost use Rattle.command_grammar.specs.reading.Framing.{FramerStandsFor};
 
-    ghost Value = { ReceiverValue };
+    ghost Value = { Result Command CommandRefusal };
 
-    ghost view = { λ a. record { room = a.bits.capacity; heard = heard_of a.was_short a.short a.other } };
+    ghost view = { λ a. a.heard };
+
+    ghost invariant = { λ a. FramerStandsFor a.framer [] };
 }
 
 impl Receiver {
-    /// A receiver that has read nothing, with room for frames of so many intervals.
-    pub(crate) fn new(alloc: Global, room: u32) -> Result<Receiver, OutOfMemory>
-        ensures { IfOk result (λ receiver. receiver.room ≡ room) }
-    {
-        let bits = Bits::new(alloc, room)?;
-        Ok(Receiver {
-            bits,
-            short: Err(CommandRefusal::Short(0)),
-            other: Err(CommandRefusal::Short(0)),
-            was_short: false,
-        })
-    }
-
-    /// Reads the command of a frame, whose intervals are in nanoseconds.
-    pub(crate) fn read(&mut self, frame: &Intervals)
-        requires room { length frame.now.items ≤ self.old.room }
-        requires each { All (λ interval. interval ≤ longest_interval) frame.now.items }
-        requires count { length frame.now.items ≤ most_counted }
-        ensures heard { (kind : FrameKind) (bits : List Bool) (command : Command) → IsFrame kind bits frame.now.items → SpellsCommand command bits
-            → self.new.heard ≡ Ok command }
-        ensures room { self.new.room ≡ self.old.room }
-    {
-        let _ = decode_frame(frame, &mut self.bits);
-        let bits = self.bits.as_slice();
-        self.was_short = bits.len() == SHORTEST;
-        if self.was_short {
-            decode_command_to(bits, &mut self.short);
-        } else {
-            decode_command_to(bits, &mut self.other);
+    /// A receiver that has heard nothing.
+    pub(crate) fn new() -> Receiver {
+        Receiver {
+            framer: Framer::new(),
+            heard: Err(CommandRefusal::Short(0)),
         }
     }
 
-    /// The command that was read last.
-    pub(crate) fn command(&self) -> &Command
-        requires { IsOk self.now.heard }
-        ensures { self.now.heard ≡ Ok result.now }
+    /// Hears a command that is sent as a frame. Each interval is taken as it is made, and each bit as its symbol ends.
+    /// `bits` is a buffer.
+    pub(crate) fn hear(
+        &mut self,
+        link: &Link,
+        command: &Command,
+        bits: &mut Bits,
+        frame: &mut Intervals,
+    )
+        requires bits_room { room_for_frames ≤ bits.old.capacity }
+        requires room { room_for_frames ≤ frame.old.capacity }
+        ensures wave { frame.new.items ≡ wave_for link.now command.now }
+        ensures short { IsShort frame.new.items }
+        ensures legal { IsLegalCommand command.now }
+        ensures heard { self.new ≡ Ok command.now }
+        ensures capacity { frame.new.capacity ≡ frame.old.capacity }
+        ensures bits_capacity { bits.new.capacity ≡ bits.old.capacity }
     {
-        if self.was_short {
-            command_in(&self.short)
-        } else {
-            command_in(&self.other)
+        encode_command(command, bits);
+        take_frame(&mut self.framer, link, lead_of(command), bits, frame);
+        self.framer.finish_to(&mut self.heard);
+    }
+
+    /// The command that was heard last.
+    pub(crate) fn command(&self) -> &Command
+        requires { IsOk self.now }
+        ensures { self.now ≡ Ok result.now }
+    {
+        match &self.heard {
+            Ok(command) => command,
+            Err(_) => unreachable!(),
         }
     }
 }
 
-/// The command in a room in which one was read.
-#[inline]
-fn command_in(room: &Result<Command, CommandRefusal>) -> &Command
-    requires { IsOk room.now }
-    ensures { room.now ≡ Ok result.now }
+/// Has a framer take the bits of a frame, each as its symbol is made.
+fn take_frame(framer: &mut Framer, link: &Link, lead: Lead, bits: &Bits, frame: &mut Intervals)
+    requires none { FramerStandsFor framer.old [] }
+    requires room { 7 + 2 * length bits.now.items ≤ frame.old.capacity }
+    requires few { length bits.now.items ≤ 4162 }
+    ensures framed { FramerStandsFor framer.new bits.now.items }
+    ensures wave { frame.new.items ≡ wave_of link.now lead bits.now.items }
+    ensures short { IsShort frame.new.items }
+    ensures capacity { frame.new.capacity ≡ frame.old.capacity }
 {
-    match room {
-        Ok(command) => command,
-        Err(_) => unreachable!(),
+    let mut edges = Edges::new();
+    let mut taking = Taking {
+        edges: &mut edges,
+        framer,
+    };
+    send_frame(link, lead, bits, frame, &mut taking);
+    let _ = edges.finish();
+}
+
+/// Takes a frame, an interval or a symbol at a time.
+#[derive(Drop)]
+struct Taking<'a> {
+    edges: &'a mut Edges,
+    framer: &'a mut Framer,
+}
+
+impl<'a> FrameTaker for Taking<'a> {
+    ghost use Rattle.air_channel.specs.Receiving.{HasTaken};
+
+    ghost took = { λ first intervals now. (now.edges.ghost_name ≡ first.edges.ghost_name) × (now.framer.ghost_name ≡ first.framer.ghost_name)
+        × HasTaken now.edges.now now.framer.now intervals };
+
+    ghost count = { λ taking. taking.edges.now.count };
+
+    #[inline(always)]
+    fn take(&mut self, interval: u32) {
+        if let Edge::Bit(bit) = self.edges.push(interval) {
+            self.framer.push(bit);
+        }
+    }
+
+    #[inline(always)]
+    fn take_symbol(&mut self, high: u32, low: u32) {
+        // Most symbols are those of data.
+        if let Some(bit) = self.edges.push_symbol(high, low) {
+            self.framer.push(bit);
+            return;
+        }
+        self.take(high);
+        self.take(low);
+    }
+}
+
+/// With which header the frame of a command begins (6.3.1.2.8).
+fn lead_of(command: &Command) -> Lead
+    ensures { result ≡ lead_of command.now }
+{
+    match command {
+        Command::Query { .. } => Lead::Preamble,
+        _ => Lead::FrameSync,
     }
 }

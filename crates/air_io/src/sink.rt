@@ -1,7 +1,9 @@
 //! Where bytes go.
-ghost use Rattle.std.specs.Prelude.{◌≡◌, ℕ, ◌<◌, ◌≤◌, List, Option, length, take};
+ghost use Rattle.std.specs.Prelude.{◌≡◌, ℕ, ◌<◌, ◌≤◌, List, OnErr, OnOk, Option, length, take};
 ghost use Rattle.air_io.specs.Flow.{Adds, FaultsRose};
 ghost use Rattle.air_io.specs.Puts.{IfPut, OnWriteFailed, UnlessWriteFailed};
+
+use crate::WriteFailed;
 
 /// What one write answers (profile).
 #[derive(Clone, Copy, Debug, PartialEq, Eq)]
@@ -29,4 +31,17 @@ pub trait Sink {
             × (written self.new ≡ written self.old)) }
         ensures steady { UnlessWriteFailed result (faults self.new ≡ faults self.old) }
         ensures count { faults self.old ≤ faults self.new };
+
+    /// Hands on the bytes that the sink took and holds back, where it does.
+    ///
+    /// # Errors
+    ///
+    /// The sink failed.
+    fn flush(&mut self) -> Result<(), WriteFailed>
+        ensures same { written self.new ≡ written self.old }
+        ensures failed { OnErr result (FaultsRose (faults self.old) (faults self.new)) }
+        ensures steady { OnOk result (faults self.new ≡ faults self.old) }
+    {
+        Ok(())
+    }
 }

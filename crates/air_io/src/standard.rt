@@ -1,11 +1,11 @@
 //! The edge: std's readers and writers.
-ghost use Rattle.std.specs.Prelude.{◌≡◌, ◌<◌, ◌≤◌, length, take, None, if◌then◌else◌};
+ghost use Rattle.std.specs.Prelude.{◌≡◌, ◌<◌, ◌≤◌, length, take, None, OnErr, OnOk, if◌then◌else◌};
 ghost use Rattle.std.specs.Io.KnownBytes.{Consumes, Appends, Keeps, IsAtEnd};
 ghost use Rattle.air_io.specs.Flow.{FaultsRose, one_more};
 ghost use Rattle.air_io.specs.Takes.{IfTook, OnEnd, OnReadFailed, is_failed_read};
 ghost use Rattle.air_io.specs.Puts.{IfPut, OnWriteFailed, is_failed_write};
 
-use crate::{Put, Sink, Source, Take};
+use crate::{Put, Sink, Source, Take, WriteFailed};
 use std::io::{Read, Write};
 
 /// A reader of std as a source. It tells no bytes, and counts the reads that failed (profile).
@@ -103,5 +103,16 @@ impl<W: Write> Sink for StdSink<W> {
                 Put::Failed
             }
         }
+    }
+
+    fn flush(&mut self) -> Result<(), WriteFailed>
+        ensures failed { OnErr result (FaultsRose (failed_writes self.old) (failed_writes self.new)) }
+        ensures steady { OnOk result (failed_writes self.new ≡ failed_writes self.old) }
+    {
+        if self.writer.flush().is_err() {
+            self.faults = self.faults.saturating_add(1);
+            return Err(WriteFailed);
+        }
+        Ok(())
     }
 }

@@ -87,12 +87,12 @@ heard_levels link (broken replied place) =
     let levels = levels_of link replied.sent in with_level_flipped levels (place % length levels)
 heard_levels link (raw code trext levels) = levels
 
--- whether the channel gives a stream
-abbrev pub got_of : Given → Got
-got_of silence = gots.Silence
-got_of (whole replied) = gots.Stream
-got_of (broken replied place) = gots.Stream
-got_of (raw code trext levels) = gots.Stream
+-- whom the channel gives, by the number of the tag, and of a broken reply the place of the level that is inverted
+abbrev pub got_of : LinkValue → Given → Got
+got_of link silence = gots.Silence
+got_of link (whole replied) = gots.Whole replied.number
+got_of link (broken replied place) = gots.Broken replied.number (place % length (levels_of link replied.sent))
+got_of link (raw code trext levels) = gots.Raw
 
 -- where a raw stream is chosen, it has no more levels than the longest reply
 abbrev pub HasFewLevels : Option Choice → Type 0

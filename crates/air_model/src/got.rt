@@ -1,10 +1,14 @@
 //! What comes back in an exchange.
 
-/// Whether an interrogator hears anything in reply to a command.
+/// Of whom the channel gives the interrogator something in reply to a command.
 #[derive(Clone, Copy, Debug, PartialEq, Eq)]
 pub enum Got {
-    /// Nothing.
+    /// Of nobody: no level is heard.
     Silence,
-    /// A stream of levels.
-    Stream,
+    /// The reply of the tag with this number, whole.
+    Whole(u32),
+    /// The reply of the tag with this number, with one level inverted: that at this place, counted from 0.
+    Broken(u32, u32),
+    /// Levels that no tag sent.
+    Raw,
 }

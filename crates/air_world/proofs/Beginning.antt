@@ -16,6 +16,7 @@ use Rattle.air_model.specs.Channel.{HasFewLevels}
 use Rattle.tag_machine.specs.Exchange.{AreLegalTags}
 use Rattle.air_model.specs.Past.{Start, Item, tags_behind_from}
 use Rattle.air_world.proofs.Passing.{Listening, IsCutIn, IsTold, IsCause, cut-longer}
+use Rattle.air_world.proofs.Rounds.{KeepsLimit}
 use Rattle.air_world.specs.NewAir.{new_air}
 use Rattle.air_world.specs.Playing.{RunValue, IsAt, IsPlayable, StandsAt, IsBetweenSteps, NamesItsTags}
 use Rattle.air_world.specs.Telling.{Ends, IsCutShort, IsPlayed, lines_behind}
@@ -27,6 +28,8 @@ use Rattle.runs.specs.History.{past_behind}
 use Rattle.runs.specs.Report.{last_lines, run_lines, tag_lines}
 use Rattle.runs.specs.ScenarioStart.{start_of, history, tag_of}
 use Rattle.runs.specs.Summary.{pairs_in}
+use Rattle.runs.specs.laws.HeadlineCounts.{few-exchanges, steps-exchanges}
+use Rattle.runs.specs.laws.HeadlineLegal.{legal-steps}
 use Rattle.scenario.specs.Groups.{tags_of}
 use Rattle.scenario.specs.Limits.{IsScenario, IsEntry, IsStep, most_tags_of}
 use Rattle.scenario.specs.declared.values.Scenario.{Scenario}
@@ -99,7 +102,7 @@ tags-before number (start ∷ starts) = ap (λ (t : List TagValue). start ∷ t)
 
 -- the run begins
 pub at-first : (scenario : Scenario) (air : AirValue) (run : RunValue) → IsScenario scenario → air ≡ new_air (start_of scenario) → AreLegalTags air.tags → (left : List (ℕ × Entry))
-    → IsLeft left scenario.entries 0 → run ≡ record { entries = left; rounds = 0 } → IsAt (start_of scenario) [] air run
+    → IsLeft left scenario.entries 0 → run ≡ record { entries = left; exchanges = 0; rounds = 0 } → IsAt (start_of scenario) 0 [] air run
 at-first scenario air run is fresh legal left left_is run_is = record {
   names = scenario-names scenario is;
   few = few-all (length (tags_of scenario.groups)) scenario.entries is.entries;
@@ -108,14 +111,16 @@ at-first scenario air run is fresh legal left left_is run_is = record {
   tags = ap (λ (a : AirValue). a.tags) fresh ∙ sym (tags-before 0 (start_of scenario).tags);
   legal = legal;
   exchanges = ap (λ (a : AirValue). a.exchanges) fresh;
+  made = ap (λ (r : RunValue). r.exchanges) run_is;
   entries = subst (λ l. IsLeft l scenario.entries 0) (sym (ap (λ (r : RunValue). r.entries) run_is)) left_is;
   rounds = ap (λ (r : RunValue). r.rounds) run_is;
 }
 
 -- there is room for all steps
-pub between-first : (scenario : Scenario) (air : AirValue) (run : RunValue) → IsScenario scenario → IsAt (start_of scenario) [] air run → IsBetweenSteps (length scenario.steps) air run
+pub between-first : (scenario : Scenario) (air : AirValue) (run : RunValue) → IsScenario scenario → IsAt (start_of scenario) 0 [] air run → IsBetweenSteps (length scenario.steps) air run
 between-first scenario air run is at = record {
   start = start_of scenario;
+  earlier = 0;
   past = [];
   at = at;
   room = omega (arith, is.few_steps);
@@ -123,7 +128,7 @@ between-first scenario air run is at = record {
 }
 
 -- what is told behind the steps is what the report has there
-last-told : (scenario : Scenario) (air : AirValue) (run : RunValue) (seen : List Seen) → IsAt (start_of scenario) (history scenario) air run → seen ≡ seen_in (pairs_in (history scenario))
+last-told : (scenario : Scenario) (air : AirValue) (run : RunValue) (seen : List Seen) → IsAt (start_of scenario) 0 (history scenario) air run → seen ≡ seen_in (pairs_in (history scenario))
     → map seen_line seen ++ tag_lines 0 air.tags ++ DoneLine ∷ [] ≡ last_lines (start_of scenario) (history scenario)
 last-told scenario air run seen at counted =
     ap (λ s. map seen_line s ++ tag_lines 0 air.tags ++ DoneLine ∷ []) counted
@@ -131,8 +136,8 @@ last-told scenario air run seen at counted =
 
 -- the steps as a slice
 pub stands-slice : (Heard : List ReportLine → Type 0) (scenario : Scenario) (steps : List Step) (air : AirValue) (run : RunValue) → steps ≡ scenario.steps
-    → StandsAt Heard (start_of scenario) (past_behind (start_of scenario) steps []) air run → StandsAt Heard (start_of scenario) (history scenario) air run
-stands-slice Heard scenario steps air run same stands = subst (λ (s : List Step). StandsAt Heard (start_of scenario) (past_behind (start_of scenario) s []) air run) same stands
+    → StandsAt Heard (start_of scenario) 0 (past_behind (start_of scenario) steps []) air run → StandsAt Heard (start_of scenario) 0 (history scenario) air run
+stands-slice Heard scenario steps air run same stands = subst (λ (s : List Step). StandsAt Heard (start_of scenario) 0 (past_behind (start_of scenario) s []) air run) same stands
 
 -- ... where they were cut off
 pub cut-slice : {A : Type 0} (l : Listening A) (scenario : Scenario) (steps : List Step) (fault : PlayFault) → steps ≡ scenario.steps
@@ -141,7 +146,7 @@ cut-slice l scenario steps fault same cut = subst (λ (s : List Step). IsCutIn l
 
 -- all is told
 pub whole-told : {A : Type 0} (l : Listening A) (first : A) (scenario : Scenario) (air : AirValue) (run : RunValue) (seen : List Seen)
-    → StandsAt (λ lines. l.hears first lines l.old) (start_of scenario) (history scenario) air run × (seen ≡ seen_in (pairs_in (history scenario)))
+    → StandsAt (λ lines. l.hears first lines l.old) (start_of scenario) 0 (history scenario) air run × (seen ≡ seen_in (pairs_in (history scenario)))
     → ((before : List ReportLine) → IsTold l before (before ++ (map seen_line seen ++ tag_lines 0 air.tags ++ DoneLine ∷ [])))
     → l.hears first (run_lines (start_of scenario) scenario.steps) l.new
 whole-told l first scenario air run seen (stands, counted) last =
@@ -149,16 +154,20 @@ whole-told l first scenario air run seen (stands, counted) last =
     (subst (λ (more : List ReportLine). IsTold l lines (lines ++ more)) (last-told scenario air run seen stands.at counted) (last lines)).on first stands.told
 
 -- the air stayed as it was
-pub at-kept : (start : Start) (past : List Item) (air after : AirValue) (run : RunValue) → after ≡ air → IsAt start past air run → IsAt start past after run
-at-kept start past air after run kept at = subst (λ (a : AirValue). IsAt start past a run) (sym kept) at
+pub at-kept : (start : Start) (earlier : ℕ) (past : List Item) (air after : AirValue) (run : RunValue) → after ≡ air → IsAt start earlier past air run → IsAt start earlier past after run
+at-kept start earlier past air after run kept at = subst (λ (a : AirValue). IsAt start earlier past a run) (sym kept) at
 
 -- ... so the run is played, or its listener met a fault
 pub ends-played : {A : Type 0} (l : Listening A) (r : Result (Unit {0}) PlayFault) (scenario : Scenario) (air : AirValue) (run : RunValue)
-    → l.hears l.old (run_lines (start_of scenario) scenario.steps) l.new → IsAt (start_of scenario) (history scenario) air run
+    → KeepsLimit → IsScenario scenario → l.hears l.old (run_lines (start_of scenario) scenario.steps) l.new → IsAt (start_of scenario) 0 (history scenario) air run
     → OnOk r (l.failed l.new ≡ None) × IfErr r (IsCause l)
     → Ends r (IsPlayed l.hears l.failed scenario l.old l.new air) (IsCutShort l.hears l.failed l.old l.new (run_lines (start_of scenario) scenario.steps))
-ends-played l (Ok done) scenario air run told at (faultless, cause) = record { told = told; faultless = faultless; tags = at.tags; exchanges = at.exchanges }
-ends-played l (Err fault) scenario air run told at (faultless, cause) = record {
+ends-played l (Ok done) scenario air run keeps is told at (faultless, cause) =
+    let legal = legal-steps scenario is in
+    let most = steps-exchanges keeps (start_of scenario) scenario.steps [] legal in
+    let few = few-exchanges scenario.steps legal in
+    record { told = told; faultless = faultless; tags = at.tags; exchanges = omega (arith, at.exchanges, most, few, is.few_steps) }
+ends-played l (Err fault) scenario air run keeps is told at (faultless, cause) = record {
   front = run_lines (start_of scenario) scenario.steps;
   rest = [];
   split = sym (append-nil (run_lines (start_of scenario) scenario.steps));
@@ -186,3 +195,8 @@ cut-at-first l scenario told none = record {
 -- what a listener has heard that was lent, and was given back
 pub given-back : {A : Type 0} (l : Listening A) (first later : A) (lines : List ReportLine) → first ≡ l.old → later ≡ l.new → l.hears first lines later → l.hears l.old lines l.new
 given-back l first later lines was is told = subst (λ now. l.hears l.old lines now) is (subst (λ was_first. l.hears was_first lines later) was told)
+
+-- what holds of a run that was told whole
+pub whole-of : (r : Result (Unit {0}) PlayFault) (Whole Other : Type 0) (CutOff : PlayFault → Type 0) → (Whole → Other) → Ends r Whole CutOff → OnOk r Other
+whole-of (Ok done) Whole Other CutOff from ends = from ends
+whole-of (Err fault) Whole Other CutOff from ends = tt

@@ -4,7 +4,7 @@ use Rattle.std.proofs.lemmas.List.{length-map}
 use Rattle.std.proofs.lemmas.List.Elements.{All-nil}
 use Rattle.std.proofs.lemmas.Option.{slice_get_within}
 use Rattle.std.specs.List.{AllByRecursion, AllZip}
-use Rattle.air_channel.specs.Air.{AirValue}
+use Rattle.air_channel.specs.Air.{AirValue, last_exchange}
 use Rattle.air_events.specs.Cursor.{IsLeft}
 use Rattle.air_events.specs.declared.Entry.{Entry}
 use Rattle.air_events.specs.declared.Several.TheVariants as severals
@@ -38,18 +38,18 @@ use Rattle.two_portals.specs.Played.{IsPairOf, ListsItsTags, Played, pair_of}
 abbrev pub start_on : AirValue → Start
 start_on air = record { link = air.link; tags = air.tags; entries = []; several = severals.Break }
 
--- what the air is then: no exchange was made on it
+-- what the air and the run are then: the run made no exchange
 pub record IsNewHall (air : AirValue) (run : RunValue) : Type 0 where
-  pub run_is : run ≡ record { entries = []; rounds = 0 }
+  pub run_is : run ≡ record { entries = []; exchanges = 0; rounds = 0 }
   pub several : air.several ≡ severals.Break
   pub legal : AreLegalTags air.tags
-  pub fresh : air.exchanges ≡ 0
+  pub few : air.exchanges ≤ last_exchange
 
 none-left : (entries : List (ℕ × Entry)) → entries ≡ [] → IsLeft entries [] 0
 none-left entries none = subst (λ left. IsLeft left [] 0) (sym none) (record { rises = tt; same = λ exchange later. refl })
 
 -- the run begins
-pub hall-begins : (air : AirValue) (run : RunValue) → IsNewHall air run → IsAt (start_on air) [] air run
+pub hall-begins : (air : AirValue) (run : RunValue) → IsNewHall air run → IsAt (start_on air) air.exchanges [] air run
 hall-begins air run new = record {
   names = λ exchange. record { events = All-nil _; missed = All-nil _ };
   few = λ exchange. tt;
@@ -57,7 +57,8 @@ hall-begins air run new = record {
   several = new.several;
   tags = sym (tags-before 0 air.tags);
   legal = new.legal;
-  exchanges = new.fresh;
+  exchanges = omega (arith, new.few);
+  made = ap (λ (r : RunValue). r.exchanges) new.run_is;
   entries = none-left run.entries (ap (λ (r : RunValue). r.entries) new.run_is);
   rounds = ap (λ (r : RunValue). r.rounds) new.run_is;
 }

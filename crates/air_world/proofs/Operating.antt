@@ -1,21 +1,15 @@
 -- The moves of a dialogue with a tag, one after another.
-use Rattle.std.proofs.Common.{◌≡◌, ℕ, ◌+◌, ◌≤◌, ◌*◌, ◌-◌, ◌||◌, List, [], ◌∷◌, ◌++◌, length, Bool, Option, Some, None, refl, sym, ◌∙◌, ap, subst, arith}
+use Rattle.std.proofs.Common.{◌≡◌, ℕ, ◌+◌, ◌≤◌, ◌*◌, ◌-◌, List, [], ◌∷◌, ◌++◌, length, Bool, Option, Some, None, refl, sym, ◌∙◌, ap, subst, arith}
 use Rattle.access_ops.specs.laws.DialogueLaws.{AwaitsReplies, SendsAtMost, dialogues-await, dialogues-are-few, first-sends, first-tells, first-done}
 use Rattle.access_ops.specs.laws.OperationLaws.{Expects}
 use Rattle.access_ops.specs.Operations.{Dialogue, sends, done, dialogue_of, Move, answered, told, reception_in, dialogue_behind, dialogue_after, IsAnswerFor}
 use Rattle.access_ops.specs.OpRunValue.{OpRunValue, OpRunStandsFor, IsNextOperation, last_answer, turns_left}
 use Rattle.access_ops.specs.declared.OpList.{OpList}
 use Rattle.access_ops.specs.declared.op_next.Answer.{Answer}
-use Rattle.access_ops.specs.declared.op_next.Answer.TheVariants.{Got}
 use Rattle.access_ops.specs.declared.op_next.OpNext.TheVariants as nexts
 use Rattle.access_ops.specs.declared.op_next.OpResult.{OpResult}
 use Rattle.air_channel.specs.Air.{AirValue}
 use Rattle.air_model.specs.Past.{Record, Item, operated, past_behind_command, exchanges_in}
-use Rattle.air_model.specs.laws.AwaitedLaws.{awaited_reception}
-use Rattle.air_model.specs.Channel.{Given, IsReadBy, got_of, heard_levels}
-use Rattle.reply_wire.specs.Received.{IsReceived}
-use Rattle.air_model.specs.Reception.{HoldsOfSent, IsUnmistakable, reception_with}
-use Rattle.air_model.specs.declared.got.Got.TheVariants as gots
 use Rattle.runs.specs.laws.Tags.{tags-operated}
 use Rattle.runs.specs.History.{operation_reception, past_behind_dialogue}
 use Rattle.runs.specs.Listing.{reception_of_ack, listed_from, listed_by}
@@ -24,36 +18,9 @@ use Rattle.air_world.specs.Playing.{RunValue, StandsAt}
 use Rattle.runs.specs.laws.PlayedRounds.{SlotOfRun}
 use Rattle.command_grammar.specs.declared.commands.Command.{Command}
 use Rattle.command_grammar.specs.declared.commands.Command.TheVariants as commands
-use Rattle.line_code.specs.Table.{Table}
-use Rattle.line_codes.specs.Codes.{table_of}
-use Rattle.pie_line.specs.Link.{LinkValue}
 use Rattle.reply_grammar.specs.Reception.{Reception, no_stream}
 use Rattle.reply_grammar.specs.declared.expected.Expect.{Expect}
-use Rattle.reply_grammar.specs.declared.expected.Received.{Received}
-use Rattle.reply_grammar.specs.declared.expected.Received.TheVariants.{Whole, Refused}
 use Rattle.report_lines.specs.ReportLine.{ReportLine, OpLine}
-
--- a whole reply that is received is one that is expected
-pub received-answer : (t : Table) (trext : Bool) (expect : Expect) (levels : List Bool) (received : Received) → IsReceived t trext expect levels received → IsAnswerFor expect (Got received)
-received-answer t trext expect levels (Whole reply) is = (is.answers.suits, is.answers.in_range)
-received-answer t trext expect levels (Refused place) is = tt
-
--- a stream that came in the last exchange, where this was given, and what is received of it with the preamble that is awaited
-pub record StreamHeard (link : LinkValue) (given : Given) (expect : Expect) (extended : Bool) : Type 0 where
-  pub air : AirValue
-  pub received : Received
-  pub link_is : air.link ≡ link
-  pub stream : air.stream ≡ heard_levels link given
-  pub came : got_of given ≡ gots.Stream
-  pub heard : IsReceived (table_of air.link.code) (extended || air.link.trext) expect air.stream received
-
-pub heard-awaited : (link : LinkValue) (given : Given) (expect : Expect) (extended : Bool) (s : StreamHeard link given expect extended) → HoldsOfSent (IsUnmistakable expect) given
-    → IsReadBy link given → reception_in (Got s.received) ≡ reception_with link.trext extended expect given
-heard-awaited link given expect extended s is read =
-    let at_link : IsReceived (table_of link.code) (extended || link.trext) expect s.air.stream s.received =
-    subst (λ (l : LinkValue). IsReceived (table_of l.code) (extended || l.trext) expect s.air.stream s.received) s.link_is s.heard in
-    sym (awaited_reception link extended expect given s.received is read s.came
-    (subst (λ (levels : List Bool). IsReceived (table_of link.code) (extended || link.trext) expect levels s.received) s.stream at_link))
 
 -- the operations of a round with a tag that sent this EPC, and this RN16 before it, in a slot, and what was past before them
 pub record TagOperations : Type 0 where
@@ -61,6 +28,7 @@ pub record TagOperations : Type 0 where
   pub list : OpList
   pub epc : List ℕ
   pub rn : ℕ
+  pub earlier : ℕ
   pub before : List Item
 
 -- what is left of their dialogue behind these moves
@@ -96,7 +64,7 @@ pub record AreInDialogue (of : TagOperations) (here : OperationsSoFar) (past : L
 -- ... with the air and the run
 pub record OperationsUnderway (Heard : List ReportLine → Type 0) (of : TagOperations) (here : OperationsSoFar) (air : AirValue) (run : RunValue) : Type 0 where
   pub past : List Item
-  pub stands : StandsAt Heard of.at.start past air run
+  pub stands : StandsAt Heard of.at.start of.earlier past air run
   pub are : AreInDialogue of here past
 
 -- a dialogue begins
@@ -176,7 +144,7 @@ operations-sent of here past u asked by after next fewer =
 
 -- what stands behind a result
 pub stands-operated : (Heard : List ReportLine → Type 0) (at : RunBehind) (round slot index : ℕ) (result : OpResult)
-    → Stands (λ lines. Heard (lines ++ OpLine round slot index result ∷ [])) at → StandsAt Heard at.start (operated round slot index result ∷ at.past) at.air at.run
+    → Stands (λ lines. Heard (lines ++ OpLine round slot index result ∷ [])) at → StandsAt Heard at.start at.earlier (operated round slot index result ∷ at.past) at.air at.run
 stands-operated Heard at round slot index result stands = record {
   at = at-behind at (operated round slot index result) at.run stands.at (tags-operated at.start round slot index result at.past) refl
       (ap (λ n. record at.run { rounds = n }) stands.at.rounds);

@@ -1,11 +1,11 @@
 -- What is told one after another, and what was told where a run is cut off.
-use Rattle.std.proofs.Common.{◌≡◌, List, [], ◌∷◌, ◌++◌, Option, Some, Result, Ok, Err, sym, ◌∙◌, ap, subst, append_assoc}
+use Rattle.std.proofs.Common.{◌≡◌, ℕ, List, [], ◌∷◌, ◌++◌, Option, Some, Result, Ok, Err, sym, ◌∙◌, ap, subst, append_assoc}
 use Rattle.std.proofs.lemmas.List.{append-nil}
 use Rattle.std.specs.Result.{IfErr, IsErrAnd}
 use Rattle.air_channel.specs.Air.{AirValue}
 use Rattle.air_events.specs.Cursor.{IsLeft}
 use Rattle.air_model.specs.Past.{Start, Item, exchanges_in, rounds_in, tags_behind}
-use Rattle.air_world.specs.Playing.{RunValue, IsAt, StandsAt}
+use Rattle.air_world.specs.Playing.{RunValue, IsAt, StandsAt, counted_on}
 use Rattle.air_world.specs.Telling.{Ends, IsCut, IsCutOff, Passes, lines_behind}
 use Rattle.report_lines.specs.ReportLine.{ReportLine}
 use Rattle.report_lines.specs.declared.mode.PlayFault.{PlayFault}
@@ -94,13 +94,14 @@ ends-cut (Err fault) cause Whole CutOff is cut = subst CutOff (sym is) cut
 -- a run, and what it stands behind
 pub record RunBehind : Type 0 where
   pub start : Start
+  pub earlier : ℕ
   pub past : List Item
   pub air : AirValue
   pub run : RunValue
 
 -- it stands there, and the lines of the past are heard
 abbrev pub Stands : (List ReportLine → Type 0) → RunBehind → Type 0
-Stands Heard at = StandsAt Heard at.start at.past at.air at.run
+Stands Heard at = StandsAt Heard at.start at.earlier at.past at.air at.run
 
 -- what stands where a run goes on, and is cut off behind it where it doesn't
 pub ends-checked : {A T : Type 0} (l : Listening A) (before : List ReportLine) (r : Result T PlayFault) (at : RunBehind) → Stands (IsTold l before) at → IfErr r (IsCause l)
@@ -109,8 +110,8 @@ ends-checked l before (Ok done) at stands cause = stands
 ends-checked l before (Err fault) at stands cause = cut-behind l before (lines_behind at.start at.past) fault stands.told cause
 
 -- an item that is no exchange leaves the air as it is
-pub at-behind : (at : RunBehind) (item : Item) (after : RunValue) → IsAt at.start at.past at.air at.run → tags_behind at.start (item ∷ at.past) ≡ tags_behind at.start at.past
-    → exchanges_in (item ∷ at.past) ≡ exchanges_in at.past → after ≡ record at.run { rounds = rounds_in (item ∷ at.past) } → IsAt at.start (item ∷ at.past) at.air after
+pub at-behind : (at : RunBehind) (item : Item) (after : RunValue) → IsAt at.start at.earlier at.past at.air at.run → tags_behind at.start (item ∷ at.past) ≡ tags_behind at.start at.past
+    → exchanges_in (item ∷ at.past) ≡ exchanges_in at.past → after ≡ record at.run { rounds = rounds_in (item ∷ at.past) } → IsAt at.start at.earlier (item ∷ at.past) at.air after
 at-behind at item after is tags exchanges after_is = record {
   names = is.names;
   few = is.few;
@@ -118,7 +119,8 @@ at-behind at item after is tags exchanges after_is = record {
   several = is.several;
   tags = is.tags ∙ sym tags;
   legal = is.legal;
-  exchanges = is.exchanges ∙ sym exchanges;
+  exchanges = is.exchanges ∙ ap (counted_on at.earlier) (sym exchanges);
+  made = ap (λ (r : RunValue). r.exchanges) after_is ∙ is.made ∙ sym exchanges;
   entries = subst (λ n. IsLeft after.entries at.start.entries n) (sym exchanges)
       (subst (λ l. IsLeft l at.start.entries (exchanges_in at.past)) (sym (ap (λ (r : RunValue). r.entries) after_is)) is.entries);
   rounds = ap (λ (r : RunValue). r.rounds) after_is;

@@ -6,8 +6,13 @@ use Rattle.air_model.specs.Past.{Start, Item, ended, past_behind_command, exchan
 use Rattle.air_world.proofs.Passing.{RunBehind, Stands, at-behind}
 use Rattle.air_world.specs.Playing.{RunValue, StandsAt, most_in_slot}
 use Rattle.command_grammar.specs.declared.commands.Command.{Command}
+use Rattle.command_grammar.specs.declared.commands.Command.TheVariants as commands
+use Rattle.pie_line.specs.Link.{LinkValue}
+use Rattle.reply_grammar.specs.declared.expected.Expect.TheVariants as expects
+use Rattle.runs.specs.NextItem.{expectation_of}
 use Rattle.q_round.specs.laws.SlotLaws.{slots-underway}
-use Rattle.q_round.specs.Rounds.{AreOutcomes, is_over, slots_of, next_command}
+use Rattle.q_round.specs.Rounds.{AreOutcomes, Turn, answer_of, is_over, slots_of, next_command, turn_of}
+use Rattle.q_round.specs.Rounds as turns
 use Rattle.q_round.specs.NextAnswer.{next_of}
 use Rattle.q_round.specs.RoundValue.{RoundValue, RoundStandsFor, IsNextAnswer}
 use Rattle.q_round.specs.SpecValue.{SpecValue, IsLegalSpec}
@@ -43,9 +48,9 @@ pub record IsInRound (played : PlayedRound) (here : RoundSoFar) (past : List Ite
   pub rounds : here.number ≡ rounds_in past + 1
 
 -- ... with the air and the run
-pub record RoundUnderway (Heard : List ReportLine → Type 0) (played : PlayedRound) (here : RoundSoFar) (air : AirValue) (run : RunValue) : Type 0 where
+pub record RoundUnderway (Heard : List ReportLine → Type 0) (earlier : ℕ) (played : PlayedRound) (here : RoundSoFar) (air : AirValue) (run : RunValue) : Type 0 where
   pub past : List Item
-  pub stands : StandsAt Heard played.start past air run
+  pub stands : StandsAt Heard played.start earlier past air run
   pub is : IsInRound played here past
 
 abbrev pred : ℕ → ℕ
@@ -126,6 +131,19 @@ pub record HasFewTurns (played : PlayedRound) : Type 0 where
   pub few_operations : length played.operations.ops ≤ 32
   pub within : (outcomes : List Outcome) → AreOutcomes played.spec outcomes → slots_of played.spec outcomes ≤ played.spec.limit
 
+-- a slot command of a round expects an RN16
+turn-expects : (spec : SpecValue) (link : LinkValue) (turn : Turn) (command : Command) → answer_of spec link turn ≡ nexts.Send command → expectation_of command ≡ Some expects.Rn16
+turn-expects spec link turns.query command is =
+    let same : commands.Query link.dr link.code link.trext spec.sel spec.session spec.target spec.q ≡ command = cc in ap (λ (c : Command). expectation_of c) (sym same)
+turn-expects spec link (turns.adjust updn) command is =
+    let same : commands.QueryAdjust spec.session updn ≡ command = cc in ap (λ (c : Command). expectation_of c) (sym same)
+turn-expects spec link turns.rep command is = let same : commands.QueryRep spec.session ≡ command = cc in ap (λ (c : Command). expectation_of c) (sym same)
+turn-expects spec link turns.quiet command is = absurd (cc)
+turn-expects spec link turns.limit command is = absurd (cc)
+
+pub round-expects : (played : PlayedRound) (here : RoundSoFar) (past : List Item) → IsInRound played here past → expectation_of here.command ≡ Some expects.Rn16
+round-expects played here past u = turn-expects played.spec played.start.link (turn_of played.spec u.outcomes) here.command u.sends
+
 -- a slot of a round that goes on with a slot command
 pub round-goes-on : (played : PlayedRound) (here : RoundSoFar) (past : List Item) (u : IsInRound played here past) (s : SlotPlayed played here past u.outcomes)
     (after : RoundValue) (next : Command) → HasFewTurns played → IsNextAnswer (nexts.Send next) after played.spec (s.outcome ∷ u.outcomes)
@@ -190,7 +208,7 @@ ended-slots number end slot outcome outcomes past whole is left =
 -- a round ended
 pub stands-ended : (Heard : List ReportLine → Type 0) (at : RunBehind) (number : ℕ) (end : RoundEnd) (slots : ℕ) (after : RunValue) → number ≡ rounds_in at.past + 1
     → Stands (λ lines. Heard (lines ++ RoundLine number end slots ∷ [])) at → after ≡ record at.run { rounds = number }
-    → StandsAt Heard at.start (ended number end slots ∷ at.past) at.air after
+    → StandsAt Heard at.start at.earlier (ended number end slots ∷ at.past) at.air after
 stands-ended Heard at number end slots after number_is stands is = record {
   at = at-behind at (ended number end slots) after stands.at (tags-ended at.start number end slots at.past) refl
       (is ∙ ap (λ n. record at.run { rounds = n }) number_is);

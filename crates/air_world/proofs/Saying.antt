@@ -1,26 +1,105 @@
 -- Who said what in an exchange, told or left out.
-use Rattle.std.proofs.Common.{◌≡◌, ℕ, ◌+◌, Bool, true, List, [], ◌∷◌, ◌++◌, map, refl, sym, ◌∙◌, subst, append_assoc, append-nil}
+use Rattle.std.proofs.Common.{◌≡◌, ◌≢◌, ◌<◌, ◌≤◌, ◌%◌, ◌==◌, ◌⊎◌, inl, inr, ℕ, zero, suc, ◌+◌, Bool, true, false, Option, Some, None, eq-eqb, List, [], ◌∷◌, ◌++◌, length, map, take, get_or, refl, sym, ◌∙◌, ap, arith, subst, append_assoc, append-nil, slice_get}
+use Rattle.std.proofs.lemmas.Bool.{eqb-true}
+use Rattle.std.proofs.lemmas.List.{length-map}
+use Rattle.std.proofs.lemmas.Option.{slice_get-get_or, slice_get-map}
 use Rattle.std.specs.List.{AllByRecursion}
-use Rattle.std.specs.Option.{IsSomeAnd}
-use Rattle.std.specs.Prelude.{Option, Some, None}
-use Rattle.air_channel.specs.Air.{AirValue}
-use Rattle.air_events.specs.declared.Entry.{Entry}
-use Rattle.air_world.proofs.Passing.{passes-same}
-use Rattle.air_world.specs.Saying.{AnswersCommand, exchanged_on, said_of}
+use Rattle.std.specs.Option.{option_map}
+use Rattle.air_model.specs.Channel.{Given, silence, whole, broken, raw, got_of, levels_of}
+use Rattle.air_model.specs.Past.{Record}
+use Rattle.air_model.specs.declared.got.Got.TheVariants as gots
+use Rattle.air_world.proofs.Places.{some-at, map-more}
+use Rattle.air_world.specs.Saying.{AreShort, IsOneOf}
 use Rattle.air_world.specs.Telling.{Passes}
 use Rattle.command_grammar.specs.declared.commands.Command.{Command}
-use Rattle.reply_grammar.specs.Table.{AnswersExpected, Carries}
-use Rattle.reply_grammar.specs.declared.expected.Expect.{Expect}
+use Rattle.pie_line.specs.Link.{LinkValue}
+use Rattle.reply_grammar.specs.Table.{longest_reply}
+use Rattle.reply_grammar.specs.declared.expected.Reply.{Reply}
 use Rattle.report_lines.specs.Kept.{is_of_exchanges}
-use Rattle.report_lines.specs.ReportLine.{ReportLine, ExchangeLine, MissedLine, GivenLine}
-use Rattle.runs.specs.Said.{answer_line}
-use Rattle.runs.specs.laws.Replies.{AnswersSo}
-use Rattle.tag_machine.specs.Answers.{Sent, bits_sent}
-use Rattle.tag_machine.specs.Exchange.{replies_in}
-use Rattle.tag_machine.specs.Step.{step}
-use Rattle.tag_machine.specs.TagValue.{StateValue, BodyValue, IsLegalTag}
-use Rattle.tag_machine.specs.laws.Replies.{expect_of}
-use Rattle.wave_dump.specs.Exchanged.{Exchanged}
+use Rattle.report_lines.specs.ReportLine.{ReportLine, ExchangeLine, GivenLine, MissedLine}
+use Rattle.runs.specs.Said.{answer_line, exchanged_by, gave_of, said_lines}
+use Rattle.runs.specs.laws.Replies.{AreReplies}
+use Rattle.tag_machine.specs.Answers.{Sent}
+use Rattle.tag_machine.specs.Exchange.{Replied}
+use Rattle.tag_population.specs.Answers.{AnswerValue, answer_of, answers_of, value_of}
+use Rattle.tag_population.specs.declared.answers.Answer.{Answer}
+use Rattle.wave_dump.specs.declared.exchanged.Gave.TheVariants as gaves
+
+-- what holds of each reply holds of the one at a place
+pub reply-at : (P : Sent → Type 0) (replies : List Replied) (place : ℕ) (replied : Replied) → AreReplies P replies → slice_get replies place ≡ Some replied → P replied.sent
+reply-at P [] place replied all found = absurd (cc)
+reply-at P (first ∷ others) zero replied all found = let same : first ≡ replied = cc in subst (λ (r : Replied). P r.sent) same all.0
+reply-at P (first ∷ others) (suc place) replied all found = reply-at P others place replied all.1 found
+
+-- ... and so does what is short
+pub short-at : (answers : List AnswerValue) (place : ℕ) (answer : AnswerValue) → AreShort answers → slice_get answers place ≡ Some answer → length answer.bits ≤ longest_reply
+short-at [] place answer short found = absurd (cc)
+short-at (first ∷ others) zero answer short found = let same : first ≡ answer = cc in subst (λ (a : AnswerValue). length a.bits ≤ longest_reply) same short.0
+short-at (first ∷ others) (suc place) answer short found = short-at others place answer short.1 found
+
+-- the answer at the place of a reply
+pub answer-at : (answers : List AnswerValue) (replies : List Replied) (place : ℕ) (replied : Replied) → answers ≡ answers_of replies → slice_get replies place ≡ Some replied
+    → slice_get answers place ≡ Some (answer_of replied)
+answer-at answers replies place replied are found =
+    ap (λ (all : List AnswerValue). slice_get all place) are ∙ slice_get-map answer_of replies place ∙ ap (λ one. option_map answer_of one) found
+
+-- ... and the reply at the place of an answer
+pub reply-there : (answers : List AnswerValue) (replies : List Replied) (place : ℕ) → answers ≡ answers_of replies → place < length answers
+    → (replied : Replied) × (slice_get replies place ≡ Some replied)
+reply-there answers replies place are inside = some-at replies place (omega (arith, ap length are, length-map replies answer_of))
+
+-- what an air that is asked for the answer at a place says
+pub answer-there : (answers : List AnswerValue) (place : ℕ) (found : Option Answer) (answer : Answer) → option_map value_of found ≡ slice_get answers place → found ≡ Some answer
+    → slice_get answers place ≡ Some (value_of answer)
+answer-there answers place found answer asked is = sym asked ∙ ap (λ one. option_map value_of one) is
+
+none-some : (answer : AnswerValue) → ◌≡◌ {A = Option AnswerValue} None (Some answer) → ⊥
+none-some answer is = cc
+
+pub none-there : (answers : List AnswerValue) (place : ℕ) (found : Option Answer) → place < length answers → option_map value_of found ≡ slice_get answers place → found ≡ None → ⊥
+none-there answers place found inside asked is =
+    let there = some-at answers place inside in none-some there.0 (ap (λ one. option_map value_of one) (sym is) ∙ asked ∙ there.1)
+
+pub one-answer : (answer other : AnswerValue) → Some answer ≡ Some other → answer ≡ other
+one-answer answer other is = cc
+
+-- one answer more that is not of the tag
+split : (b : Bool) → (b ≡ true) ⊎ (b ≡ false)
+split true = inl refl
+split false = inr refl
+
+pub others-more : (answers : List AnswerValue) (tag at : ℕ) (here : AnswerValue) → slice_get answers at ≡ Some here → (here.number ≡ tag → ⊥)
+    → ((place : ℕ) (answer : AnswerValue) → place < at → slice_get answers place ≡ Some answer → answer.number ≡ tag → ⊥)
+    → (place : ℕ) (answer : AnswerValue) → place < at + 1 → slice_get answers place ≡ Some answer → answer.number ≡ tag → ⊥
+others-more answers tag at here is other before place answer within found number = elim (split (place == at)) [
+  | inl equal ↦
+      let same : place ≡ at = eqb-true place at equal in
+      let one = one-answer here answer (sym is ∙ ap (λ n. slice_get answers n) (sym same) ∙ found) in other (ap (λ (a : AnswerValue). a.number) one ∙ number)
+  | inr differ ↦
+      let apart : place ≢ at = λ same. let both : true ≡ false = sym (eq-eqb place at same) ∙ differ in cc in
+      before place answer (omega (arith, apart, within)) found number
+]
+
+-- what the channel gave, by whom it gave
+pub gave-silence : (link : LinkValue) (given : Given) → gots.Silence ≡ got_of link given → gaves.Silence ≡ gave_of link given
+gave-silence link silence is = refl
+gave-silence link given is = absurd (cc)
+
+pub gave-whole : (link : LinkValue) (replies : List Replied) (given : Given) (tag : ℕ) (reply : Reply) → IsOneOf replies given → gots.Whole tag ≡ got_of link given
+    → ((place : ℕ) (replied : Replied) → slice_get replies place ≡ Some replied → tag ≡ replied.number → reply ≡ replied.sent.reply) → gaves.Whole tag reply ≡ gave_of link given
+gave-whole link replies (whole replied) tag reply one is reads =
+    let same : tag ≡ replied.number = cc in λ i. gaves.Whole (same i) (reads one.0 replied one.1 same i)
+gave-whole link replies given tag reply one is reads = absurd (cc)
+
+pub gave-broken : (link : LinkValue) (given : Given) (tag place : ℕ) → gots.Broken tag place ≡ got_of link given → gaves.Broken tag place ≡ gave_of link given
+gave-broken link (broken replied number) tag place is =
+    let same : tag ≡ replied.number = cc in
+    let level : place ≡ number % length (levels_of link replied.sent) = cc in λ i. gaves.Broken (same i) (level i)
+gave-broken link given tag place is = absurd (cc)
+
+pub gave-raw : (link : LinkValue) (given : Given) → gots.Raw ≡ got_of link given → gaves.Raw ≡ gave_of link given
+gave-raw link (raw code trext levels) is = refl
+gave-raw link given is = absurd (cc)
 
 -- each line says who said what
 abbrev AreOfExchanges : List ReportLine → Type 0
@@ -31,11 +110,10 @@ all-made : {A : Type 0} (make : A → ReportLine) → ((item : A) → is_of_exch
 all-made make are [] more others = others
 all-made make are (item ∷ items) more others = (are item, all-made make are items more others)
 
-said-kind : (air : AirValue) (command : Command) (entry : Entry) → AreOfExchanges (said_of air command entry)
-said-kind air command entry = (
+said-kind : (link : LinkValue) (sent : Record) → AreOfExchanges (said_lines link sent)
+said-kind link sent = (
   refl,
-  all-made (MissedLine (air.exchanges + 1)) (λ tag. refl) entry.missed _
-      (all-made (answer_line (air.exchanges + 1)) (λ replied. refl) (replies_in command entry air.tags) _ (refl, tt)),
+  all-made (MissedLine sent.exchange) (λ tag. refl) sent.entry.missed _ (all-made (answer_line sent.exchange) (λ replied. refl) sent.replies _ (refl, tt)),
 )
 
 -- lines that make no difference need not be told
@@ -47,44 +125,37 @@ skipped hears now same (line ∷ lines) are first before heard =
     subst (λ (all : List ReportLine). hears first all now) (append_assoc before (line ∷ []) lines)
     (skipped hears now same lines are.1 first (before ++ line ∷ []) (same first before line are.0 heard))
 
-pub said-skipped : {A : Type 0} (hears : A → List ReportLine → A → Type 0) (now : A) (air : AirValue) (command : Command) (entry : Entry)
+-- an exchange of which nobody wants to hear who said what
+pub said-skipped : {A : Type 0} (hears : A → List ReportLine → A → Type 0) (now : A) (link : LinkValue) (sent : Record)
     → ((first : A) (lines : List ReportLine) (line : ReportLine) → is_of_exchanges line ≡ true → hears first lines now → hears first (lines ++ line ∷ []) now)
-    → (before : List ReportLine) → Passes hears before now now (before ++ said_of air command entry)
-said-skipped hears now air command entry same before = record {
-  on = λ first heard. skipped hears now same (said_of air command entry) (said-kind air command entry) first before heard;
-}
+    → (before : List ReportLine) → Passes hears before now now (before ++ said_lines link sent)
+said-skipped hears now link sent same before = record { on = λ first heard. skipped hears now same (said_lines link sent) (said-kind link sent) first before heard }
+
+-- one tag more missed a command
+pub missed-more : (before : List ReportLine) (exchange : ℕ) (command : Command) (tags : List ℕ) (at default : ℕ) → at < length tags
+    → (before ++ ExchangeLine exchange command ∷ map (MissedLine exchange) (take at tags)) ++ MissedLine exchange (get_or tags at default) ∷ []
+    ≡ before ++ ExchangeLine exchange command ∷ map (MissedLine exchange) (take (at + 1) tags)
+missed-more before exchange command tags at default inside =
+    append_assoc before (ExchangeLine exchange command ∷ map (MissedLine exchange) (take at tags)) (MissedLine exchange (get_or tags at default) ∷ [])
+    ∙ ap (λ (lines : List ReportLine). before ++ ExchangeLine exchange command ∷ lines) (map-more (MissedLine exchange) tags at (get_or tags at default) (slice_get-get_or tags at default inside))
 
 -- what was told of an exchange, in three parts
-pub record Says {A : Type 0} (hears : A → List ReportLine → A → Type 0) (air : AirValue) (command : Command) (entry : Entry) (exchanged : Exchanged) (old new : A) : Type 0 where
-  pub sent : A
+pub record Says {A : Type 0} (hears : A → List ReportLine → A → Type 0) (link : LinkValue) (sent : Record) (old new : A) : Type 0 where
+  pub commanded : A
   pub answered : A
-  pub command_told : (before : List ReportLine) → Passes hears before old sent (before ++ ExchangeLine (air.exchanges + 1) command ∷ map (MissedLine (air.exchanges + 1)) entry.missed)
-  pub answers_told : (before : List ReportLine) → Passes hears before sent answered (before ++ map (answer_line (air.exchanges + 1)) (replies_in command entry air.tags))
-  pub over_told : (before : List ReportLine) → Passes hears before answered new (before ++ GivenLine exchanged ∷ [])
+  pub command : (before : List ReportLine) → Passes hears before old commanded (before ++ ExchangeLine sent.exchange sent.command ∷ map (MissedLine sent.exchange) sent.entry.missed)
+  pub answers : (before : List ReportLine) → Passes hears before commanded answered (before ++ map (answer_line sent.exchange) sent.replies)
+  pub given : (before : List ReportLine) → Passes hears before answered new (before ++ GivenLine (exchanged_by link sent) ∷ [])
 
-pub says-all : {A : Type 0} (hears : A → List ReportLine → A → Type 0) (air : AirValue) (command : Command) (entry : Entry) (old new : A)
-    → Says hears air command entry (exchanged_on air command entry) old new → (before : List ReportLine) → Passes hears before old new (before ++ said_of air command entry)
-says-all hears air command entry old new says before =
-    let number : ℕ = air.exchanges + 1 in
-    let front : List ReportLine = ExchangeLine number command ∷ map (MissedLine number) entry.missed in
-    let answers : List ReportLine = map (answer_line number) (replies_in command entry air.tags) in
-    let last : List ReportLine = GivenLine (exchanged_on air command entry) ∷ [] in
-    let over = passes-same hears ((before ++ front) ++ answers) (((before ++ front) ++ answers) ++ last) (before ++ said_of air command entry) says.answered new
-    (append_assoc (before ++ front) answers last ∙ append_assoc before front (answers ++ last)) (says.over_told ((before ++ front) ++ answers)) in
-    record { on = λ first heard. over.on first ((says.answers_told (before ++ front)).on first ((says.command_told before).on first heard)) }
-
--- what legal tags answer answers the command
-carried : (expect : Option Expect) (sent : Sent) (bits : List Bool) → IsSomeAnd expect (λ it. Carries it sent.handle × AnswersExpected sent.reply it bits)
-    → IsSomeAnd expect (λ it. AnswersExpected sent.reply it bits)
-carried None sent bits is = is
-carried (Some it) sent bits is = is.1
-
-abbrev pub AnswersExpectedOnes : Type 0
-AnswersExpectedOnes = (command : Command) (state : StateValue) (body : BodyValue) (sent : Sent) → IsLegalTag (record { state = state; body = body })
-    → (step command state body).answer ≡ Some sent → IsSomeAnd (expect_of command state) (λ expect. Carries expect sent.handle × AnswersExpected sent.reply expect (bits_sent (Some sent)))
-
-pub answers-so : AnswersExpectedOnes → (command : Command) → AnswersSo (AnswersCommand command) command
-answers-so law command tag legal sent is = record {
-  state = tag.state;
-  answers = carried (expect_of command tag.state) sent (bits_sent (Some sent)) (law command tag.state tag.body sent legal is);
-}
+pub says-all : {A : Type 0} (hears : A → List ReportLine → A → Type 0) (link : LinkValue) (sent : Record) (old new : A) → Says hears link sent old new
+    → (before : List ReportLine) → Passes hears before old new (before ++ said_lines link sent)
+says-all hears link sent old new says before =
+    let front : List ReportLine = ExchangeLine sent.exchange sent.command ∷ map (MissedLine sent.exchange) sent.entry.missed in
+    let answers : List ReportLine = map (answer_line sent.exchange) sent.replies in
+    let last : List ReportLine = GivenLine (exchanged_by link sent) ∷ [] in
+    let joined : ((before ++ front) ++ answers) ++ last ≡ before ++ said_lines link sent = append_assoc (before ++ front) answers last ∙ append_assoc before front (answers ++ last) in
+    record {
+      on = λ first heard.
+          subst (λ (lines : List ReportLine). hears first lines new) joined
+          ((says.given ((before ++ front) ++ answers)).on first ((says.answers (before ++ front)).on first ((says.command before).on first heard)));
+    }

@@ -1,91 +1,163 @@
 -- What an exchange makes of the air and the run.
-use Rattle.std.proofs.Common.{◌≡◌, ℕ, ◌+◌, ◌<◌, List, [], ◌∷◌, length, sym, ◌∙◌, ap, subst, arith}
-use Rattle.air_channel.specs.Air.{AirValue, NamesTags, air_after, next_exchange, last_exchange}
-use Rattle.tag_machine.specs.Exchange.{AreLegalTags, outcomes_in, replies_in, tags_after}
-use Rattle.air_model.specs.Channel.{HasFewLevels, given_in, got_of, heard_levels, wave_for}
-use Rattle.air_model.specs.Past.{Start, Record, Item, next_record, past_behind_command, exchanges_in, tags_behind}
+use Rattle.std.proofs.Common.{◌≡◌, ℕ, zero, suc, ◌+◌, ◌≤◌, List, [], ◌∷◌, ◌++◌, length, Option, Some, None, refl, sym, ◌∙◌, ap, subst, arith, slice_get}
+use Rattle.air_channel.specs.Air.{AirValue, NamesTags, air_after, next_exchange}
+use Rattle.air_events.specs.Cursor.{IsLeft}
 use Rattle.air_events.specs.Entries.{entry_at}
+use Rattle.air_events.specs.declared.Choice.{Choice}
+use Rattle.air_events.specs.declared.Choice.TheVariants as choices
 use Rattle.air_events.specs.declared.Entry.{Entry}
-use Rattle.runs.specs.laws.Tags.{tags-exchanged, length-tags}
-use Rattle.air_world.specs.Playing.{RunValue, IsAt, HasRoom, last_exchange_lines}
-use Rattle.air_world.specs.Saying.{said_of, said_with}
 use Rattle.air_events.specs.declared.Several.{Several}
-use Rattle.runs.specs.Report.{wave_lines}
-use Rattle.runs.specs.Said.{said_lines}
+use Rattle.air_events.specs.declared.Several.TheVariants as severals
+use Rattle.air_model.specs.Channel.{HasFewLevels, given_in, given_of, got_of, heard_levels, wave_for, whole_or_silence}
+use Rattle.air_model.specs.Past.{Start, Record, Item, next_record, past_behind_command, exchanges_in, tags_behind}
+use Rattle.air_model.specs.declared.got.Got.{Got}
+use Rattle.air_model.specs.laws.ReceptionLaws.{few_words}
+use Rattle.air_world.specs.Playing.{RunValue, IsAt, counted_on}
+use Rattle.air_world.specs.Saying.{AnswersCommand, AreOfDifferentTags, AreShort, IsBehind, IsOneOf}
 use Rattle.command_grammar.specs.declared.commands.Command.{Command}
 use Rattle.pie_line.specs.Link.{LinkValue}
-use Rattle.report_lines.specs.ReportLine.{ReportLine, TxLine, RxLine}
-use Rattle.air_events.specs.Cursor.{IsLeft}
-use Rattle.tag_machine.specs.TagValue.{TagValue}
-
-next-below : (exchanges : ℕ) → exchanges < last_exchange → next_exchange exchanges ≡ exchanges + 1
-next-below exchanges few = omega (arith, few)
+use Rattle.reply_grammar.specs.Table.{AnswersExpected, Carries}
+use Rattle.reply_grammar.specs.declared.expected.Expect.{Expect}
+use Rattle.reply_grammar.specs.laws.Suiting.{spelling-within}
+use Rattle.runs.proofs.Answering.{SendsInRange}
+use Rattle.runs.specs.laws.Replies.{AnswersSo, AreReplies, StaysLegal, replies-in-answered}
+use Rattle.runs.specs.laws.Tags.{tags-exchanged, length-tags}
+use Rattle.std.specs.Option.{IsSomeAnd}
+use Rattle.tag_machine.specs.Answers.{IsSent, Outcome, Sent, bits_sent}
+use Rattle.tag_machine.specs.Exchange.{AreLegalTags, Replied, outcomes_in, replies_from, replies_in, reply_of, tags_after}
+use Rattle.tag_machine.specs.Step.{step}
+use Rattle.tag_machine.specs.TagValue.{BodyValue, IsLegalTag, StateValue, TagValue}
+use Rattle.tag_machine.specs.laws.Replies.{expect_of}
+use Rattle.tag_population.specs.Answers.{answers_of}
 
 -- the cursor of the run stands behind the exchanges of the past
-pub cursor-stands : (start : Start) (past : List Item) (air : AirValue) (run : RunValue) (entries : List (ℕ × Entry)) → IsAt start past air run → run.entries ≡ entries
+pub cursor-stands : (start : Start) (earlier : ℕ) (past : List Item) (air : AirValue) (run : RunValue) (entries : List (ℕ × Entry)) → IsAt start earlier past air run → run.entries ≡ entries
     → IsLeft entries start.entries (exchanges_in past)
-cursor-stands start past air run entries plays cursor = subst (λ l. IsLeft l start.entries (exchanges_in past)) cursor plays.entries
-
--- the number of the next exchange
-pub next-number : (start : Start) (past : List Item) (air : AirValue) (run : RunValue) (exchange : ℕ) → IsAt start past air run → exchange ≡ air.exchanges + 1
-    → exchange ≡ exchanges_in past + 1
-next-number start past air run exchange plays number = number ∙ ap (λ n. n + 1) plays.exchanges
+cursor-stands start earlier past air run entries plays cursor = subst (λ l. IsLeft l start.entries (exchanges_in past)) cursor plays.entries
 
 -- the entry of the next exchange names tags that there are ..
-pub entry-names : (start : Start) (past : List Item) (air : AirValue) (run : RunValue) (entry : Entry) → IsAt start past air run
+pub entry-names : (start : Start) (earlier : ℕ) (past : List Item) (air : AirValue) (run : RunValue) (entry : Entry) → IsAt start earlier past air run
     → entry ≡ entry_at start.entries (exchanges_in past + 1) → NamesTags (length air.tags) entry
-entry-names start past air run entry plays is =
+entry-names start earlier past air run entry plays is =
     let count : length air.tags ≡ length start.tags = ap length plays.tags ∙ length-tags start past in
     let named : NamesTags (length start.tags) entry = subst (λ e. NamesTags (length start.tags) e) (sym is) (plays.names (exchanges_in past + 1)) in
     subst (λ n. NamesTags n entry) (sym count) named
 
 -- .. and gives few levels
-pub entry-fits : (start : Start) (past : List Item) (air : AirValue) (run : RunValue) (entry : Entry) → IsAt start past air run
+pub entry-fits : (start : Start) (earlier : ℕ) (past : List Item) (air : AirValue) (run : RunValue) (entry : Entry) → IsAt start earlier past air run
     → entry ≡ entry_at start.entries (exchanges_in past + 1) → HasFewLevels entry.choice
-entry-fits start past air run entry plays is = subst (λ (e : Entry). HasFewLevels e.choice) (sym is) (plays.few (exchanges_in past + 1))
+entry-fits start earlier past air run entry plays is = subst (λ (e : Entry). HasFewLevels e.choice) (sym is) (plays.few (exchanges_in past + 1))
+
+-- what legal tags answer answers the command
+carried : (expect : Option Expect) (sent : Sent) → IsSomeAnd expect (λ it. Carries it sent.handle × AnswersExpected sent.reply it (bits_sent (Some sent)))
+    → IsSomeAnd expect (λ it. AnswersExpected sent.reply it (bits_sent (Some sent)))
+carried None sent is = is
+carried (Some it) sent is = is.1
+
+abbrev pub AnswersExpectedOnes : Type 0
+AnswersExpectedOnes = (command : Command) (state : StateValue) (body : BodyValue) (sent : Sent) → IsLegalTag (record { state = state; body = body })
+    → (step command state body).answer ≡ Some sent → IsSomeAnd (expect_of command state) (λ expect. Carries expect sent.handle × AnswersExpected sent.reply expect (bits_sent (Some sent)))
+
+answers-so : AnswersExpectedOnes → (command : Command) → AnswersSo (AnswersCommand command) command
+answers-so law command tag legal sent is = record { state = tag.state; answers = carried (expect_of command tag.state) sent (law command tag.state tag.body sent legal is) }
+
+-- no answer is longer than the longest reply
+short-answers : (replies : List Replied) → AreReplies (λ sent. IsSent (Some sent)) replies → AreShort (answers_of replies)
+short-answers [] are = tt
+short-answers (replied ∷ replies) are = (
+  (spelling-within replied.sent.reply replied.sent.handle are.0.0 (few_words replied.sent.reply are.0.2)).1,
+  short-answers replies are.1,
+)
+
+pub answers-short : SendsInRange → StaysLegal → (command : Command) (entry : Entry) (tags : List TagValue) → AreLegalTags tags → AreShort (answers_of (replies_in command entry tags))
+answers-short range stays command entry tags legal =
+    short-answers (replies_in command entry tags)
+    (replies-in-answered (λ sent. IsSent (Some sent)) command entry tags (λ tag lawful sent is. range command tag.state tag.body sent lawful is) stays legal)
+
+-- the numbers of replies rise
+rises-behind : (number : ℕ) (answer : Option Sent) (later : List Replied) → ((place : ℕ) (replied : Replied) → slice_get later place ≡ Some replied → number + 1 ≤ replied.number)
+    → (place : ℕ) (replied : Replied) → slice_get (reply_of number answer ++ later) place ≡ Some replied → number ≤ replied.number
+rises-behind number None later rises place replied found = let more = rises place replied found in omega (arith, more)
+rises-behind number (Some sent) later rises zero replied found =
+    let same : ◌≡◌ {A = Replied} (record { number = number; sent = sent }) replied = cc in omega (arith, ap (λ (r : Replied). r.number) same)
+rises-behind number (Some sent) later rises (suc place) replied found = let more = rises place replied found in omega (arith, more)
+
+numbers-rise : (number : ℕ) (outcomes : List Outcome) (place : ℕ) (replied : Replied) → slice_get (replies_from number outcomes) place ≡ Some replied → number ≤ replied.number
+numbers-rise number [] place replied found = absurd (cc)
+numbers-rise number (outcome ∷ outcomes) place replied found =
+    rises-behind number outcome.answer (replies_from (number + 1) outcomes) (numbers-rise (number + 1) outcomes) place replied found
+
+-- ... so that no two are of one tag
+different-behind : (number : ℕ) (answer : Option Sent) (later : List Replied) → ((place : ℕ) (replied : Replied) → slice_get later place ≡ Some replied → number + 1 ≤ replied.number)
+    → AreOfDifferentTags later → (place other : ℕ) (replied own : Replied) → slice_get (reply_of number answer ++ later) place ≡ Some replied
+    → slice_get (reply_of number answer ++ later) other ≡ Some own → replied.number ≡ own.number → replied ≡ own
+different-behind number None later rises different place other replied own found also same = different place other replied own found also same
+different-behind number (Some sent) later rises different zero zero replied own found also same = cc
+different-behind number (Some sent) later rises different zero (suc other) replied own found also same =
+    let first : ◌≡◌ {A = Replied} (record { number = number; sent = sent }) replied = cc in
+    absurd (omega (arith, ap (λ (r : Replied). r.number) first, rises other own also, same))
+different-behind number (Some sent) later rises different (suc place) zero replied own found also same =
+    let first : ◌≡◌ {A = Replied} (record { number = number; sent = sent }) own = cc in
+    absurd (omega (arith, ap (λ (r : Replied). r.number) first, rises place replied found, same))
+different-behind number (Some sent) later rises different (suc place) (suc other) replied own found also same = different place other replied own found also same
+
+different-tags : (number : ℕ) (outcomes : List Outcome) → AreOfDifferentTags (replies_from number outcomes)
+different-tags number [] = λ place other replied own found also same. absurd (cc)
+different-tags number (outcome ∷ outcomes) =
+    different-behind number outcome.answer (replies_from (number + 1) outcomes) (numbers-rise (number + 1) outcomes) (different-tags (number + 1) outcomes)
+
+-- what the channel gives whole is one of the replies
+picked-one : (replies : List Replied) (number : ℕ) (picked : Option Replied) → slice_get replies number ≡ picked → IsOneOf replies (whole_or_silence picked)
+picked-one replies number None is = tt
+picked-one replies number (Some replied) is = (number, is)
+
+given-one : (link : LinkValue) (replies : List Replied) (choice : Option Choice) (several : Several) → IsOneOf replies (given_of link replies choice several)
+given-one link replies (Some (choices.Pick number)) several = picked-one replies number (slice_get replies number) refl
+given-one link replies (Some choices.Silent) several = tt
+given-one link [] (Some (choices.Break place)) several = tt
+given-one link (replied ∷ others) (Some (choices.Break place)) several = tt
+given-one link replies (Some (choices.Raw levels)) several = tt
+given-one link [] None several = tt
+given-one link (replied ∷ []) None several = (0, refl)
+given-one link (replied ∷ other ∷ others) None severals.Break = tt
+given-one link (replied ∷ other ∷ others) None severals.Capture = (0, refl)
 
 -- what is known of an exchange with which a run goes on
-pub record Sends (start : Start) (past : List Item) (command : Command) : Type 0 where
+pub record Sends (start : Start) (earlier : ℕ) (past : List Item) (command : Command) : Type 0 where
   pub air : AirValue
   pub run : RunValue
   pub next : AirValue
   pub entry : Entry
-  pub plays : IsAt start past air run
+  pub got : Got
+  pub plays : IsAt start earlier past air run
   pub is : next ≡ air_after air command entry
+  pub got_is : got ≡ got_of air.link (given_in air.link air.several command entry air.tags)
   pub entry_is : entry ≡ entry_at start.entries (exchanges_in past + 1)
   pub legal : AreLegalTags next.tags
-  pub few : air.exchanges < last_exchange
 
 -- what the channel gives is what the record says
-given-recorded : (start : Start) (past : List Item) (round slot : ℕ) (command : Command) (sends : Sends start past command)
+given-recorded : (start : Start) (earlier : ℕ) (past : List Item) (round slot : ℕ) (command : Command) (sends : Sends start earlier past command)
     → given_in sends.air.link sends.air.several command sends.entry sends.air.tags ≡ (next_record start round slot command past).given
-given-recorded start past round slot command sends =
-    let air = sends.air in
+given-recorded start earlier past round slot command sends =
     let plays = sends.plays in
-    ap (λ (l : LinkValue). given_in l air.several command sends.entry air.tags) plays.link
-    ∙ ap (λ s. given_in start.link s command sends.entry air.tags) plays.several
-    ∙ ap (λ e. given_in start.link start.several command e air.tags) sends.entry_is
-    ∙ ap (λ t. given_in start.link start.several command (entry_at start.entries (exchanges_in past + 1)) t) plays.tags
+    λ i. given_in (plays.link i) (plays.several i) command (sends.entry_is i) (plays.tags i)
 
-replies-recorded : (start : Start) (past : List Item) (round slot : ℕ) (command : Command) (sends : Sends start past command)
+replies-recorded : (start : Start) (earlier : ℕ) (past : List Item) (round slot : ℕ) (command : Command) (sends : Sends start earlier past command)
     → replies_in command sends.entry sends.air.tags ≡ (next_record start round slot command past).replies
-replies-recorded start past round slot command sends =
-    ap (λ e. replies_in command e sends.air.tags) sends.entry_is ∙ ap (λ t. replies_in command (entry_at start.entries (exchanges_in past + 1)) t) sends.plays.tags
+replies-recorded start earlier past round slot command sends = λ i. replies_in command (sends.entry_is i) (sends.plays.tags i)
 
--- the number of the exchange
-sent-number : (start : Start) (past : List Item) (command : Command) (sends : Sends start past command) → sends.next.exchanges ≡ exchanges_in past + 1
-sent-number start past command sends = ap (λ (a : AirValue). a.exchanges) sends.is ∙ next-below sends.air.exchanges sends.few ∙ ap (λ n. n + 1) sends.plays.exchanges
+next-counted : (earlier exchanges : ℕ) → next_exchange (counted_on earlier exchanges) ≡ counted_on earlier (exchanges + 1)
+next-counted earlier exchanges = omega arith
 
 -- after an exchange, air and run stand behind the longer past
-pub sent-plays : (start : Start) (past : List Item) (round slot : ℕ) (command : Command) (sends : Sends start past command) (after : RunValue)
-    → after ≡ record sends.run { entries = after.entries } → IsLeft after.entries start.entries (exchanges_in past + 1)
-    → IsAt start (past_behind_command start round slot command past) sends.next after
-sent-plays start past round slot command sends after after_is left_is =
+pub sent-plays : (start : Start) (earlier : ℕ) (past : List Item) (round slot : ℕ) (command : Command) (sends : Sends start earlier past command) (after : RunValue)
+    → after.exchanges ≡ exchanges_in past + 1 → after.rounds ≡ sends.run.rounds → IsLeft after.entries start.entries (exchanges_in past + 1)
+    → IsAt start earlier (past_behind_command start round slot command past) sends.next after
+sent-plays start earlier past round slot command sends after made rounds left =
     let sent : Record = next_record start round slot command past in
-    let air = sends.air in
     let plays = sends.plays in
-    let moved : tags_after (outcomes_in command sends.entry air.tags) ≡ tags_after (outcomes_in command sent.entry (tags_behind start past)) =
-    ap (λ (e : Entry). tags_after (outcomes_in command e air.tags)) sends.entry_is ∙ ap (λ (t : List TagValue). tags_after (outcomes_in command sent.entry t)) plays.tags in
+    let moved : tags_after (outcomes_in command sends.entry sends.air.tags) ≡ tags_after (outcomes_in command sent.entry (tags_behind start past)) =
+    λ i. tags_after (outcomes_in command (sends.entry_is i) (plays.tags i)) in
     record {
       names = plays.names;
       few = plays.few;
@@ -93,52 +165,26 @@ sent-plays start past round slot command sends after after_is left_is =
       several = ap (λ (a : AirValue). a.several) sends.is ∙ plays.several;
       tags = ap (λ (a : AirValue). a.tags) sends.is ∙ moved ∙ sym (tags-exchanged start sent past);
       legal = sends.legal;
-      exchanges = sent-number start past command sends;
-      entries = left_is;
-      rounds = ap (λ (r : RunValue). r.rounds) after_is ∙ plays.rounds;
+      exchanges = ap (λ (a : AirValue). a.exchanges) sends.is ∙ ap next_exchange plays.exchanges ∙ next-counted earlier (exchanges_in past);
+      made = made;
+      entries = left;
+      rounds = rounds ∙ plays.rounds;
     }
 
--- the levels that come are those of the record
-pub sent-stream : (start : Start) (past : List Item) (round slot : ℕ) (command : Command) (sends : Sends start past command)
-    → sends.next.stream ≡ heard_levels start.link (next_record start round slot command past).given
-sent-stream start past round slot command sends =
-    let air = sends.air in
-    ap (λ (a : AirValue). a.stream) sends.is ∙ ap (λ (l : LinkValue). heard_levels l (given_in air.link air.several command sends.entry air.tags)) sends.plays.link
-    ∙ ap (λ g. heard_levels start.link g) (given-recorded start past round slot command sends)
-
--- whether any come is what the record says
-pub sent-got : (start : Start) (past : List Item) (round slot : ℕ) (command : Command) (sends : Sends start past command)
-    → got_of (given_in sends.air.link sends.air.several command sends.entry sends.air.tags) ≡ got_of (next_record start round slot command past).given
-sent-got start past round slot command sends = ap (λ g. got_of g) (given-recorded start past round slot command sends)
-
--- who said what in the exchange is what the record says
-pub sent-said : (start : Start) (past : List Item) (round slot : ℕ) (command : Command) (sends : Sends start past command)
-    → said_of sends.air command sends.entry ≡ said_lines start.link (next_record start round slot command past)
-sent-said start past round slot command sends =
-    let air = sends.air in
-    let plays = sends.plays in
-    let entry : Entry = entry_at start.entries (exchanges_in past + 1) in
-    ap (λ (link : LinkValue). said_with link air.several command sends.entry air.tags air.exchanges) plays.link
-    ∙ ap (λ (several : Several). said_with start.link several command sends.entry air.tags air.exchanges) plays.several
-    ∙ ap (λ (e : Entry). said_with start.link start.several command e air.tags air.exchanges) sends.entry_is
-    ∙ ap (λ (tags : List TagValue). said_with start.link start.several command entry tags air.exchanges) plays.tags
-    ∙ ap (λ (exchanges : ℕ). said_with start.link start.several command entry (tags_behind start past) exchanges) plays.exchanges
-
--- the waves that are told of the exchange are those of the record
-pub sent-lines : (start : Start) (past : List Item) (round slot : ℕ) (command : Command) (sends : Sends start past command)
-    → last_exchange_lines sends.next ≡ wave_lines start.link (next_record start round slot command past)
-sent-lines start past round slot command sends =
+-- ... and what stands on the air is what the record says
+pub sent-behind : AnswersExpectedOnes → StaysLegal → (start : Start) (earlier : ℕ) (past : List Item) (round slot : ℕ) (command : Command) (sends : Sends start earlier past command)
+    → IsBehind start.link (next_record start round slot command past) sends.next sends.got
+sent-behind law stays start earlier past round slot command sends =
     let sent : Record = next_record start round slot command past in
-    let next = sends.next in
+    let tags : List TagValue = tags_behind start past in
     let plays = sends.plays in
-    let number : next.exchanges ≡ sent.exchange = sent-number start past command sends in
-    let frame : next.frame ≡ wave_for start.link command = ap (λ (a : AirValue). a.frame) sends.is ∙ ap (λ l. wave_for l command) plays.link in
-    let count : next.replies ≡ length sent.replies = ap (λ (a : AirValue). a.replies) sends.is ∙ ap length (replies-recorded start past round slot command sends) in
-    let stream : next.stream ≡ heard_levels start.link sent.given = sent-stream start past round slot command sends in
-    let tx : TxLine next.exchanges next.frame ≡ TxLine sent.exchange (wave_for start.link command) = cc in
-    let rx : RxLine next.exchanges next.replies next.stream ≡ RxLine sent.exchange (length sent.replies) (heard_levels start.link sent.given) = cc in
-    ap (λ (line : ReportLine). line ∷ RxLine next.exchanges next.replies next.stream ∷ []) tx ∙ ap (λ (line : ReportLine). TxLine sent.exchange (wave_for start.link command) ∷ line ∷ []) rx
-
--- the exchanges fit the counter
-pub few-exchanges : (start : Start) (past : List Item) (air : AirValue) (run : RunValue) (more : ℕ) → IsAt start past air run → HasRoom (more + 1) past → air.exchanges < last_exchange
-few-exchanges start past air run more plays room = omega (arith, plays.exchanges, room)
+    record {
+      link_is = ap (λ (a : AirValue). a.link) sends.is ∙ plays.link;
+      frame = ap (λ (a : AirValue). a.frame) sends.is ∙ ap (λ l. wave_for l command) plays.link;
+      answers = ap (λ (a : AirValue). a.answers) sends.is ∙ ap answers_of (replies-recorded start earlier past round slot command sends);
+      stream = ap (λ (a : AirValue). a.stream) sends.is ∙ (λ i. heard_levels (plays.link i) (given-recorded start earlier past round slot command sends i));
+      got_is = sends.got_is ∙ (λ i. got_of (plays.link i) (given-recorded start earlier past round slot command sends i));
+      answered = replies-in-answered (AnswersCommand command) command sent.entry tags (answers-so law command) stays (subst AreLegalTags plays.tags plays.legal);
+      different = different-tags 0 (outcomes_in command sent.entry tags);
+      one = given-one start.link sent.replies sent.entry.choice start.several;
+    }

@@ -38,7 +38,7 @@ alone-unlisted sent asked = ap (λ (r : Reception). listed_from sent r) (command
 
 -- behind an event
 pub stands-befell : (Heard : List ReportLine → Type 0) (at : RunBehind) (event : Event) (number : ℕ) (next : AirValue) → Stands Heard at
-    → next ≡ air_after_event at.air event number → AreLegalTags next.tags → StandsAt Heard at.start (befell event number ∷ at.past) next at.run
+    → next ≡ air_after_event at.air event number → AreLegalTags next.tags → StandsAt Heard at.start at.earlier (befell event number ∷ at.past) next at.run
 stands-befell Heard at event number next stands is legal =
     let was = stands.at in
     let moved : next.tags ≡ tags_behind at.start (befell event number ∷ at.past) =
@@ -52,6 +52,7 @@ stands-befell Heard at event number next stands is legal =
         tags = moved;
         legal = legal;
         exchanges = ap (λ (a : AirValue). a.exchanges) is ∙ was.exchanges;
+        made = was.made;
         entries = was.entries;
         rounds = was.rounds;
       };
@@ -101,9 +102,9 @@ pub record AreTaken (taken : StepsTaken) (index : ℕ) (past : List Item) : Type
   pub rounds : rounds_in past ≤ rounds_in taken.before + index
 
 -- before the step with this number
-pub record StepsUnderway (Heard : List ReportLine → Type 0) (taken : StepsTaken) (index : ℕ) (air : AirValue) (run : RunValue) : Type 0 where
+pub record StepsUnderway (Heard : List ReportLine → Type 0) (earlier : ℕ) (taken : StepsTaken) (index : ℕ) (air : AirValue) (run : RunValue) : Type 0 where
   pub past : List Item
-  pub stands : StandsAt Heard taken.start past air run
+  pub stands : StandsAt Heard taken.start earlier past air run
   pub are : AreTaken taken index past
 
 -- a step among others
@@ -111,8 +112,8 @@ pub step-legal : (tags : ℕ) (list : List Step) (index : ℕ) (step : Step) →
 step-legal tags list index step inside is all = subst (λ (s : Step). IsPlayable tags s) (sym is) (All-get_or (IsPlayable tags) list index step inside all)
 
 -- the number of tags stays
-pub same-count : (start : Start) (past later : List Item) (air next : AirValue) (run then_run : RunValue) → IsAt start past air run → IsAt start later next then_run → length next.tags ≡ length air.tags
-same-count start past later air next run then_run plays goes = ap length goes.tags ∙ length-tags start later ∙ sym (ap length plays.tags ∙ length-tags start past)
+pub same-count : (start : Start) (earlier : ℕ) (past later : List Item) (air next : AirValue) (run then_run : RunValue) → IsAt start earlier past air run → IsAt start earlier later next then_run → length next.tags ≡ length air.tags
+same-count start earlier past later air next run then_run plays goes = ap length goes.tags ∙ length-tags start later ∙ sym (ap length plays.tags ∙ length-tags start past)
 
 step-drop : (list : List Step) (index : ℕ) (step : Step) → index < length list → step ≡ get_or list index step → drop index list ≡ step ∷ drop (index + 1) list
 step-drop list index step inside is =

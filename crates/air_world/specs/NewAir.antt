@@ -7,7 +7,7 @@ use Rattle.scenario_lines.specs.TagForm.{IsTag, epc_length}
 
 -- the air at the start: no exchange was made on it
 abbrev pub new_air : Start → AirValue
-new_air start = record { link = start.link; several = start.several; tags = start.tags; frame = []; stream = []; replies = 0; exchanges = 0 }
+new_air start = record { link = start.link; several = start.several; tags = start.tags; frame = []; stream = []; answers = []; exchanges = 0 }
 
 -- a group of tags of a scenario of some version
 pub record IsGroupOfTags (group : TagGroup) : Type 0 where

@@ -1,6 +1,8 @@
 -- Profile: a run that is under way. A contract says of each part of it what the past becomes, and what is told.
-use Rattle.std.specs.Prelude.{◌≡◌, ℕ, ◌+◌, ◌*◌, ◌≤◌, ◌^◌, List, ◌∷◌, [], length}
-use Rattle.air_channel.specs.Air.{AirValue, NamesTags}
+use Rattle.std.specs.Prelude.{◌≡◌, ℕ, ◌+◌, ◌*◌, ◌≤◌, ◌^◌, List, ◌∷◌, [], length, min}
+use Rattle.access_ops.specs.OpRunValue.{OpRunValue, OpRunStandsFor, turns_left}
+use Rattle.access_ops.specs.declared.OpList.{OpList}
+use Rattle.air_channel.specs.Air.{AirValue, NamesTags, last_exchange}
 use Rattle.air_events.specs.Cursor.{IsLeft}
 use Rattle.air_events.specs.Entries.{entry_at}
 use Rattle.air_events.specs.declared.Entry.{Entry}
@@ -9,14 +11,15 @@ use Rattle.tag_machine.specs.Exchange.{AreLegalTags}
 use Rattle.air_model.specs.Past.{Start, Item, ended, exchanges_in, rounds_in, tags_behind}
 use Rattle.air_world.specs.Telling.{lines_behind}
 use Rattle.q_round.specs.declared.round.RoundEnd.{RoundEnd}
-use Rattle.report_lines.specs.ReportLine.{ReportLine, TxLine, RxLine}
+use Rattle.report_lines.specs.ReportLine.{ReportLine}
 use Rattle.scenario.specs.Limits.{IsStep}
 use Rattle.scenario.specs.declared.values.Step.{Step}
 use Rattle.scenario_lines.specs.declared.version.Version.{Version}
 
--- what is kept of a run beside the air: what is said of later exchanges, and how many rounds ended
+-- what is kept of a run beside the air: what is said of later exchanges, how many exchanges were made, and how many rounds ended
 pub record RunValue : Type 0 where
   pub entries : List (ℕ × Entry)
+  pub exchanges : ℕ
   pub rounds : ℕ
 
 -- what is said of each exchange names tags that there are
@@ -27,21 +30,26 @@ NamesItsTags start = (exchange : ℕ) → NamesTags (length start.tags) (entry_a
 abbrev pub GivesFewLevels : Start → Type 0
 GivesFewLevels start = (exchange : ℕ) → HasFewLevels (entry_at start.entries exchange).choice
 
--- the air and the run are what a past made of them
-pub record IsAt (start : Start) (past : List Item) (air : AirValue) (run : RunValue) : Type 0 where
+-- how many exchanges there were on an air, so many before a run, and behind so many of the run
+abbrev pub counted_on : ℕ → ℕ → ℕ
+counted_on earlier exchanges = min (earlier + exchanges) last_exchange
+
+-- the air, which had so many exchanges before the run, and the run are what a past made of them
+pub record IsAt (start : Start) (earlier : ℕ) (past : List Item) (air : AirValue) (run : RunValue) : Type 0 where
   pub names : NamesItsTags start
   pub few : GivesFewLevels start
   pub link : air.link ≡ start.link
   pub several : air.several ≡ start.several
   pub tags : air.tags ≡ tags_behind start past
   pub legal : AreLegalTags air.tags
-  pub exchanges : air.exchanges ≡ exchanges_in past
+  pub exchanges : air.exchanges ≡ counted_on earlier (exchanges_in past)
+  pub made : run.exchanges ≡ exchanges_in past
   pub entries : IsLeft run.entries start.entries (exchanges_in past)
   pub rounds : run.rounds ≡ rounds_in past
 
 -- ... and the lines of the past are heard
-pub record StandsAt (Heard : List ReportLine → Type 0) (start : Start) (past : List Item) (air : AirValue) (run : RunValue) : Type 0 where
-  pub at : IsAt start past air run
+pub record StandsAt (Heard : List ReportLine → Type 0) (start : Start) (earlier : ℕ) (past : List Item) (air : AirValue) (run : RunValue) : Type 0 where
+  pub at : IsAt start earlier past air run
   pub told : Heard (lines_behind start past)
 
 -- a step that a scenario of some version may have, where there are so many tags
@@ -68,15 +76,17 @@ most_slots = 70000
 -- the air and the run are what some past made of them
 pub record IsUnderway (more : ℕ) (air : AirValue) (run : RunValue) : Type 0 where
   pub start : Start
+  pub earlier : ℕ
   pub past : List Item
-  pub at : IsAt start past air run
+  pub at : IsAt start earlier past air run
   pub room : HasRoom more past
 
 -- ... between two steps, and so many more steps fit
 pub record IsBetweenSteps (steps : ℕ) (air : AirValue) (run : RunValue) : Type 0 where
   pub start : Start
+  pub earlier : ℕ
   pub past : List Item
-  pub at : IsAt start past air run
+  pub at : IsAt start earlier past air run
   pub room : HasRoom (most_in_round * steps) past
   pub rounds : rounds_in past + steps ≤ 2 ^ 31
 
@@ -87,6 +97,9 @@ pub record IsEndedBy (end : RoundEnd) (past : List Item) : Type 0 where
   pub before : List Item
   pub is : past ≡ ended number end slots ∷ before
 
--- what is told of the last exchange
-abbrev pub last_exchange_lines : AirValue → List ReportLine
-last_exchange_lines air = TxLine air.exchanges air.frame ∷ RxLine air.exchanges air.replies air.stream ∷ []
+-- no operation of this list was begun with the tag that sent some EPC, and some RN16 before it
+pub record IsBegun (run : OpRunValue) (list : OpList) : Type 0 where
+  pub epc : List ℕ
+  pub rn : ℕ
+  pub stands : OpRunStandsFor run list epc rn []
+  pub turns : turns_left list run ≤ 5 * length list.ops + 2

@@ -1,85 +1,47 @@
--- Profile: who said what in an exchange, while it is told.
-use Rattle.std.specs.Prelude.{◌≡◌, ℕ, ◌+◌, ◌-◌, ◌%◌, ◌^◌, min, List, [], ◌∷◌, ◌++◌, length, map, Option, Some, slice_get}
-use Rattle.std.specs.Option.{IsSomeAnd, option_map}
+-- Profile: what is told and heard of an exchange, once it is over.
+use Rattle.std.specs.Prelude.{◌≡◌, ℕ, ◌≤◌, List, length, Some, slice_get}
+use Rattle.std.specs.List.{AllByRecursion}
+use Rattle.std.specs.Option.{IsSomeAnd}
 use Rattle.air_channel.specs.Air.{AirValue}
-use Rattle.air_channel.specs.declared.replies.Giving.{Giving}
-use Rattle.air_channel.specs.declared.replies.Giving.TheVariants as givings
-use Rattle.air_events.specs.declared.Entry.{Entry}
-use Rattle.air_events.specs.declared.Several.{Several}
-use Rattle.pie_line.specs.Link.{LinkValue}
-use Rattle.air_model.specs.Channel.{given_in, heard_levels, wave_for}
-use Rattle.air_world.specs.Telling.{Passes}
+use Rattle.air_model.specs.Channel.{Given, whole, got_of, heard_levels, wave_for}
+use Rattle.air_model.specs.Past.{Record}
+use Rattle.air_model.specs.declared.got.Got.{Got}
 use Rattle.command_grammar.specs.declared.commands.Command.{Command}
-use Rattle.reply_grammar.specs.Table.{AnswersExpected}
-use Rattle.reply_grammar.specs.declared.expected.Reply.{Reply}
-use Rattle.report_lines.specs.ReportLine.{ReportLine, ExchangeLine, MissedLine, GivenLine}
-use Rattle.runs.specs.Said.{answer_line, gave_of}
+use Rattle.pie_line.specs.Link.{LinkValue}
+use Rattle.reply_grammar.specs.Table.{AnswersExpected, longest_reply}
+use Rattle.runs.specs.laws.Replies.{AreReplies}
 use Rattle.tag_machine.specs.Answers.{Sent, bits_sent}
-use Rattle.tag_machine.specs.Exchange.{Replied, replies_in}
-use Rattle.tag_machine.specs.TagValue.{StateValue, TagValue}
+use Rattle.tag_machine.specs.Exchange.{Replied}
+use Rattle.tag_machine.specs.TagValue.{StateValue}
 use Rattle.tag_machine.specs.laws.Replies.{expect_of}
-use Rattle.wave_dump.specs.Exchanged.{Exchanged}
-use Rattle.wave_dump.specs.declared.exchanged.Gave.{Gave}
-use Rattle.wave_dump.specs.declared.exchanged.Gave.TheVariants as gaves
+use Rattle.tag_population.specs.Answers.{AnswerValue, answers_of}
 
 -- what was sent answers the command: its bits are the reply that is expected of a tag in some state
 pub record AnswersCommand (command : Command) (sent : Sent) : Type 0 where
   pub state : StateValue
   pub answers : IsSomeAnd (expect_of command state) (λ expect. AnswersExpected sent.reply expect (bits_sent (Some sent)))
 
--- the tag and the reply of what was answered at a number
-abbrev pub kept_of : ℕ → List Replied → Option (ℕ × Reply)
-kept_of wanted replies = option_map (λ (replied : Replied). (replied.number, replied.sent.reply)) (slice_get replies wanted)
+-- each answer has no more bits than the longest reply
+abbrev pub AreShort : List AnswerValue → Type 0
+AreShort answers = AllByRecursion (λ answer. length answer.bits ≤ longest_reply) answers
 
--- what is given of the answer that was kept, where so many levels came
-abbrev pub gave_by : Giving → Option (ℕ × Reply) → ℕ → Gave
-gave_by (givings.Raw levels) kept count = gaves.Raw
-gave_by givings.Whole (Some answer) count = gaves.Whole answer.0 answer.1
-gave_by (givings.Broken place) (Some answer) count = gaves.Broken answer.0 (place % count)
-gave_by giving kept count = gaves.Silence
+-- no two replies are of one tag
+abbrev pub AreOfDifferentTags : List Replied → Type 0
+AreOfDifferentTags replies =
+    (place other : ℕ) (replied own : Replied) → slice_get replies place ≡ Some replied → slice_get replies other ≡ Some own → replied.number ≡ own.number → replied ≡ own
 
--- how many answers were counted
-abbrev pub counted_of : List Replied → ℕ
-counted_of replies = min (length replies) (2 ^ 64 - 1)
+-- a reply that the channel gives whole is one of these
+abbrev pub IsOneOf : List Replied → Given → Type 0
+IsOneOf replies (whole replied) = (place : ℕ) × (slice_get replies place ≡ Some replied)
+IsOneOf replies given = Unit {0}
 
--- the next exchange of these tags, as it is when it is over
-abbrev pub exchanged_with : LinkValue → Several → Command → Entry → List TagValue → ℕ → Exchanged
-exchanged_with link several command entry tags exchanges = record {
-  number = exchanges + 1;
-  command = command;
-  intervals = wave_for link command;
-  replies = length (replies_in command entry tags);
-  given = gave_of link (given_in link several command entry tags);
-  levels = heard_levels link (given_in link several command entry tags);
-}
-
--- ... on an air
-abbrev pub exchanged_on : AirValue → Command → Entry → Exchanged
-exchanged_on air command entry = exchanged_with air.link air.several command entry air.tags air.exchanges
-
--- the lines of the next exchange of these tags, before its waves
-abbrev pub said_with : LinkValue → Several → Command → Entry → List TagValue → ℕ → List ReportLine
-said_with link several command entry tags exchanges =
-    ExchangeLine (exchanges + 1) command ∷ map (MissedLine (exchanges + 1)) entry.missed
-    ++ (map (answer_line (exchanges + 1)) (replies_in command entry tags) ++ GivenLine (exchanged_with link several command entry tags exchanges) ∷ [])
-
--- ... on an air
-abbrev pub said_of : AirValue → Command → Entry → List ReportLine
-said_of air command entry = said_with air.link air.several command entry air.tags air.exchanges
-
--- while answers are told: to whom, how many there were, and the one of them that the channel may give, with the number of its tag
-pub record AnswersTold (A : Type 0) : Type 0 where
-  pub report : A
-  pub count : ℕ
-  pub kept : Option (ℕ × Reply)
-
--- of which exchange the answers are, and the number of that one which the channel may give
-pub record Asked : Type 0 where
-  pub exchange : ℕ
-  pub wanted : ℕ
-
--- What was said of these answers since none was: each as a line, their number, and the one that the channel may give.
-pub record HasSaid {A : Type 0} (hears : A → List ReportLine → A → Type 0) (asked : Asked) (replies : List Replied) (first : A) (now : AnswersTold A) : Type 0 where
-  pub told : (before : List ReportLine) → Passes hears before first now.report (before ++ map (answer_line asked.exchange) replies)
-  pub counted : now.count ≡ counted_of replies
-  pub kept_is : now.kept ≡ kept_of asked.wanted replies
+-- what stands on an air behind an exchange of which this is the record, and whom the channel gave
+pub record IsBehind (link : LinkValue) (sent : Record) (air : AirValue) (got : Got) : Type 0 where
+  pub link_is : air.link ≡ link
+  pub frame : air.frame ≡ wave_for link sent.command
+  pub answers : air.answers ≡ answers_of sent.replies
+  pub stream : air.stream ≡ heard_levels link sent.given
+  pub got_is : got ≡ got_of link sent.given
+  pub answered : AreReplies (AnswersCommand sent.command) sent.replies
+  pub different : AreOfDifferentTags sent.replies
+  pub one : IsOneOf sent.replies sent.given

@@ -1,5 +1,5 @@
 -- Profile: what a run tells, and who has heard it.
-use Rattle.std.specs.Prelude.{◌≡◌, ◌⊎◌, ℕ, ◌≤◌, List, [], ◌++◌, Option, Some, None, Result, Ok, Err}
+use Rattle.std.specs.Prelude.{◌≡◌, ◌⊎◌, ℕ, ◌≤◌, List, ◌++◌, Option, Some, None, Result, Ok, Err}
 use Rattle.std.specs.Result.{OnErr, OnOk, IsErrOf}
 use Rattle.air_channel.specs.Air.{AirValue}
 use Rattle.air_io.specs.Flow.{Adds, FaultsRose}

@@ -1,5 +1,4 @@
 -- Laws of the definitions.
 pub mod CountingLaws
-pub mod SayingLaws
 pub mod HallLaws
 pub mod ListingLaws

@@ -3,18 +3,21 @@ ghost use Rattle.std.specs.Prelude.{◌≡◌, ◌+◌, ◌≤◌, ◌++◌, ◌
 ghost use Rattle.air_world.specs.Listing.{HearsPairs};
 ghost use Rattle.report_lines.specs.Line.{line_of};
 ghost use Rattle.runs.specs.RoundsTold.{played_of};
-ghost use Rattle.scenario.specs.Limits.{no_operations};
+ghost use Rattle.runs.specs.ScenarioStart.{start_of};
+ghost use Rattle.scenario.specs.Limits.{IsScenario, no_operations};
 ghost use Rattle.tag_machine.specs.Exchange.{AreLegalTags};
 
+use crate::receiving::copy_of;
 use crate::run::Run;
+use crate::start::set_up;
 use access_ops::OpList;
 use air_channel::Air;
 use air_events::{Entry, EntryCursor, LONGEST_STREAM, MOST_TAGS, Several, empty_entry};
 use bit_strings::{Bits, List, OutOfMemory};
 use q_round::{RoundEnd, RoundSpec, round_laws};
-use reply_grammar::EpcWords;
 use report_lines::{Line, Listener, PlayFault};
 use runs::{rounds_go_by_tags, rounds_list_their_tags};
+use scenario::Scenario;
 use std::alloc::Global;
 use std::marker::{Brand, Model};
 use std::sync::ledger::{Blank, Ledger};
@@ -30,12 +33,12 @@ pub struct AirHall {
     air: Air,
     nothing: Entry,
     operations: OpList,
-    /// Room for what is received. It is lent to each round.
-    bits: Option<Bits>,
+    /// Room for what is received, lent to each round.
+    bits: Bits,
 }
 
 impl Model for AirHall {
-    ghost use Rattle.std.specs.Prelude.{◌≡◌, ◌≤◌, List, IsSomeAnd};
+    ghost use Rattle.std.specs.Prelude.{◌≡◌, ◌≤◌, List};
     ghost use Rattle.air_events.specs.Entries.{no_entry};
     ghost use Rattle.air_events.specs.Streams.{longest_stream};
     ghost use Rattle.air_events.specs.declared.Several.TheVariants as severals;
@@ -46,16 +49,19 @@ impl Model for AirHall {
 
     ghost view = { λ a. a.air.tags };
 
-    ghost invariant = { λ a. (a.air.several ≡ severals.Break) × (a.nothing ≡ no_entry) × (a.operations ≡ no_operations) × IsSomeAnd a.bits (λ bits. longest_stream ≤ bits.capacity) };
+    ghost invariant = { λ a. (a.air.several ≡ severals.Break) × (a.nothing ≡ no_entry) × (a.operations ≡ no_operations) × (longest_stream ≤ a.bits.capacity) };
 }
 
 impl AirHall {
-    /// The tags of this air, on which the channel breaks the first of several replies.
-    pub fn new(alloc: Global, air: Air) -> Result<AirHall, OutOfMemory>
-        requires { air.several ≡ Several.Break }
-        ensures { IfOk result (λ hall. hall ≡ air.tags) }
+    /// The tags of a scenario, as they are at its start.
+    pub fn new(alloc: Global, scenario: &Scenario) -> Result<AirHall, OutOfMemory>
+        requires scenario { IsScenario scenario.now }
+        requires breaks { scenario.now.several ≡ Several.Break }
+        ensures { IfOk result (λ hall. hall ≡ (start_of scenario.now).tags) }
     {
+        // An air is dropped with its hall alone: all else that may fail comes first.
         let bits = Bits::new(alloc, LONGEST_STREAM)?;
+        let air = set_up(alloc, scenario)?;
         Ok(AirHall {
             air,
             nothing: empty_entry(alloc),
@@ -63,7 +69,7 @@ impl AirHall {
                 only: None,
                 ops: List::new(Vec::new(alloc)),
             },
-            bits: Some(bits),
+            bits,
         })
     }
 
@@ -78,14 +84,10 @@ impl AirHall {
         ensures tags { self.new ≡ (played_of self.old spec.now).tags }
     {
         prove!(self.air.len() <= u32::from(MOST_TAGS));
-        let Some(bits) = self.bits.take() else {
-            unreachable!();
-        };
-        self.air.count_anew();
         let entries = EntryCursor::new(&[], &self.nothing);
-        let mut run = Run::<L>::new(entries, Steps::new(blank), bits);
+        let mut run = Run::<L>::new(entries, Steps::new(blank), self.bits.take());
         let end = hear_round(&mut run, &mut self.air, spec, &self.operations, heard);
-        self.bits = Some(run.into_bits());
+        self.bits = run.into_bits();
         end
     }
 }
@@ -120,10 +122,9 @@ fn hear_round<'a, L: Ledger>(
     operations: &OpList,
     heard: &mut Pairs,
 ) -> RoundEnd
-    requires run { run.old ≡ record { entries = []; rounds = 0 } }
+    requires run { run.old ≡ record { entries = []; exchanges = 0; rounds = 0 } }
     requires several { air.old.several ≡ Several.Break }
     requires legal { AreLegalTags air.old.tags }
-    requires fresh { air.old.exchanges ≡ 0 }
     requires operations { operations.now ≡ no_operations }
     requires room { length heard.old.items + length air.old.tags ≤ heard.old.capacity }
     ensures pairs { heard.new ≡ record heard.old { items = heard.old.items ++ (played_of air.old.tags spec.now).pairs } }
@@ -135,6 +136,7 @@ fn hear_round<'a, L: Ledger>(
     rounds_go_by_tags();
     rounds_list_their_tags();
     prove!(spec.limit() <= 70000);
+    prove!(air.exchanges() <= u64::MAX);
     let mut listener = PairListener { heard };
     match run.play_round(air, spec, operations, &mut listener) {
         Ok(end) => end,
@@ -188,15 +190,4 @@ impl<'h> Listener for PairListener<'h> {
     }
 
     ghost nothing = { λ listener. (refl, hears-no-pair listener.heard.now) };
-}
-
-/// A copy of the words of an EPC.
-fn copy_of(epc: &EpcWords) -> EpcWords
-    ensures { result ≡ epc.now }
-{
-    let mut copy = EpcWords::new();
-    for word in epc.as_slice() {
-        copy.push_reserved(*word);
-    }
-    copy
 }

@@ -10,6 +10,7 @@ mod seen;
 mod start;
 mod summary;
 
+pub use air_channel::Air;
 pub use hall::AirHall;
 pub use playing::play;
 pub use portals::compare_portals;

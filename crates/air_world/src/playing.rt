@@ -21,6 +21,7 @@ use air_channel::Air;
 use air_events::{EntryCursor, LONGEST_STREAM, MOST_TAGS, empty_entry};
 use air_io::Sink;
 use bit_strings::Bits;
+use q_round::round_laws;
 use report_lines::{Listener, Mode, ModeSpelling, PlayFault, SeenCounts, TextReport};
 use runs::{headline, rounds_are_complete};
 use scenario::Scenario;
@@ -124,6 +125,7 @@ fn tell_run<L: Ledger, R: Listener>(
     ensures { Ends result (IsPlayed R.hears R.failed scenario.now report.old report.new air.new)
         (IsCutShort R.hears R.failed report.old report.new (run_lines (start_of scenario.now) scenario.now.steps)) }
 {
+    round_laws();
     prove!(air.len() <= u32::from(MOST_TAGS));
     let empty = empty_entry(alloc);
     let bits = Bits::new(alloc, LONGEST_STREAM)?;
@@ -145,9 +147,9 @@ fn tell_steps<'a, L: Ledger, R: Listener>(
 ) -> Result<(), PlayFault>
     requires scenario { IsScenario scenario.now }
     requires fresh { air.old ≡ new_air (start_of scenario.now) }
-    requires at { IsAt (start_of scenario.now) [] air.old run.old }
+    requires at { IsAt (start_of scenario.now) 0 [] air.old run.old }
     requires none { seen.old ≡ [] }
-    ensures ends { Ends result (StandsAt (λ lines. R.hears report.old lines report.new) (start_of scenario.now) (history scenario.now) air.new run.new)
+    ensures ends { Ends result (StandsAt (λ lines. R.hears report.old lines report.new) (start_of scenario.now) 0 (history scenario.now) air.new run.new)
         (IsCutShort R.hears R.failed report.old report.new (lines_behind (start_of scenario.now) (history scenario.now))) }
     ensures seen { OnOk result (seen.new ≡ seen_in (pairs_in (history scenario.now))) }
 {
@@ -164,8 +166,8 @@ fn tell_to_last_step<'a, L: Ledger, R: Listener>(
 ) -> Result<(), PlayFault>
     requires scenario { IsScenario scenario.now }
     requires fresh { air.old ≡ new_air (start_of scenario.now) }
-    requires at { IsAt (start_of scenario.now) [] air.old run.old }
-    ensures ends { Ends result (StandsAt (Passes R.hears [] report.old report.new) (start_of scenario.now) (history scenario.now) air.new run.new)
+    requires at { IsAt (start_of scenario.now) 0 [] air.old run.old }
+    ensures ends { Ends result (StandsAt (Passes R.hears [] report.old report.new) (start_of scenario.now) 0 (history scenario.now) air.new run.new)
         (IsCutOff R.hears R.failed [] report.old report.new (lines_behind (start_of scenario.now) (history scenario.now))) }
     ensures faultless { OnOk result (R.failed report.new ≡ None) }
 {

@@ -1,12 +1,9 @@
 //! Two portals over one scenario.
 ghost use Rattle.std.specs.Prelude.{◌≡◌, IfOk};
 ghost use Rattle.runs.specs.Portals.{IsOfPortals, portals_told, specs_of};
-ghost use Rattle.runs.specs.ScenarioStart.{start_of};
 ghost use Rattle.scenario.specs.Limits.{IsScenario};
 
 use crate::hall::AirHall;
-use crate::start::set_up;
-use air_events::Several;
 use bit_strings::OutOfMemory;
 use q_round::RoundSpec;
 use runs::portal_rounds_are_played;
@@ -31,18 +28,8 @@ pub fn compare_portals(
     ensures { IfOk result (λ lines. lines.items ≡ portals_told scenario.now) }
 {
     portal_rounds_are_played();
-    let joint = new_hall(alloc, scenario)?;
-    let alone2 = new_hall(alloc, scenario)?;
-    let alone3 = new_hall(alloc, scenario)?;
+    let joint = AirHall::new(alloc, scenario)?;
+    let alone2 = AirHall::new(alloc, scenario)?;
+    let alone3 = AirHall::new(alloc, scenario)?;
     compare(alloc, joint, alone2, alone3, specs)
-}
-
-/// A hall of the tags of a scenario, as they are at its start.
-fn new_hall(alloc: Global, scenario: &Scenario) -> Result<AirHall, OutOfMemory>
-    requires scenario { IsScenario scenario.now }
-    requires breaks { scenario.now.several ≡ Several.Break }
-    ensures { IfOk result (λ hall. hall ≡ (start_of scenario.now).tags) }
-{
-    let air = set_up(alloc, scenario)?;
-    AirHall::new(alloc, air)
 }

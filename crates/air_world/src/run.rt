@@ -1,51 +1,53 @@
 //! A run that is under way.
-ghost use Rattle.std.specs.Prelude.{◌≡◌, ℕ, ◌+◌, ◌≤◌, ◌++◌, ◌||◌, length, List, [], ◌∷◌, Some, None, OnOk, IfErr, IfOk};
-ghost use Rattle.access_ops.specs.declared.op_next.Answer.TheVariants.{Got as GotAnswer};
-ghost use Rattle.air_model.specs.Channel.{got_of, heard_levels};
-ghost use Rattle.air_model.specs.Past.{Item, Start, next_record, past_behind_command};
-ghost use Rattle.reply_wire.specs.Heard.{rn16_received, pair_received};
+ghost use Rattle.std.specs.Prelude.{◌≡◌, ℕ, ◌+◌, ◌≤◌, ◌++◌, length, List, [], ◌∷◌, Some, None, OnOk, IfErr, IfOk};
 ghost use Rattle.air_events.specs.Streams.{longest_stream};
-ghost use Rattle.air_world.specs.Playing.{IsAt, StandsAt, IsBetweenSteps, IsEndedBy, IsUnderway, last_exchange_lines, most_in_slot};
+ghost use Rattle.air_model.specs.Past.{Item, Start, next_record, past_behind_command};
+ghost use Rattle.air_world.specs.Playing.{IsAt, StandsAt, IsBetweenSteps, IsEndedBy, IsUnderway, most_in_slot};
+ghost use Rattle.air_world.specs.Saying.{IsBehind};
 ghost use Rattle.air_world.specs.Telling.{Ends, IsCutOff, Passes, lines_behind};
-ghost use Rattle.runs.specs.Report.{exchange_lines};
 ghost use Rattle.line_codes.specs.Codes.{table_of};
 ghost use Rattle.reply_grammar.specs.Reception.{reception_from};
 ghost use Rattle.reply_grammar.specs.declared.expected.Received.{Received};
+ghost use Rattle.reply_wire.specs.Heard.{pair_received, rn16_received};
 ghost use Rattle.reply_wire.specs.Received.{IsReceived};
 ghost use Rattle.report_lines.specs.ReportLine.{ReportLine, ListLine, RoundLine};
 ghost use Rattle.runs.specs.History.{outcome_of, past_behind_ack, past_behind_round, past_behind_slot, slot_reception};
 ghost use Rattle.runs.specs.NextItem.{expectation_of};
+ghost use Rattle.runs.specs.Report.{exchange_lines};
 
 mod operating;
 mod report;
 mod saying;
 mod steps;
 
-use crate::receiving::receive_last;
-use access_ops::{Answer, OpList};
+use crate::receiving::{copy_of, receive_last};
+use access_ops::{OpList, OpRun};
 use air_channel::{Air, Got};
-use air_events::{Entry, EntryCursor};
+use air_events::EntryCursor;
 use bit_strings::Bits;
 use command_grammar::Command;
 use q_round::{Outcome, Round, RoundEnd, RoundSpec, round_laws};
-use reply_grammar::{EpcWords, Expect};
-use reply_wire::{receive_epc, receive_rn16};
+use reply_grammar::{EpcWords, Expect, Received, Reply};
 pub(crate) use report::tell_link;
 use report_lines::{Line, Listener, PlayFault};
-use saying::say;
+use saying::{tell_said, tell_waves};
 use std::marker::Model;
 use std::sync::ledger::Ledger;
 use tag_machine::{Steps, answers_are_replies, steps_keep_tags_legal};
 
 /// What is kept of a run beside the air. What it tells, it tells a listener.
 ///
-/// A contract sees it as a record of what is said of later exchanges and the number of rounds.
+/// A contract sees it as a record of what is said of later exchanges, and the numbers of exchanges and of rounds.
 #[derive(Drop)]
 pub(crate) struct Run<'a, L: Ledger> {
     entries: EntryCursor<'a>,
+    exchanges: u64,
     rounds: u32,
     steps: Steps<L>,
     bits: Bits,
+    /// What is received where an RN16 is expected, and where an EPC is.
+    rn16: Received,
+    epc: Received,
 }
 
 impl<'a, L: Ledger> Model for Run<'a, L> {
@@ -55,7 +57,7 @@ impl<'a, L: Ledger> Model for Run<'a, L> {
 
     ghost Value = { RunValue };
 
-    ghost view = { λ a. record { entries = a.entries; rounds = a.rounds } };
+    ghost view = { λ a. record { entries = a.entries; exchanges = a.exchanges; rounds = a.rounds } };
 
     ghost invariant = { λ a. longest_stream ≤ a.bits.capacity };
 }
@@ -64,13 +66,16 @@ impl<'a, L: Ledger> Run<'a, L> {
     /// Begins a run on these entries: no exchange was made. The bits are room for what is received.
     pub(crate) fn new(entries: EntryCursor<'a>, steps: Steps<L>, bits: Bits) -> Run<'a, L>
         requires { longest_stream ≤ bits.capacity }
-        ensures { result ≡ record { entries = entries.entry; rounds = 0 } }
+        ensures { result ≡ record { entries = entries.entry; exchanges = 0; rounds = 0 } }
     {
         Run {
             entries,
+            exchanges: 0,
             rounds: 0,
             steps,
             bits,
+            rn16: Received::Refused(0),
+            epc: Received::Refused(0),
         }
     }
 
@@ -81,50 +86,51 @@ impl<'a, L: Ledger> Run<'a, L> {
         self.bits
     }
 
-    /// Sends a command, in one exchange, and tells of it.
+    /// Sends a command, in one exchange, tells of it, and says whom the channel gave.
     fn send<R: Listener>(&mut self, air: &mut Air, command: &Command, report: &mut R) -> Got
         requires { IsUnderway 1 air.old self.old }
-        ensures plays { (start : Start) (past : List Item) (round slot : ℕ) → IsAt start past air.old self.old
-            → IsAt start (past_behind_command start round slot command.now past) air.new self.new }
-        ensures rest { self.new ≡ record self.old { entries = self.new.entries } }
-        ensures stream { (start : Start) (past : List Item) (round slot : ℕ) → IsAt start past air.old self.old
-            → air.new.stream ≡ heard_levels start.link (next_record start round slot command.now past).given }
-        ensures got { (start : Start) (past : List Item) (round slot : ℕ) → IsAt start past air.old self.old
-            → result ≡ got_of (next_record start round slot command.now past).given }
-        ensures told { (start : Start) (past : List Item) (round slot : ℕ) (before : List ReportLine) → IsAt start past air.old self.old
+        ensures plays { (start : Start) (earlier : ℕ) (past : List Item) (round slot : ℕ) → IsAt start earlier past air.old self.old
+            → IsAt start earlier (past_behind_command start round slot command.now past) air.new self.new }
+        ensures behind { (start : Start) (earlier : ℕ) (past : List Item) (round slot : ℕ) → IsAt start earlier past air.old self.old
+            → IsBehind start.link (next_record start round slot command.now past) air.new result }
+        ensures told { (start : Start) (earlier : ℕ) (past : List Item) (round slot : ℕ) (before : List ReportLine) → IsAt start earlier past air.old self.old
             → Passes R.hears before report.old report.new (before ++ exchange_lines start.link (next_record start round slot command.now past)) }
     {
-        let entry = self.entries.next_entry(air.exchanges() + 1);
-        let got = say(air, command, entry, &mut self.steps, report);
-        tell_exchange(air, report);
+        answers_are_replies();
+        steps_keep_tags_legal();
+        self.exchanges += 1;
+        let exchange = self.exchanges;
+        let entry = self.entries.next_entry(exchange);
+        let got = air.exchange(command, entry, &mut self.steps);
+        tell_said(air, got, exchange, command, entry, &mut self.bits, report);
+        tell_waves(air, exchange, report);
         got
     }
 
     /// The RN16 of the stream that came last, if it comes whole.
     fn hear_rn16(&mut self, air: &Air) -> Option<u16>
         ensures same { self.new ≡ self.old }
-        ensures received { (received : Received) × IsReceived (table_of air.now.link.code) air.now.link.trext Expect.Rn16 air.now.stream received × (result ≡ rn16_received (reception_from received)) }
+        ensures received { (received : Received) × IsReceived (table_of air.now.link.code) air.now.link.trext Expect.Rn16 air.now.stream received
+            × (result ≡ rn16_received (reception_from received)) }
     {
-        let link = air.link();
-        receive_rn16(air.stream(), link.code(), link.trext(), &mut self.bits)
+        receive_last(air, &Expect::Rn16, false, &mut self.bits, &mut self.rn16);
+        match self.rn16 {
+            Received::Whole(Reply::Rn16(rn)) => Some(rn),
+            _ => None,
+        }
     }
 
     /// The PC and the EPC of the stream that came last, if they come whole.
     fn hear_epc(&mut self, air: &Air) -> Option<(u16, EpcWords)>
         ensures same { self.new ≡ self.old }
-        ensures received { (received : Received) × IsReceived (table_of air.now.link.code) air.now.link.trext Expect.Epc air.now.stream received × (result ≡ pair_received (reception_from received)) }
+        ensures received { (received : Received) × IsReceived (table_of air.now.link.code) air.now.link.trext Expect.Epc air.now.stream received
+            × (result ≡ pair_received (reception_from received)) }
     {
-        let link = air.link();
-        receive_epc(air.stream(), link.code(), link.trext(), &mut self.bits)
-    }
-
-    /// Gives what is received of the stream that came last, with the extended preamble or by the TRext of the link, as what is
-    /// heard.
-    fn hear(&mut self, air: &Air, expect: &Expect, extended: bool, answer: &mut Answer)
-        ensures same { self.new ≡ self.old }
-        ensures received { (received : Received) × (answer.new ≡ GotAnswer received) × IsReceived (table_of air.now.link.code) (extended || air.now.link.trext) expect.now air.now.stream received }
-    {
-        receive_last(air, expect, extended, &mut self.bits, answer)
+        receive_last(air, &Expect::Epc, false, &mut self.bits, &mut self.epc);
+        match &self.epc {
+            Received::Whole(Reply::Epc { pc, epc }) => Some((*pc, copy_of(epc))),
+            _ => None,
+        }
     }
 
     /// Plays a round, and says how it ended.
@@ -137,10 +143,10 @@ impl<'a, L: Ledger> Run<'a, L> {
     ) -> Result<RoundEnd, PlayFault>
         requires between { IsBetweenSteps 1 air.old self.old }
         requires few { length operations.now.ops ≤ 32 }
-        ensures ends { (start : Start) (past : List Item) → IsAt start past air.old self.old
-            → Ends result (StandsAt (Passes R.hears (lines_behind start past) report.old report.new) start (past_behind_round start operations.now spec.now past) air.new self.new)
+        ensures ends { (start : Start) (earlier : ℕ) (past : List Item) → IsAt start earlier past air.old self.old
+            → Ends result (StandsAt (Passes R.hears (lines_behind start past) report.old report.new) start earlier (past_behind_round start operations.now spec.now past) air.new self.new)
             (IsCutOff R.hears R.failed (lines_behind start past) report.old report.new (lines_behind start (past_behind_round start operations.now spec.now past))) }
-        ensures end { (start : Start) (past : List Item) → IsAt start past air.old self.old
+        ensures end { (start : Start) (earlier : ℕ) (past : List Item) → IsAt start earlier past air.old self.old
             → IfOk result (λ end. IsEndedBy end (past_behind_round start operations.now spec.now past)) }
     {
         round_laws();
@@ -151,7 +157,7 @@ impl<'a, L: Ledger> Run<'a, L> {
             let slot = round.slots_sent();
             let outcome = self.play_slot(air, number, slot, &command, operations, report);
             check(report)?;
-            if let Some(end) = round.next_to(outcome, &mut command) {
+            if let Some(end) = round.next(outcome, &mut command) {
                 self.end_round(number, end, slot, report);
                 return Ok(end);
             }
@@ -185,16 +191,16 @@ impl<'a, L: Ledger> Run<'a, L> {
         requires underway { IsUnderway most_in_slot air.old self.old }
         requires few { length operations.now.ops ≤ 32 }
         requires expects { expectation_of command.now ≡ Some Expect.Rn16 }
-        ensures stands { (start : Start) (past : List Item) → IsAt start past air.old self.old
-            → StandsAt (Passes R.hears (lines_behind start past) report.old report.new) start (past_behind_slot start operations.now round slot command.now past) air.new self.new }
-        ensures outcome { (start : Start) (past : List Item) → IsAt start past air.old self.old
+        ensures stands { (start : Start) (earlier : ℕ) (past : List Item) → IsAt start earlier past air.old self.old
+            → StandsAt (Passes R.hears (lines_behind start past) report.old report.new) start earlier (past_behind_slot start operations.now round slot command.now past) air.new self.new }
+        ensures outcome { (start : Start) (earlier : ℕ) (past : List Item) → IsAt start earlier past air.old self.old
             → result ≡ outcome_of (slot_reception start round slot command.now past) }
     {
         answers_are_replies();
         steps_keep_tags_legal();
         match self.send(air, command, report) {
             Got::Silence => Outcome::Silence,
-            Got::Stream => match self.hear_rn16(air) {
+            _ => match self.hear_rn16(air) {
                 None => Outcome::Refused,
                 Some(rn) => {
                     self.acknowledge(air, round, slot, rn, operations, report);
@@ -216,23 +222,19 @@ impl<'a, L: Ledger> Run<'a, L> {
     )
         requires underway { IsUnderway 130 air.old self.old }
         requires few { length operations.now.ops ≤ 32 }
-        ensures { (start : Start) (past : List Item) → IsAt start past air.old self.old
-            → StandsAt (Passes R.hears (lines_behind start past) report.old report.new) start (past_behind_ack start operations.now round slot rn past) air.new self.new }
+        ensures { (start : Start) (earlier : ℕ) (past : List Item) → IsAt start earlier past air.old self.old
+            → StandsAt (Passes R.hears (lines_behind start past) report.old report.new) start earlier (past_behind_ack start operations.now round slot rn past) air.new self.new }
     {
         answers_are_replies();
         steps_keep_tags_legal();
-        let ack = Command::Ack { rn };
-        match self.send(air, &ack, report) {
+        match self.send(air, &Command::Ack { rn }, report) {
             Got::Silence => {}
-            Got::Stream => match self.hear_epc(air) {
+            _ => match self.hear_epc(air) {
                 None => {}
                 Some((pc, epc)) => {
                     tell_listed(round, slot, pc, &epc, report);
-                    // Most rounds have no operations.
-                    if operations.ops.is_empty() {
-                        return;
-                    }
-                    self.operate(air, round, slot, operations, &epc, rn, report);
+                    let run = OpRun::start(operations, &epc, rn);
+                    self.operate(air, round, slot, operations, run, report);
                 }
             },
         }
@@ -259,23 +261,5 @@ fn tell_listed<R: Listener>(round: u32, slot: u32, pc: u16, epc: &EpcWords, repo
         slot,
         pc,
         epc,
-    });
-}
-
-/// Tells of the last exchange: the frame that was sent, and the stream that came.
-fn tell_exchange<R: Listener>(air: &Air, report: &mut R)
-    ensures { (before : List ReportLine) → Passes R.hears before report.old report.new (before ++ last_exchange_lines air.now) }
-{
-    if !report.wants_frames() {
-        return;
-    }
-    report.tell(&Line::Tx {
-        exchange: air.exchanges(),
-        intervals: air.intervals().as_slice(),
-    });
-    report.tell(&Line::Rx {
-        exchange: air.exchanges(),
-        count: air.replies(),
-        levels: air.stream().as_slice(),
     });
 }

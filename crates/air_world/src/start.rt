@@ -10,7 +10,6 @@ ghost use Rattle.tag_memory.specs.Image.{banks_of};
 
 use air_channel::{Air, Population};
 use bit_strings::OutOfMemory;
-use command_fields::Bank;
 use scenario::{Scenario, TagGroup, TagSpec};
 use session_flags::DrawWords;
 use std::alloc::Global;
@@ -34,8 +33,7 @@ fn raised(word: u16, by: u32) -> u16
     (sum % 65_536) as u16
 }
 
-/// The memory of the copy of this number of a tag. The words that the number raises are raised where they stand, before StoredCRC is
-/// computed, so that no memory is taken but that of the copy's own banks.
+/// The memory of the copy of this number of a tag: the last word of the EPC and the last of TID are raised by the number.
 fn memory_of_copy(alloc: Global, spec: &TagSpec, number: u32) -> Result<Memory, OutOfMemory>
     requires tag { IsTag spec.now }
     requires epc { 1 ≤ epc_length spec.now }
@@ -44,17 +42,9 @@ fn memory_of_copy(alloc: Global, spec: &TagSpec, number: u32) -> Result<Memory, 
     let epc = spec.image.epc.as_slice();
     let tid = spec.image.tid.as_slice();
     // The EPC stands behind PC, whose first five bits give the number of its words (6.3.2.1.2.2).
-    let last_of_epc = usize::from(epc[0] >> 11);
-    let last_of_tid = tid.len() - 1;
-    let mut memory = Memory::without_crc(alloc, &spec.image)?;
-    // In the bank the word stands a place further on, behind StoredCRC.
-    memory.put(
-        Bank::Epc,
-        1 + last_of_epc,
-        &[raised(epc[last_of_epc], number)],
-    );
-    memory.put(Bank::Tid, last_of_tid, &[raised(tid[last_of_tid], number)]);
-    memory.power_on();
+    let last_of_epc = raised(epc[usize::from(epc[0] >> 11)], number);
+    let last_of_tid = raised(tid[tid.len() - 1], number);
+    let memory = Memory::with_last_words(alloc, &spec.image, last_of_epc, last_of_tid)?;
     Ok(memory)
 }
 

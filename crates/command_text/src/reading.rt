@@ -1,7 +1,8 @@
 //! Commands, read from the fields of a line. Nothing here takes memory.
-ghost use Rattle.std.specs.Prelude.{◌≡◌, IsSome, IfNone, IfOk, IfErr, IsOk, IsOkAnd};
+ghost use Rattle.std.specs.Prelude.{◌≡◌, IsSome, IfNone, IfOk, IfErr, IsOk, IsOkAnd, OnErr};
 ghost use Rattle.text_fields.specs.NamedFields.{AreFilled};
 ghost use Rattle.command_grammar.specs.declared.commands.Command.{Command};
+ghost use Rattle.command_grammar.specs.declared.commands.Command.TheVariants.{Nak};
 ghost use Rattle.command_text.specs.CommandText.{IsCommandBehind, IsCommandText, IsFaultyCommand, command_field_count};
 
 mod access;
@@ -73,11 +74,28 @@ fn read_behind_to(kind: CommandKind, fields: Fields, command: &mut Command) -> O
 ///
 /// The first reason for which the fields spell no command: [`FieldsFault::Word`] where the first field is
 /// the name of none; [`FieldsFault::Shape`] where there is no field, or the number of those behind the name
-/// is wrong or one is empty; [`FieldsFault::Number`] where one isn't of its form or in its range.
-pub fn read_command_to(mut fields: Fields, command: &mut Command) -> Result<(), FieldsFault>
+/// is wrong or one is empty; [`FieldsFault::Number`] where one isn't of its form or in its range. After a refusal the room is
+/// empty: it has the command without fields.
+pub fn read_command_to(fields: Fields, command: &mut Command) -> Result<(), FieldsFault>
     // What is read is spelled so.
     ensures ok { IsOk result → IsCommandText fields.entry command.new }
     // What is spelled so is read.
+    ensures only { (spelled : Command) → IsCommandText fields.entry spelled → IsOk result × (command.new ≡ spelled) }
+    ensures refused { IfErr result (IsFaultyCommand fields.entry) }
+    ensures err { OnErr result (command.new ≡ Nak) }
+{
+    match read_named_to(fields, command) {
+        Ok(()) => Ok(()),
+        Err(fault) => {
+            *command = Command::Nak;
+            Err(fault)
+        }
+    }
+}
+
+/// Puts in place of another the command that fields spell; after a refusal some of it may stand there.
+fn read_named_to(mut fields: Fields, command: &mut Command) -> Result<(), FieldsFault>
+    ensures ok { IsOk result → IsCommandText fields.entry command.new }
     ensures only { (spelled : Command) → IsCommandText fields.entry spelled → IsOk result × (command.new ≡ spelled) }
     ensures refused { IfErr result (IsFaultyCommand fields.entry) }
 {

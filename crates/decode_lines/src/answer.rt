@@ -27,7 +27,7 @@ use pie_line::{FrameKind, Intervals, PieRefusal, decode_frame};
 use pie_text::{Numbers, push_frame, push_pie_refusal};
 use reply_grammar::{Expect, Received, Reply, ReplyRefusal, decode_reply};
 use reply_text::{push_reply, push_reply_refusal};
-use reply_wire::receive_to;
+use reply_wire::receive;
 use sample_slicer::{SliceRefusal, slice_levels};
 use sgtin_text::{push_epc_fault, push_name, push_sgtin_words, push_uri_fault};
 use std::alloc::Global;
@@ -261,7 +261,7 @@ impl Rooms {
         ensures { OnOk result (AddsAnswer (Request.Heard code trext expect.now levels.now) (string_bytes text.old) (string_bytes text.new)) }
     {
         levels.copy_to(&mut self.levels);
-        receive_to(
+        receive(
             &self.levels,
             code,
             trext,
@@ -306,7 +306,7 @@ fn read_samples(samples: &HexBytes, out: &mut Vec<u8>) -> Result<(), OutOfMemory
     ensures { OnOk result (out.new.items ≡ samples.now) }
 {
     out.resize(samples.len() as usize, 0)?;
-    samples.decode_to(out);
+    samples.write_to(out);
     Ok(())
 }
 

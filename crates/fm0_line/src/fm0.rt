@@ -171,15 +171,6 @@ impl LineCode for Fm0 {
         &SYMBOLS[first as usize][bit as usize]
     }
 
-    fn block_bit(mark: SymbolBefore, levels: &[bool]) -> Option<bool> {
-        // The second level of a symbol may be either, and tells its bit.
-        if levels[0] == mark.last_level {
-            None
-        } else {
-            Some(levels[0] == levels[1])
-        }
-    }
-
     fn four_blocks(mark: SymbolBefore, number: u16) -> (&'static [bool], SymbolBefore) {
         let levels = four_symbols(mark.last_level, number);
         let last = SymbolBefore {
@@ -187,28 +178,6 @@ impl LineCode for Fm0 {
             last_level: levels[7],
         };
         (levels, last)
-    }
-
-    fn four_bits(mark: SymbolBefore, levels: &[bool]) -> Option<([bool; 4], SymbolBefore)> {
-        // Each symbol begins with an inversion.
-        let inverts = (levels[0] != mark.last_level)
-            & (levels[2] != levels[1])
-            & (levels[4] != levels[3])
-            & (levels[6] != levels[5]);
-        if !inverts {
-            return None;
-        }
-        let bits = [
-            levels[0] == levels[1],
-            levels[2] == levels[3],
-            levels[4] == levels[5],
-            levels[6] == levels[7],
-        ];
-        let last = SymbolBefore {
-            bit: bits[3],
-            last_level: levels[7],
-        };
-        Some((bits, last))
     }
 
     fn sixteen_bits(mark: SymbolBefore, levels: &[bool]) -> Option<([bool; 16], SymbolBefore)> {

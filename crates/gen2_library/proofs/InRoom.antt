@@ -134,6 +134,21 @@ ends-so a leaves wanted ended = elim (cases_lt (length a.old) (length a.written)
   ]
 ]
 
+-- where a text is longer than the room, and it was written whole unless a write failed or memory ran out, there was no room or no memory
+pub longer-ends : (a : Call) → Leaves a → (text : List ℕ) → length a.old < length text → (a.written ≡ text) ⊎ (a.status ≡ WriteFault) ⊎ (a.status ≡ OutOfMemory)
+    → (a.result ≡ WriteFault) ⊎ (a.result ≡ OutOfMemory)
+longer-ends a leaves text many ended = elim (cases_lt (length a.old) (length a.written)) [
+  | inl over ↦ inl (leaves.longer over)
+  | inr few ↦ elim (fault-or-other a.status) [
+    | inl fault ↦ inr (leaves.no_memory few fault)
+    | inr other ↦ elim ended [
+      | inl is ↦ absurd (omega (arith, few, many, ap length is))
+      | inr (inl is) ↦ absurd (other is)
+      | inr (inr is) ↦ inr (leaves.same few other ∙ is)
+    ]
+  ]
+]
+
 -- what stands behind the bytes that were copied stays
 pub behind : (a : Call) → Leaves a → drop a.count a.new ≡ drop a.count a.old
 behind a leaves =

@@ -81,3 +81,25 @@ completes BadWords words read long bad = absurd (words refl)
 completes ReadFault words read long bad = absurd (read refl)
 completes TooLong words read long bad = absurd (long refl)
 completes BadInput words read long bad = absurd (bad refl)
+
+-- an input that is refused is not done, so that the others come
+pub refuses : (status : Status) → (status ≡ BadWords → ⊥) → (status ≡ ReadFault → ⊥) → (status ≡ TooLong → ⊥) → (status ≡ Done → ⊥)
+    → (status ≡ BadInput) ⊎ (status ≡ WriteFault) ⊎ (status ≡ OutOfMemory)
+refuses BadInput words read long done = inl refl
+refuses WriteFault words read long done = inr (inl refl)
+refuses OutOfMemory words read long done = inr (inr refl)
+refuses BadWords words read long done = absurd (words refl)
+refuses ReadFault words read long done = absurd (read refl)
+refuses TooLong words read long done = absurd (long refl)
+refuses Done words read long done = absurd (done refl)
+
+-- where a text was written whole, it is the one that is defined
+pub wrote-whole : (written text : List ℕ) (status : Status) → (status ≡ BadWords → ⊥) → (status ≡ ReadFault → ⊥) → (status ≡ TooLong → ⊥) → (status ≡ Done → written ≡ text)
+    → (status ≡ BadInput → written ≡ text) → (written ≡ text) ⊎ (status ≡ WriteFault) ⊎ (status ≡ OutOfMemory)
+wrote-whole written text Done words read long done bad = inl (done refl)
+wrote-whole written text BadInput words read long done bad = inl (bad refl)
+wrote-whole written text WriteFault words read long done bad = inr (inl refl)
+wrote-whole written text OutOfMemory words read long done bad = inr (inr refl)
+wrote-whole written text BadWords words read long done bad = absurd (words refl)
+wrote-whole written text ReadFault words read long done bad = absurd (read refl)
+wrote-whole written text TooLong words read long done bad = absurd (long refl)

@@ -4,9 +4,10 @@ use Rattle.std.specs.Str.{IsUtf8}
 use Rattle.text_fields.specs.Lines.{fields_of}
 use Rattle.top_call.specs.Job.{Job}
 
--- the bytes written, and how many writes failed
+-- the bytes written, for how many bytes there is room, of which one more is taken, and how many writes failed
 pub record RoomValue : Type 0 where
   pub written : List ℕ
+  pub room : ℕ
   pub faults : ℕ
 
 -- a word of the text isn't UTF-8

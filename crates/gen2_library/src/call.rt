@@ -1,5 +1,5 @@
 //! The program over memory: an input that is there, and room for its output.
-ghost use Rattle.std.specs.Prelude.{◌≡◌, ◌≢◌, ◌⊎◌, ℕ, ◌≤◌, ◌<◌, true, false, [], length};
+ghost use Rattle.std.specs.Prelude.{◌≡◌, ◌≢◌, ◌⊎◌, ℕ, ◌≤◌, ◌<◌, true, false, List, [], length};
 ghost use Rattle.gen2_library.specs.Called.{input_of, IsFront};
 ghost use Rattle.report_lines.specs.declared.mode.Mode.{Mode};
 ghost use Rattle.top_call.specs.Form.{texts, AskFor, HasForm};
@@ -14,7 +14,7 @@ ghost use Rattle.top_call.specs.words.Reported.{SaysHeadline, SaysInventory};
 use crate::room::Room;
 use air_io::SureSource;
 use std::alloc::Global;
-use top_call::{Status, gen2run, grammatical_inputs_are_not_refused};
+use top_call::{Status, gen2run, grammatical_inputs_are_not_refused, inputs_have_one_text};
 
 /// Does what the words ask for with this input, over a sink that has nothing yet.
 pub fn run_over(alloc: Global, words: &[String], input: Vec<u8>, sink: &mut Room) -> Status
@@ -48,11 +48,19 @@ pub fn run_over(alloc: Global, words: &[String], input: Vec<u8>, sink: &mut Room
     ensures complete { (form : Form) → AskFor (texts words.now) form → length input.items ≤ input_limit
         → (job_of form).allows (input_of (job_of form) input.items)
         → (result ≡ Status.Done) ⊎ (result ≡ Status.WriteFault) ⊎ (result ≡ Status.OutOfMemory) }
+    ensures refused { (form : Form) → AskFor (texts words.now) form → length input.items ≤ input_limit
+        → (text : List ℕ) → (job_of form).refuses (input_of (job_of form) input.items) text
+        → (result ≡ Status.BadInput) ⊎ (result ≡ Status.WriteFault) ⊎ (result ≡ Status.OutOfMemory) }
+    // An input within the limit has one defined text, which was written whole, unless a write failed or memory ran out.
+    ensures whole { (form : Form) → AskFor (texts words.now) form → length input.items ≤ input_limit
+        → (text : List ℕ) → Defines (job_of form) (input_of (job_of form) input.items) text
+        → (sink.new.written ≡ text) ⊎ (result ≡ Status.WriteFault) ⊎ (result ≡ Status.OutOfMemory) }
     ensures passes_limit { (form : Form) → AskFor (texts words.now) form → (job_of form).input ≡ true
         → input_limit < length input.items → ((result ≡ Status.TooLong) ⊎ (result ≡ Status.OutOfMemory)) × (sink.new.written ≡ []) }
 {
-    // By this law an input that the grammar allows has no fault line.
+    // By these laws an input has one defined text at most, and one that the grammar allows has no fault line.
     grammatical_inputs_are_not_refused();
+    inputs_have_one_text();
     let mut source = SureSource::new(input);
     gen2run(alloc, words, &mut source, sink)
 }

@@ -1,12 +1,13 @@
-//! The program for C and other languages: one call over memory, whose clauses are those of the program.
+//! The program for C and other languages: one call over memory, whose clauses are those of the program, and one that says the version.
 //!
 //! It is a static library. Its header stands in examples/c, with a program in C and one in Python that use it.
 #![tactic(auto)]
 
-ghost use Rattle.std.specs.Prelude.{◌≡◌, ◌≢◌, ◌⊎◌, ℕ, ◌≤◌, ◌<◌, true, false, length, drop};
+ghost use Rattle.std.specs.Prelude.{◌≡◌, ◌≢◌, ◌⊎◌, ℕ, ◌≤◌, ◌<◌, true, false, List, length, drop};
 ghost use Rattle.gen2_library.specs.Called.{HasUnreadableWord, input_of, Gives, GivesFront, Overflows};
 ghost use Rattle.report_lines.specs.declared.mode.Mode.{Mode};
 ghost use Rattle.text_fields.specs.Lines.{fields_of};
+ghost use Rattle.program_texts.specs.Texts.{version_number};
 ghost use Rattle.top_call.specs.Form.{AskFor, HasForm};
 ghost use Rattle.top_call.specs.Job.{Defines};
 ghost use Rattle.top_call.specs.Jobs.{job_of};
@@ -20,6 +21,7 @@ mod room;
 mod words;
 
 use call::run_over;
+use program_texts::version_number;
 use room::Room;
 use std::alloc::Global;
 use top_call::Status;
@@ -54,32 +56,40 @@ pub extern "C" fn gen2run_over_memory(
         → Gives (CountsEveryTag seed tags) output.new written.new) }
     // 2: the words have no form, and nothing was written.
     ensures bad_words { result ≡ 2 → (HasForm (fields_of words.now) → ⊥) × (written.new ≡ 0) }
-    // Words without a form are told as such, unless one can't be read or memory runs out.
-    ensures formless { (HasForm (fields_of words.now) → ⊥) → (result ≡ 2) ⊎ (result ≡ 7) ⊎ (result ≡ 8) }
+    // Words without a form are told as such, unless one can't be read or memory runs out; nothing is written in any case.
+    ensures formless { (HasForm (fields_of words.now) → ⊥) → ((result ≡ 2) ⊎ (result ≡ 7) ⊎ (result ≡ 8)) × (written.new ≡ 0) }
     // Under a form without an input, as `gen` is, no status comes that speaks of an input.
     ensures unread { (form : Form) → AskFor (fields_of words.now) form → (job_of form).input ≡ false → (result ≢ 3) × (result ≢ 6) }
     // 3: the fault line of the input was written whole.
     ensures bad_input { (form : Form) → AskFor (fields_of words.now) form → result ≡ 3
         → Gives ((job_of form).refuses (input_of (job_of form) input.now)) output.new written.new }
-    // 5: the output is full, and the defined text goes on.
+    // 5: the output is full, and the defined text goes on. It or 7 comes wherever the defined text is longer than the output.
     ensures no_room { (form : Form) → AskFor (fields_of words.now) form → result ≡ 5
         → Overflows (Defines (job_of form) (input_of (job_of form) input.now)) output.new written.new }
+    ensures longer { (form : Form) → AskFor (fields_of words.now) form → length input.now ≤ input_limit
+        → (text : List ℕ) → Defines (job_of form) (input_of (job_of form) input.now) text
+        → length output.old < length text → (result ≡ 5) ⊎ (result ≡ 7) }
     // 6: the input is longer than the limit, and nothing was written.
     ensures too_long { result ≡ 6 → (input_limit < length input.now) × (written.new ≡ 0) }
-    // 7: a front of the defined text was written, maybe none of it.
+    // 7: memory ran out, and a front of the defined text was written, maybe none of it. This is the one answer that is free: no
+    // clause ties it to a request of memory that failed.
     ensures out_of_memory { (form : Form) → AskFor (fields_of words.now) form → result ≡ 7
         → (written.new ≡ 0) ⊎ GivesFront (Defines (job_of form) (input_of (job_of form) input.now)) output.new written.new }
-    // 8: a word isn't UTF-8, and nothing was written. Such words are told as such, unless memory runs out.
+    // 8: a word isn't UTF-8. Such words are told as such, unless memory runs out; nothing is written in any case.
     ensures unreadable { result ≡ 8 → HasUnreadableWord words.now × (written.new ≡ 0) }
-    ensures unread_words { HasUnreadableWord words.now → (result ≡ 8) ⊎ (result ≡ 7) }
+    ensures unread_words { HasUnreadableWord words.now → ((result ≡ 8) ⊎ (result ≡ 7)) × (written.new ≡ 0) }
     // No other status comes, and no read fails.
     ensures statuses { (result ≤ 8) × (result ≢ 1) × (result ≢ 4) }
     // Input within the limit that the form's grammar allows gives the whole text, unless there is no room or no memory.
     ensures complete { (form : Form) → AskFor (fields_of words.now) form → length input.now ≤ input_limit
         → (job_of form).allows (input_of (job_of form) input.now) → (result ≡ 0) ⊎ (result ≡ 5) ⊎ (result ≡ 7) }
-    // Input over the limit is told as such, unless there is no memory.
+    // Input within the limit that it refuses gives the whole fault line, under the same condition.
+    ensures refused { (form : Form) → AskFor (fields_of words.now) form → length input.now ≤ input_limit
+        → (text : List ℕ) → (job_of form).refuses (input_of (job_of form) input.now) text
+        → (result ≡ 3) ⊎ (result ≡ 5) ⊎ (result ≡ 7) }
+    // Input over the limit is told as such, unless there is no memory; nothing is written in any case.
     ensures passes_limit { (form : Form) → AskFor (fields_of words.now) form → (job_of form).input ≡ true
-        → input_limit < length input.now → (result ≡ 6) ⊎ (result ≡ 7) }
+        → input_limit < length input.now → ((result ≡ 6) ⊎ (result ≡ 7)) × (written.new ≡ 0) }
     // What stands behind that in the output stays.
     ensures behind { drop written.new output.new ≡ drop written.new output.old }
 {
@@ -97,4 +107,12 @@ pub extern "C" fn gen2run_over_memory(
     let status = run_over(alloc, &words, bytes, &mut sink);
     *written = sink.copy_to(output);
     u32::from(sink.status_behind(room, status).number())
+}
+
+/// The version of the library as one number: 1,000,000 for each major version, 1,000 for each minor one, and 1 for each patch.
+#[unsafe(no_mangle)]
+pub extern "C" fn gen2run_version() -> u32
+    ensures version { result ≡ version_number }
+{
+    version_number()
 }

@@ -6,7 +6,7 @@ mod tests;
 
 use air_io::{StdSink, StdSource};
 use std::env;
-use std::io::{self, BufWriter, ErrorKind, Write};
+use std::io::{self, BufWriter, ErrorKind};
 use std::process::ExitCode;
 use top_call::{Status, gen2run};
 
@@ -25,17 +25,13 @@ fn main(rt: HostRuntime) -> ExitCode {
         ),
         Err(_) => return ExitCode::from(UNREADABLE_WORDS),
     };
-    let Ok(mut page) = BufWriter::with_capacity(rt.alloc(), PAGE_BYTES, rt.stdout()) else {
+    let Ok(page) = BufWriter::with_capacity(rt.alloc(), PAGE_BYTES, rt.stdout()) else {
         return ExitCode::from(Status::OutOfMemory.number());
     };
     let mut input = StdSource::new(rt.stdin());
-    let mut output = StdSink::new(&mut page);
+    // The sink holds back a page, and hands it on last.
+    let mut output = StdSink::new(page);
     let status = gen2run(rt.alloc(), &words, &mut input, &mut output);
-    // What is still on the page is written last, and that may fail as every write.
-    let status = match page.flush() {
-        Ok(()) => status,
-        Err(_) => Status::WriteFault,
-    };
     ExitCode::from(status.number())
 }
 

@@ -234,7 +234,7 @@ type Row = (&'static [u8], &'static [u8], &'static [u8]);
 fn goes_on(run: &mut OpRun, list: &OpList, given: u8, said: u8) -> Option<bool> {
     let answer = answer_of(given)?;
     let mut next = OpNext::End;
-    run.next_to(list, answer.as_ref(), &mut next);
+    run.next(list, answer.as_ref(), &mut next);
     Some(next == next_of(said)?)
 }
 

@@ -1,6 +1,6 @@
 //! What is received of levels, against levels written out by hand.
 use bit_strings::Bits;
-use reply_wire::{Code, Expect, Received, Reply, receive_to};
+use reply_wire::{Code, Expect, Received, Reply, receive};
 use std::alloc::Global;
 
 /// The levels of the RN16 A1B2 hexadecimal, in FM0 with TRext 0: 12 of the lead, 32 of the bits, and 2
@@ -23,7 +23,7 @@ fn received(alloc: Global, code: Code, expect: &Expect, levels: &str) -> Option<
     }
     // What was received before goes.
     let mut received = Received::Whole(Reply::Header);
-    receive_to(&stream, code, false, expect, &mut bits, &mut received);
+    receive(&stream, code, false, expect, &mut bits, &mut received);
     Some((received, bits))
 }
 

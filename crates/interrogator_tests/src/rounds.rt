@@ -1,7 +1,8 @@
 //! Rounds, against answers written out by hand.
 
 use q_round::{
-    Code, Command, Link, Next, Outcome, QValue, Round, RoundSpec, Rule, Sel, Session, Side, UpDn,
+    Code, Command, Link, Next, Outcome, QValue, Round, RoundEnd, RoundSpec, Rule, Sel, Session,
+    Side, UpDn,
 };
 
 /// The rule for Q, the limit, and whether a round may have them.
@@ -63,6 +64,16 @@ fn next_of(letter: u8, session: Session) -> Option<Next> {
         _ => return None,
     };
     Some(Next::Send(Command::QueryAdjust { session, updn }))
+}
+
+/// What follows a slot with this outcome.
+fn answer_to(round: &mut Round, outcome: Outcome) -> Next {
+    let mut command = Command::Nak;
+    match round.next(outcome, &mut command) {
+        None => Next::Send(command),
+        Some(RoundEnd::Quiet) => Next::Quiet,
+        Some(RoundEnd::Limit) => Next::Limit,
+    }
 }
 
 /// Q, the rule for it, the limit, the outcomes, what follows each, and the number of slot commands in the end.
@@ -138,7 +149,7 @@ fn goes(row: &RoundRow) -> Option<bool> {
         return Some(false);
     }
     for (outcome, answer) in outcomes.iter().zip(answers) {
-        if round.next(outcome_of(*outcome)?) != next_of(*answer, session)? {
+        if answer_to(&mut round, outcome_of(*outcome)?) != next_of(*answer, session)? {
             return Some(false);
         }
     }
@@ -162,12 +173,12 @@ fn goes_on_to_its_limit(rule: Rule, outcome: Outcome) -> Option<bool> {
     let (mut round, _query) = Round::start(&spec, &link);
     for slot in 1..70000u32 {
         let letter = if slot % 32768 == 0 { b'=' } else { b'r' };
-        if round.next(outcome) != next_of(letter, session)? {
+        if answer_to(&mut round, outcome) != next_of(letter, session)? {
             return Some(false);
         }
     }
     let sent = round.slots_sent();
-    let is_end = round.next(outcome) == Next::Limit;
+    let is_end = answer_to(&mut round, outcome) == Next::Limit;
     Some(sent == 70000 && is_end && round.slots_sent() == 70000)
 }
 

@@ -2,4 +2,3 @@ pub mod Buffer
 pub mod Whole
 pub mod Steps
 pub mod Writing
-pub mod Words

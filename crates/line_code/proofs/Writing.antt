@@ -1,5 +1,5 @@
 -- What the encoder has written.
-use Rattle.std.proofs.Common.{◌≡◌, ℕ, ◌+◌, ◌*◌, ◌≤◌, Bool, List, [], ◌∷◌, ◌++◌, length, take, drop, sym, ap, ◌∙◌, arith, append_assoc, length-append, subst}
+use Rattle.std.proofs.Common.{◌≡◌, ℕ, ◌+◌, ◌*◌, ◌≤◌, Bool, List, [], ◌∷◌, ◌++◌, length, take, drop, sym, ap, ◌∙◌, arith, length-append, subst}
 use Rattle.std.proofs.lemmas.List.{append-nil, take-take, take-append-drop, drop-take, length-take-le}
 use Rattle.bit_strings.specs.BitString.{BitString}
 use Rattle.line_code.specs.Table.{Context, Table}
@@ -7,7 +7,6 @@ use Rattle.line_code.specs.Stream.{blocks}
 use Rattle.line_code.specs.States.{HasBlocks, context_after}
 use Rattle.line_code.specs.TableFacts.{CodeTable}
 use Rattle.line_code.specs.laws.Reading.{has_more}
-use Rattle.line_code.specs.laws.Splits.{blocks-append}
 use Rattle.line_code.specs.laws.Streams.{length-blocks}
 
 pub capacity_of : (new old : BitString) (items : List Bool) → new ≡ record { items = items; capacity = old.capacity } → new.capacity ≡ old.capacity
@@ -22,22 +21,6 @@ pub take_next : (bits : List Bool) (n count : ℕ) → take (n + count) bits ≡
 take_next bits n count =
     let front = take (n + count) bits in
     sym (take-append-drop n front) ∙ ap (λ ls. ls ++ drop n front) (take-take n (n + count) bits (omega arith)) ∙ ap (λ ls. take n bits ++ ls) (drop-take n count bits)
-
--- the blocks of more bits, behind those that were put
-pub blocks_behind : (t : Table) (c next : Context) (bits more : List Bool) (old now new : BitString)
-    → now ≡ record old { items = old.items ++ blocks t c bits } → next ≡ context_after t c bits → new ≡ record now { items = now.items ++ blocks t next more }
-    → new ≡ record old { items = old.items ++ blocks t c (bits ++ more) }
-blocks_behind t c next bits more old now new now_is next_is new_is =
-    let levels = append_assoc old.items (blocks t c bits) (blocks t (context_after t c bits) more) ∙ ap (λ ls. old.items ++ ls) (sym (blocks-append t bits more c)) in
-    new_is ∙ rw (now_is, next_is) (ap (λ (ls : List Bool). record old { items = ls }) levels)
-
--- how many levels there are where blocks were put
-pub size_behind : (code : CodeTable) (c : Context) (bits : List Bool) (old now : BitString) → now ≡ record old { items = old.items ++ blocks code.table c bits }
-    → (length now.items ≡ length old.items + code.chips * length bits) × (now.capacity ≡ old.capacity)
-size_behind code c bits old now is = (
-  ap (λ (s : BitString). length s.items) is ∙ length-append old.items (blocks code.table c bits) ∙ ap (λ n. length old.items + n) (length-blocks code.table code.chips code.even bits c),
-  ap (λ (s : BitString). s.capacity) is,
-)
 
 -- the encoder before each step: behind the lead stand the blocks of the first bits, so many, and the room is as it was
 pub record HasWritten (t : Table) (trext : Bool) (bits : List Bool) (n : ℕ) (context : Context) (before out : BitString) : Type 0 where

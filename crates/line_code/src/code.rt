@@ -1,5 +1,5 @@
 //! What a line code is.
-ghost use Rattle.std.specs.Prelude.{◌≡◌, ◌≢◌, ℕ, ◌*◌, [], ◌∷◌, ◌<◌, ◌≤◌, length, Bool, Some, IfSome, IfNone, slice_get};
+ghost use Rattle.std.specs.Prelude.{◌≡◌, ◌≢◌, ℕ, ◌*◌, ◌<◌, ◌≤◌, length, Bool, Some, IfSome, IfNone, slice_get};
 ghost use Rattle.bit_strings.specs.Numbers.{field_of};
 ghost use Rattle.line_code.specs.Table.{Context, Table};
 ghost use Rattle.line_code.specs.Stream.{blocks};
@@ -63,26 +63,13 @@ pub trait LineCode {
         Self::block(mark, bit)[at as usize]
     }
 
-    /// The bit whose block the levels are; none exactly where they are the block of neither bit.
-    fn block_bit(mark: Self::Mark, levels: &[bool]) -> Option<bool>
-        requires { length levels.now ≡ CHIPS }
-        ensures some { IfSome result (λ bit. levels.now ≡ table.block (context_of mark) bit) }
-        ensures none { IfNone result ((bit : Bool) → levels.now ≢ table.block (context_of mark) bit) };
-
     /// The levels of the blocks of the last four bits of a number, one behind the other, and the mark of the bit that follows them.
     fn four_blocks(mark: Self::Mark, number: u16) -> (&'static [bool], Self::Mark)
         ensures levels { result.0.now ≡ blocks table (context_of mark) (field_of number 4) }
         ensures mark { context_of result.1 ≡ context_after table (context_of mark) (field_of number 4) };
 
-    /// The four bits whose blocks, one behind the other, the levels are, and the mark of the bit that follows them; none exactly where they
-    /// are no such blocks.
-    fn four_bits(mark: Self::Mark, levels: &[bool]) -> Option<([bool; 4], Self::Mark)>
-        requires { length levels.now ≡ 4 * CHIPS }
-        ensures some { IfSome result (λ it. (levels.now ≡ blocks table (context_of mark) it.0) × (context_of it.1 ≡ context_after table (context_of mark) it.0)) }
-        ensures none { IfNone result ((first second third fourth : Bool) → levels.now ≢ blocks table (context_of mark) (first ∷ second ∷ third ∷ fourth ∷ [])) };
-
     /// The sixteen bits whose blocks, one behind the other, the levels are, and the mark of the bit that follows them. It may be none for any
-    /// levels, since [`LineCode::four_bits`] answers exactly.
+    /// levels, which are then taken one by one.
     fn sixteen_bits(mark: Self::Mark, levels: &[bool]) -> Option<([bool; 16], Self::Mark)>
         requires { length levels.now ≡ 16 * CHIPS }
         ensures { IfSome result (λ it. (levels.now ≡ blocks table (context_of mark) it.0) × (context_of it.1 ≡ context_after table (context_of mark) it.0)) };

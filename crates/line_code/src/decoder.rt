@@ -1,5 +1,5 @@
 //! The decoder of a whole list of levels.
-ghost use Rattle.std.specs.Prelude.{◌≡◌, ◌≤◌, ◌<◌, ◌+◌, ◌*◌, ◌++◌, ℕ, List, Bool, [], length, take, drop, IsTrue, ◌↔◌, IfSome, IfOk, OnOk, IfErr, OnErr, IsOk, IsErr};
+ghost use Rattle.std.specs.Prelude.{◌≡◌, ◌≤◌, ◌<◌, ◌+◌, ◌*◌, ◌++◌, ℕ, List, Bool, [], length, take, IsTrue, ◌↔◌, IfSome, IfOk, OnOk, IfErr, OnErr, IsOk, IsErr};
 ghost use Rattle.line_code.specs.Table.{Context};
 ghost use Rattle.line_code.specs.Stream.{IsStream, Streams, blocks};
 ghost use Rattle.line_code.specs.TableFacts.{with_level_flipped};
@@ -47,30 +47,19 @@ fn read<C: LineCode>(trext: bool, levels: &[bool], out: &mut Bits) -> Result<(),
     ensures refused { IfErr result (RefusesStream (Streams C.table trext) levels.now) }
     ensures capacity { out.new.capacity ≡ out.old.capacity }
 {
-    let mut at = seek::<C>(trext, levels)?;
+    let lead = seek::<C>(trext, levels)?;
     let mut mark = C::after_lead();
     // This slice only gets shorter, so that the compiler need not look at its range in each turn.
-    let mut behind = &levels[at..];
+    let mut behind = &levels[lead..];
     while let Some(sixteen) = next_sixteen::<C>(mark, behind) {
         let bits = sixteen.0;
         put_bits(&bits, out);
         mark = sixteen.1;
         behind = &behind[16 * C::CHIPS as usize..];
     }
-    at = levels.len() - behind.len();
-    while let Some(four) = next_four::<C>(mark, &levels[at..]) {
-        let bits = four.0;
-        put_bits(&bits, out);
-        mark = four.1;
-        at += 4 * C::CHIPS as usize;
-    }
-    while let Some(bit) = next_bit::<C>(mark, &levels[at..]) {
-        out.push_reserved(bit);
-        mark = C::after(mark, bit);
-        at += C::CHIPS as usize;
-    }
+    // The levels that are left, one by one: at most fifteen blocks, or those from the sixteen on that break the code.
+    let at = levels.len() - behind.len();
     let mut inside = Inside::<C>::between_blocks(mark, at as u32, out);
-    // The levels from the first one on that belongs to no whole block.
     for place in at..levels.len() {
         match inside.push(levels[place], out) {
             Within::Inside(next) => inside = next,
@@ -118,7 +107,7 @@ fn whole_lead<C: LineCode>(trext: bool, levels: &[bool]) -> Option<usize>
 }
 
 /// Whether the levels are those of a block or of a lead that has as many.
-pub fn same_levels(levels: &[bool], others: &[bool]) -> bool
+fn same_levels(levels: &[bool], others: &[bool]) -> bool
     requires { length levels.now ≡ length others.now }
     ensures { IsTrue result ↔ (levels.now ≡ others.now) }
 {
@@ -139,28 +128,6 @@ fn next_sixteen<C: LineCode>(mark: C::Mark, levels: &[bool]) -> Option<([bool; 1
         return None;
     }
     C::sixteen_bits(mark, &levels[..chips])
-}
-
-/// The four bits whose blocks, one behind the other, the first of these levels are, and the mark of the bit that follows them.
-fn next_four<C: LineCode>(mark: C::Mark, levels: &[bool]) -> Option<([bool; 4], C::Mark)>
-    ensures { IfSome result (λ it. (length it.0 ≡ 4) × (4 * C.CHIPS ≤ length levels.now) × (take (4 * C.CHIPS) levels.now ≡ blocks C.table (C.context_of mark) it.0) × (C.context_of it.1 ≡ context_after C.table (C.context_of mark) it.0)) }
-{
-    let chips = 4 * C::CHIPS as usize;
-    if levels.len() < chips {
-        return None;
-    }
-    C::four_bits(mark, &levels[..chips])
-}
-
-/// The bit whose block the first of these levels are.
-fn next_bit<C: LineCode>(mark: C::Mark, levels: &[bool]) -> Option<bool>
-    ensures { IfSome result (λ bit. (C.CHIPS ≤ length levels.now) × (take C.CHIPS levels.now ≡ C.table.block (C.context_of mark) bit)) }
-{
-    let chips = C::CHIPS as usize;
-    if levels.len() < chips {
-        return None;
-    }
-    C::block_bit(mark, &levels[..chips])
 }
 
 /// Puts the bits to the end of `out`.

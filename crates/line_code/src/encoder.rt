@@ -1,11 +1,11 @@
 //! The encoder.
 ghost use Rattle.std.specs.Prelude.{◌≡◌, ◌≤◌, ◌+◌, ◌*◌, ◌++◌, length};
-ghost use Rattle.bit_strings.specs.Numbers.{field_of};
+ghost use Rattle.bit_strings.specs.Numbers.{field_of, value_of};
 ghost use Rattle.line_code.specs.Stream.{IsStream, blocks};
 ghost use Rattle.line_code.specs.States.{context_after};
 
 use crate::code::LineCode;
-use bit_strings::{Bits, Levels, word_of};
+use bit_strings::{Bits, Levels};
 
 /// Writes the stream of the bits (6.3.1.3.2 of the standard) to `out`, which is emptied first: the
 /// lead, a block of [`LineCode::CHIPS`] levels for each bit, and the block of a dummy data-1.
@@ -19,9 +19,9 @@ pub fn encode<C: LineCode>(trext: bool, bits: &Bits, out: &mut Levels)
     let mut mark = C::after_lead();
     let bits = bits.as_slice();
     let mut next = 0;
-    while let Some(sixteen) = bits[next..].first_chunk::<16>() {
-        mark = put_word::<C>(mark, word_of(sixteen), out);
-        next += 16;
+    while let Some(four) = bits[next..].first_chunk::<4>() {
+        mark = put_four::<C>(mark, number_of(four), out);
+        next += 4;
     }
     while next < bits.len() {
         let bit = bits[next];
@@ -32,20 +32,15 @@ pub fn encode<C: LineCode>(trext: bool, bits: &Bits, out: &mut Levels)
     out.put_all_reserved(C::block(mark, true));
 }
 
-/// Adds the blocks of the 16 bits of a word to levels that have room for them, and answers the mark of the bit that follows them.
-#[inline]
-fn put_word<C: LineCode>(mark: C::Mark, word: u16, out: &mut Levels) -> C::Mark
-    requires { length out.old.items + C.CHIPS * 16 ≤ out.old.capacity }
-    ensures levels { out.new ≡ record out.old { items = out.old.items ++ blocks C.table (C.context_of mark) (field_of word 16) } }
-    ensures mark { C.context_of result ≡ context_after C.table (C.context_of mark) (field_of word 16) }
+/// The number that four bits are, the first of them its highest digit.
+fn number_of(bits: &[bool; 4]) -> u16
+    ensures { result ≡ value_of bits.now }
 {
-    let second = put_four::<C>(mark, word / 4096, out);
-    let third = put_four::<C>(second, word / 256, out);
-    let fourth = put_four::<C>(third, word / 16, out);
-    put_four::<C>(fourth, word, out)
+    8 * u16::from(bits[0]) + 4 * u16::from(bits[1]) + 2 * u16::from(bits[2]) + u16::from(bits[3])
 }
 
-/// The same for the last four bits of a number.
+/// Adds the blocks of the last four bits of a number to levels that have room for them, and answers the mark of the bit that
+/// follows them.
 #[inline(always)]
 fn put_four<C: LineCode>(mark: C::Mark, number: u16, out: &mut Levels) -> C::Mark
     requires { length out.old.items + C.CHIPS * 4 ≤ out.old.capacity }

@@ -4,7 +4,6 @@
 mod miller;
 mod subcarrier;
 mod symbol_words;
-mod words;
 
 pub use miller::{Miller2, Miller4, Miller8};
 pub use subcarrier::SymbolBefore;

@@ -45,16 +45,8 @@ impl LineCode for Miller2 {
         subcarrier::block(2, mark, bit)
     }
 
-    fn block_bit(mark: SymbolBefore, levels: &[bool]) -> Option<bool> {
-        subcarrier::block_bit(2, mark, levels)
-    }
-
     fn four_blocks(mark: SymbolBefore, number: u16) -> (&'static [bool], SymbolBefore) {
         subcarrier::four_blocks(2, mark, number)
-    }
-
-    fn four_bits(mark: SymbolBefore, levels: &[bool]) -> Option<([bool; 4], SymbolBefore)> {
-        subcarrier::four_bits(2, mark, levels)
     }
 
     fn sixteen_bits(mark: SymbolBefore, levels: &[bool]) -> Option<([bool; 16], SymbolBefore)> {
@@ -99,16 +91,8 @@ impl LineCode for Miller4 {
         subcarrier::block(4, mark, bit)
     }
 
-    fn block_bit(mark: SymbolBefore, levels: &[bool]) -> Option<bool> {
-        subcarrier::block_bit(4, mark, levels)
-    }
-
     fn four_blocks(mark: SymbolBefore, number: u16) -> (&'static [bool], SymbolBefore) {
         subcarrier::four_blocks(4, mark, number)
-    }
-
-    fn four_bits(mark: SymbolBefore, levels: &[bool]) -> Option<([bool; 4], SymbolBefore)> {
-        subcarrier::four_bits(4, mark, levels)
     }
 
     fn sixteen_bits(mark: SymbolBefore, levels: &[bool]) -> Option<([bool; 16], SymbolBefore)> {
@@ -153,16 +137,8 @@ impl LineCode for Miller8 {
         subcarrier::block(8, mark, bit)
     }
 
-    fn block_bit(mark: SymbolBefore, levels: &[bool]) -> Option<bool> {
-        subcarrier::block_bit(8, mark, levels)
-    }
-
     fn four_blocks(mark: SymbolBefore, number: u16) -> (&'static [bool], SymbolBefore) {
         subcarrier::four_blocks(8, mark, number)
-    }
-
-    fn four_bits(mark: SymbolBefore, levels: &[bool]) -> Option<([bool; 4], SymbolBefore)> {
-        subcarrier::four_bits(8, mark, levels)
     }
 
     fn sixteen_bits(mark: SymbolBefore, levels: &[bool]) -> Option<([bool; 16], SymbolBefore)> {

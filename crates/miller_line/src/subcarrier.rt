@@ -1,17 +1,13 @@
 //! What the three codes share. The number `m` is M of the standard: a symbol has `2 * m` levels, two
 //! halves of `m` levels each, and the subcarrier inverts at each level.
-ghost use Rattle.std.specs.Prelude.{◌≡◌, ◌≢◌, ℕ, ◌-◌, ◌*◌, ◌<◌, ◌≤◌, Bool, false, true, [], ◌∷◌, Some, IfSome, IfNone, length, get_or};
+ghost use Rattle.std.specs.Prelude.{◌≡◌, ◌≢◌, ℕ, ◌-◌, ◌*◌, ◌<◌, ◌≤◌, Bool, false, true, Some, IfSome, IfNone, length};
 ghost use Rattle.bit_strings.specs.Numbers.{field_of};
-ghost use Rattle.line_code.specs.Table.{Context};
 ghost use Rattle.line_code.specs.TableFacts.{longest_lead};
 ghost use Rattle.miller_line.specs.Miller.{miller, IsOneOfThree, symbol, start_phase, middle_phase, miller_lead, miller_block, miller_next};
 ghost use Rattle.miller_line.specs.FourSymbols.{symbols};
 ghost use Rattle.line_code.specs.Stream.{blocks};
 ghost use Rattle.line_code.specs.States.{context_after};
 ghost use Rattle.miller_line.specs.SymbolContext.{context};
-
-use crate::words::{last_four, number_of_word, word_of_levels, word_of_symbols};
-use line_code::same_levels;
 
 /// The symbol before a bit's block.
 #[derive(Clone, Copy, Debug, PartialEq, Eq)]
@@ -251,31 +247,6 @@ pub fn block(m: u32, before: SymbolBefore, bit: bool) -> &'static [bool]
     symbol_of(m, phase_at_start(before, bit), bit)
 }
 
-/// The bit of a symbol: a data-1 inverts the phase in the middle, so that its halves begin with different
-/// levels.
-fn bit_of_symbol(m: u32, levels: &[bool]) -> bool
-    requires factor { IsOneOfThree m }
-    requires whole { length levels.now ≡ 2 * m }
-    ensures { (start bit : Bool) → levels.now ≡ symbol m start (middle_phase start bit) → result ≡ bit }
-{
-    levels[0] != levels[m as usize]
-}
-
-/// The bit whose block the levels are; none exactly where they are the block of neither bit.
-pub fn block_bit(m: u32, before: SymbolBefore, levels: &[bool]) -> Option<bool>
-    requires factor { IsOneOfThree m }
-    requires whole { length levels.now ≡ 2 * m }
-    ensures some { IfSome result (λ bit. levels.now ≡ miller_block m (context before) bit) }
-    ensures none { IfNone result ((bit : Bool) → levels.now ≢ miller_block m (context before) bit) }
-{
-    let bit = bit_of_symbol(m, levels);
-    if same_levels(levels, block(m, before, bit)) {
-        Some(bit)
-    } else {
-        None
-    }
-}
-
 /// The levels of four symbols, one behind the other, by the phase at the start of the first and by their bits, which are the last four of a
 /// number.
 fn four_symbols(m: u32, start: bool, number: u16) -> &'static [bool]
@@ -305,38 +276,12 @@ pub fn four_blocks(m: u32, before: SymbolBefore, number: u16) -> (&'static [bool
 {
     let start = start_of_four(before, number);
     let levels = four_symbols(m, start, number);
-    let last_level = levels[(8 * m - 1) as usize];
-    (levels, behind_four(number, last_level))
-}
-
-/// What stands before the bit that follows four symbols, by the last of their levels and by their bits, which are the last four of a number.
-fn behind_four(number: u16, last_level: bool) -> SymbolBefore
-    ensures { (m : ℕ) (c : Context) → IsOneOfThree m → last_level ≡ get_or (blocks (miller m) c (field_of number 4)) (8 * m - 1) false → context result ≡ context_after (miller m) c (field_of number 4) }
-{
     // The last level of a half tells its phase, since a half has an even number of levels.
-    SymbolBefore {
+    let last = SymbolBefore {
         bit: number % 2 == 1,
-        phase: last_level,
-    }
-}
-
-/// The four bits whose blocks, one behind the other, the levels are, and what stands before the bit that follows them; none exactly where
-/// they are no such blocks.
-#[inline(always)]
-pub fn four_bits(m: u32, before: SymbolBefore, levels: &[bool]) -> Option<([bool; 4], SymbolBefore)>
-    requires factor { IsOneOfThree m }
-    requires whole { length levels.now ≡ 4 * (2 * m) }
-    ensures some { IfSome result (λ it. (levels.now ≡ blocks (miller m) (context before) it.0) × (context it.1 ≡ context_after (miller m) (context before) it.0)) }
-    ensures none { IfNone result ((first second third fourth : Bool) → levels.now ≢ blocks (miller m) (context before) (first ∷ second ∷ third ∷ fourth ∷ [])) }
-{
-    let word = word_of_levels(m, levels);
-    let number = number_of_word(m, word);
-    let start = start_of_four(before, number);
-    if word == word_of_symbols(m, start, number) {
-        Some((*last_four(number), behind_four(number, word % 2 == 1)))
-    } else {
-        None
-    }
+        phase: levels[(8 * m - 1) as usize],
+    };
+    (levels, last)
 }
 
 /// What stands before the bit that follows a bit.

@@ -1,9 +1,9 @@
 //! Symbols whose levels are read as words of 64 levels.
-ghost use Rattle.std.specs.Prelude.{◌≡◌, ◌≢◌, ◌⊎◌, ℕ, ◌+◌, ◌-◌, ◌*◌, ◌/◌, ◌%◌, ◌^◌, ◌<◌, ◌≤◌, ◌==◌, Bool, ◌++◌, bit_and, true, false, List, length, map, drop, replicate, Some, IfSome};
+ghost use Rattle.std.specs.Prelude.{◌≡◌, ◌≢◌, ◌⊎◌, ◌+◌, ◌-◌, ◌*◌, ◌/◌, ◌%◌, ◌^◌, ◌<◌, ◌≤◌, ◌==◌, Bool, ◌++◌, bit_and, false, List, length, map, replicate, Some, IfSome};
 ghost use Rattle.std.specs.Simd.Lanes.{mask_l};
 ghost use Rattle.line_code.specs.Stream.{blocks};
 ghost use Rattle.line_code.specs.States.{context_after};
-ghost use Rattle.miller_line.specs.Faults.{phases_of, changes_of, faults_of, bits_at, ArePlaces};
+ghost use Rattle.miller_line.specs.Faults.{changes_of, faults_of, bits_at, ArePlaces};
 ghost use Rattle.miller_line.specs.Miller.{miller, IsOneOfThree};
 ghost use Rattle.miller_line.specs.SymbolContext.{context};
 

@@ -99,6 +99,7 @@ impl Edges {
     ghost use Rattle.pie_line.specs.DataSymbols.{IsBeforeSymbol, GoesOver};
 
     /// A decoder that was given no interval.
+    #[inline(always)]
     pub fn new() -> Edges
         ensures stands { EdgesStandFor result [] [] }
         ensures count { result.count ≡ 0 }
@@ -110,6 +111,7 @@ impl Edges {
     }
 
     /// Takes one more interval, in nanoseconds.
+    #[inline(always)]
     pub fn push(&mut self, interval: u32) -> Edge
         requires interval { interval ≤ longest_interval }
         requires count { self.old.count < most_counted }
@@ -140,7 +142,7 @@ impl Edges {
 
     /// Takes the high and the low of a data symbol, in nanoseconds, where the decoder stands before one, and gives its bit.
     /// It takes nothing where it stands elsewhere, or where the two make no data symbol: `push` takes them then.
-    #[inline]
+    #[inline(always)]
     pub fn push_symbol(&mut self, high: u32, low: u32) -> Option<bool>
         requires high { high ≤ longest_interval }
         requires low { low ≤ longest_interval }

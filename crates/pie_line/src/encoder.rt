@@ -1,14 +1,11 @@
 //! Bits to frames.
-ghost use Rattle.std.specs.Prelude.{◌≡◌, ◌+◌, ◌-◌, ◌*◌, ◌<◌, ◌≤◌, ◌++◌, ◌∷◌, [], length, All, false, true, if◌then◌else◌};
-ghost use Rattle.pie_line.specs.Link.{IsLegalLink};
-ghost use Rattle.pie_line.specs.Pie.{IsFrame, pair_of, sum_of, symbols_with, header_of, wave_of, kind_of, longest_interval};
+ghost use Rattle.std.specs.Prelude.{◌≡◌, ◌+◌, ◌-◌, ◌*◌, ◌≤◌, ◌++◌, ⊤, length, All, false, true, if◌then◌else◌};
+ghost use Rattle.pie_line.specs.Pie.{IsFrame, sum_of, symbols_with, wave_of, kind_of, longest_interval};
 
+use crate::sender::{FrameTaker, send_header};
 use crate::{Intervals, Lead, Link};
 use bit_strings::Bits;
 use std::simd::prelude::u32x16;
-
-/// How long a delimiter lasts that is written, in nanoseconds.
-const DELIMITER: u32 = 12_500;
 
 /// Writes the one frame of these bits (6.3.1.2.3, 6.3.1.2.8) in place of what `out` had: the delimiter,
 /// the header, and a symbol for each bit. Each low lasts PW.
@@ -21,10 +18,26 @@ pub fn encode_frame(link: &Link, lead: Lead, bits: &Bits, out: &mut Intervals)
     ensures count { length out.new.items ≤ 7 + 2 * length bits.now.items }
     ensures capacity { out.new.capacity ≡ out.old.capacity }
 {
-    put_header(link, lead, out);
+    send_header(link, lead, out, &mut Nobody);
     // What no bit changes is computed once.
     let (zero, one) = highs(link);
     put_symbols(zero, one, link.pw(), bits.as_slice(), out);
+}
+
+/// Takes nothing: the frame goes nowhere.
+#[derive(Drop)]
+struct Nobody;
+
+impl FrameTaker for Nobody {
+    ghost took = { λ first intervals now. ⊤ };
+
+    ghost count = { λ taker. 0 };
+
+    #[inline(always)]
+    fn take(&mut self, _interval: u32) {}
+
+    #[inline(always)]
+    fn take_symbol(&mut self, _high: u32, _low: u32) {}
 }
 
 /// Adds a symbol for each bit: the high of a data-0 or of a data-1, and the low of each, in nanoseconds.
@@ -83,10 +96,11 @@ fn pairs_of(zero: u32, one: u32, low: u32, bits: &[bool]) -> [u32; 16]
 }
 
 /// The highs of a data-0 and of a data-1, in nanoseconds (6.3.1.2.3).
-fn highs(link: &Link) -> (u32, u32)
+pub(crate) fn highs(link: &Link) -> (u32, u32)
     ensures zero { result.0 ≡ sum_of link.now false - link.now.pw }
     ensures one { result.1 ≡ sum_of link.now true - link.now.pw }
     ensures order { result.0 ≤ result.1 }
+    ensures bounded { result.1 ≤ longest_interval }
 {
     let zero = link.tari();
     let one = link.rtcal() - zero;
@@ -94,33 +108,9 @@ fn highs(link: &Link) -> (u32, u32)
 }
 
 /// The high of the symbol of a bit, of those of a data-0 and of a data-1.
-fn high_of(zero: u32, one: u32, bit: bool) -> u32
+#[inline(always)]
+pub(crate) fn high_of(zero: u32, one: u32, bit: bool) -> u32
     ensures { result ≡ if bit then one else zero }
 {
     if bit { one } else { zero }
-}
-
-/// Adds a pair that lasts `sum` nanoseconds: a high, and a low of PW.
-fn put_pair(link: &Link, sum: u32, out: &mut Intervals)
-    requires low { link.now.pw ≤ sum }
-    requires room { length out.old.items + 2 ≤ out.old.capacity }
-    ensures { out.new ≡ record out.old { items = out.old.items ++ pair_of link.now sum } }
-{
-    out.push_all_reserved(&[sum - link.pw(), link.pw()]);
-}
-
-/// Writes the delimiter and the header (6.3.1.2.8) in place of what `out` had.
-fn put_header(link: &Link, lead: Lead, out: &mut Intervals)
-    requires room { 7 ≤ out.old.capacity }
-    ensures header { out.new.items ≡ 12500 ∷ header_of link.now lead }
-    ensures written { length out.new.items ≤ 7 }
-    ensures legal { IsLegalLink link.now }
-    ensures capacity { out.new.capacity ≡ out.old.capacity }
-{
-    out.clear();
-    let low = link.pw();
-    out.push_all_reserved(&[DELIMITER, link.tari() - low, low, link.rtcal() - low, low]);
-    if lead == Lead::Preamble {
-        put_pair(link, link.trcal(), out);
-    }
 }

@@ -31,6 +31,7 @@ pub enum FrameState {
 }
 
 /// Whether a low of at least one nanosecond may follow such a high in a pair that lasts at most `most`.
+#[inline(always)]
 fn is_high(interval: u32, most: u32) -> bool
     ensures { IsTrue result ↔ IsHigh interval most }
 {
@@ -40,6 +41,7 @@ fn is_high(interval: u32, most: u32) -> bool
 impl FrameState {
     /// Where the decoder stands after one more interval, and the bit of the symbol that it ended;
     /// none where no frame goes on with this interval.
+    #[inline(always)]
     pub fn after(self, interval: u32) -> Option<(FrameState, Option<bool>)>
         requires sound { IsSoundState self }
         requires interval { interval ≤ longest_interval }

@@ -11,6 +11,7 @@ mod intervals;
 mod laws;
 mod link;
 mod ranges;
+mod sender;
 mod symbol_pairs;
 
 pub use bit_strings::Code;
@@ -21,3 +22,4 @@ pub use frame::{FrameKind, Lead, PieRefusal};
 pub use intervals::Intervals;
 pub use laws::{one_answer, standing_decoders_begin_frames, written_frame};
 pub use link::{Link, LinkRefusal};
+pub use sender::{FrameTaker, send_frame};

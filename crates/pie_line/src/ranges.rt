@@ -7,6 +7,7 @@ ghost use Rattle.pie_line.specs.Pie.{IsDelimiter, bit_of};
 pub const TARI_MOST: u32 = 25_000;
 
 /// Whether a delimiter may last so long.
+#[inline(always)]
 pub fn is_delimiter(interval: u32) -> bool
     ensures { IsTrue result ↔ IsDelimiter interval }
 {
@@ -14,6 +15,7 @@ pub fn is_delimiter(interval: u32) -> bool
 }
 
 /// Whether Tari is in its range.
+#[inline(always)]
 pub fn is_tari(tari: u32) -> bool
     ensures { IsTrue result ↔ IsTari tari }
 {
@@ -21,6 +23,7 @@ pub fn is_tari(tari: u32) -> bool
 }
 
 /// Whether RTcal is in its range for a Tari.
+#[inline(always)]
 pub fn is_rtcal(tari: u32, rtcal: u32) -> bool
     ensures { IsTrue result ↔ IsRtCal tari rtcal }
 {
@@ -28,6 +31,7 @@ pub fn is_rtcal(tari: u32, rtcal: u32) -> bool
 }
 
 /// Whether TRcal is in its range for an RTcal.
+#[inline(always)]
 pub fn is_trcal(rtcal: u32, trcal: u32) -> bool
     ensures { IsTrue result ↔ IsTrCal rtcal trcal }
 {
@@ -43,6 +47,7 @@ pub fn is_pw(tari: u32, pw: u32) -> bool
 }
 
 /// The pivot, half of RTcal, rounded up (6.3.1.2.8): a symbol that lasts less is a data-0, and another a data-1.
+#[inline(always)]
 pub fn pivot_of(rtcal: u32) -> u32
     ensures { (sum : ℕ) → nat_le result sum ≡ bit_of rtcal sum }
 {
@@ -50,6 +55,7 @@ pub fn pivot_of(rtcal: u32) -> u32
 }
 
 /// The bit of a symbol that lasts `sum`: 0 where it is shorter than half of RTcal, else 1.
+#[inline(always)]
 pub fn bit_of_sum(rtcal: u32, sum: u32) -> bool
     ensures { result ≡ bit_of rtcal sum }
 {

@@ -11,7 +11,7 @@ use std::simd::prelude::{SimdPartialEq, SimdPartialOrd, SimdUint, u32x8};
 
 /// The bit of the data symbol that has this high and this low, in nanoseconds; none exactly where they make
 /// no data symbol (6.3.1.2.3).
-#[inline]
+#[inline(always)]
 pub(crate) fn bit_of_symbol(rtcal: u32, high: u32, low: u32) -> Option<bool>
     requires rtcal { rtcal ≤ 75000 }
     requires high { high ≤ longest_interval }

@@ -1,5 +1,5 @@
 //! A list of numbers that the fields of a line spell.
-ghost use Rattle.std.specs.Prelude.{◌≡◌, ◌≢◌, ◌≤◌, ◌↔◌, ℕ, List, [], length, map, All, IfErr, IsOk, IsTrue};
+ghost use Rattle.std.specs.Prelude.{◌≡◌, ◌≢◌, ◌≤◌, ◌↔◌, ℕ, List, [], length, map, All, IfErr, IsOk, IsTrue, OnErr};
 ghost use Rattle.text_fields.specs.Lines.{fields_of};
 ghost use Rattle.pie_text.specs.Numbers.{HasShape, RefusesNumbers, SpellsNumbers};
 ghost use Rattle.pie_text.specs.Spelling.{IsNumber, decimal_value};
@@ -123,11 +123,34 @@ fn push_numbers(
 }
 
 /// Reads the numbers that all the fields that are left spell, from 1 to `most_items` numbers, none of them
-/// greater than `most`, in place of what the list holds; after a refusal it holds some of them.
+/// greater than `most`, in place of what the list holds. After a refusal the list is empty.
 ///
 /// `Shape` comes exactly where the number of fields isn't from 1 to `most_items` or a field is empty,
 /// and `Number` exactly where they have this shape and a field is no number up to `most`.
 pub fn read_numbers(
+    fields: Fields,
+    most_items: u32,
+    most: u32,
+    out: &mut Intervals,
+) -> Result<(), NotNumbers>
+    requires { most_items ≤ out.old.capacity }
+    ensures ok { IsOk result → SpellsNumbers most_items most fields.entry out.new.items }
+    ensures refused { IfErr result (λ reason. RefusesNumbers reason most_items most fields.entry) }
+    ensures only { (numbers : List ℕ) → SpellsNumbers most_items most fields.entry numbers → IsOk result × (out.new.items ≡ numbers) }
+    ensures err { OnErr result (out.new.items ≡ []) }
+    ensures capacity { out.new.capacity ≡ out.old.capacity }
+{
+    match fill_with_numbers(fields, most_items, most, out) {
+        Ok(()) => Ok(()),
+        Err(reason) => {
+            out.clear();
+            Err(reason)
+        }
+    }
+}
+
+/// The same, but for what a refusal leaves: some of the numbers.
+fn fill_with_numbers(
     fields: Fields,
     most_items: u32,
     most: u32,

@@ -88,29 +88,11 @@ impl Round {
         (round, query)
     }
 
-    /// What follows the outcome of the slot that the last command began: the next slot command, or the
-    /// end of the round, by the rule for Q. After the end it is the same end, whatever the outcome.
-    pub fn next(&mut self, outcome: Outcome) -> Next
+    /// What follows the outcome of the slot that the last command began, by the rule for Q: the end of the
+    /// round, or none and the next slot command, which is put in place of another. No command is copied, as
+    /// one has room for the longest list of words. After the end it is the same end, whatever the outcome.
+    pub fn next(&mut self, outcome: Outcome, command: &mut Command) -> Option<RoundEnd>
         // The round stands for the list of outcomes that it was given, the latest first.
-        ensures answer { (spec : SpecValue) (outcomes : List Outcome) → RoundStandsFor self.old spec outcomes → is_over spec outcomes ≡ false →
-            IsNextAnswer result self.new spec (outcome ∷ outcomes) }
-        ensures again { (spec : SpecValue) (outcomes : List Outcome) → RoundStandsFor self.old spec outcomes → is_over spec outcomes ≡ true →
-            (self.new ≡ self.old) × IsNextAnswer result self.new spec outcomes }
-        ensures spec { self.new.spec ≡ self.old.spec }
-        ensures sent { self.new.slots_sent ≡ self.old.slots_sent + slots_in result }
-        ensures limit { self.new.slots_sent ≤ self.new.spec.limit }
-    {
-        let mut command = Command::Nak;
-        match self.next_to(outcome, &mut command) {
-            None => Next::Send(command),
-            Some(RoundEnd::Quiet) => Next::Quiet,
-            Some(RoundEnd::Limit) => Next::Limit,
-        }
-    }
-
-    /// Finds what [`next`](Round::next) finds, and puts a slot command in place of another command, or gives the
-    /// end of the round. No command is copied, as one has room for the longest list of words.
-    pub fn next_to(&mut self, outcome: Outcome, command: &mut Command) -> Option<RoundEnd>
         ensures answer { (spec : SpecValue) (outcomes : List Outcome) → RoundStandsFor self.old spec outcomes → is_over spec outcomes ≡ false →
             IsNextAnswer (next_of result command.new) self.new spec (outcome ∷ outcomes) }
         ensures again { (spec : SpecValue) (outcomes : List Outcome) → RoundStandsFor self.old spec outcomes → is_over spec outcomes ≡ true →

@@ -1,9 +1,9 @@
 //! Bits to replies.
-ghost use Rattle.std.specs.Prelude.{◌≡◌, ℕ, ◌+◌, ◌-◌, ◌*◌, ◌≤◌, ◌==◌, ◌↔◌, List, length, take, IsTrue, IfOk, IfErr, OnOk, Ok, Err};
+ghost use Rattle.std.specs.Prelude.{◌≡◌, ℕ, ◌+◌, ◌-◌, ◌*◌, ◌≤◌, ◌==◌, ◌↔◌, List, length, take, IsTrue, IfOk, IfErr, OnOk, OnErr, Ok, Err};
 ghost use Rattle.bit_strings.specs.Numbers.{value_of, part_of};
 ghost use Rattle.reply_grammar.specs.Table.{AnswersExpected};
 ghost use Rattle.reply_grammar.specs.Refusals.{RefusesReply, FitsLength, PassesCheck, PassesHeader, PassesNumber, EndsWithCheck, HasHandle, Passes};
-ghost use Rattle.reply_grammar.specs.declared.expected.Expect.TheVariants.{Epc as OneEpc, Rn16 as OneRn16};
+ghost use Rattle.reply_grammar.specs.declared.expected.Expect.TheVariants.{Epc as OneEpc};
 ghost use Rattle.reply_grammar.specs.declared.expected.Reply.{Reply};
 ghost use Rattle.reply_grammar.specs.declared.expected.Reply.TheVariants.{Rn16, Epc, Handle, Header, Words};
 ghost use Rattle.reply_grammar.specs.declared.expected.ReplyRefusal.{ReplyRefusal};
@@ -30,32 +30,18 @@ pub fn decode_reply(bits: &Bits, expect: &Expect) -> Result<Reply, ReplyRefusal>
 }
 
 /// Gives the reply in place of another one, as `decode_reply` gives it. A reply has room for the longest list of words, and none is
-/// copied so. Where the bits are refused, nothing is known of what stands in the room.
+/// copied so. After a refusal the room is empty: it has the reply without fields.
 pub fn decode_reply_to(bits: &Bits, expect: &Expect, reply: &mut Reply) -> Result<(), ReplyRefusal>
     ensures ok { OnOk result (AnswersExpected reply.new expect.now bits.now.items) }
     ensures refused { IfErr result (λ refusal. RefusesReply refusal expect.now bits.now.items) }
+    ensures err { OnErr result (reply.new ≡ Header) }
 {
-    look_at(bits, expect)?;
+    if let Err(refusal) = look_at(bits, expect) {
+        *reply = Reply::Header;
+        return Err(refusal);
+    }
     read_reply_to(bits, expect, reply);
     Ok(())
-}
-
-/// Takes the bits of an RN16 apart, as `decode_reply` does, for which no `Reply` is made.
-pub fn decode_rn16(bits: &Bits) -> Result<u16, ReplyRefusal>
-    ensures ok { IfOk result (λ rn. AnswersExpected (Rn16 rn) OneRn16 bits.now.items) }
-    ensures refused { IfErr result (λ refusal. RefusesReply refusal OneRn16 bits.now.items) }
-{
-    look_at(bits, &Expect::Rn16)?;
-    Ok(read_rn16(bits))
-}
-
-/// Takes the bits of a PC and its EPC apart, as `decode_reply` does, for which no `Reply` is made either.
-pub fn decode_epc(bits: &Bits) -> Result<(u16, EpcWords), ReplyRefusal>
-    ensures ok { IfOk result (λ it. AnswersExpected (Epc it.0 it.1) OneEpc bits.now.items) }
-    ensures refused { IfErr result (λ refusal. RefusesReply refusal OneEpc bits.now.items) }
-{
-    look_at(bits, &Expect::Epc)?;
-    Ok(read_epc(bits))
 }
 
 /// Looks, and then reads.
@@ -195,14 +181,6 @@ fn word_at(bits: &Bits, at: u32) -> u16
     word_of(&bits.as_slice()[from..from + 16])
 }
 
-/// The RN16 that bits are which pass as one.
-fn read_rn16(bits: &Bits) -> u16
-    requires { Passes OneRn16 bits.now.items }
-    ensures { AnswersExpected (Rn16 result) OneRn16 bits.now.items }
-{
-    word_at(bits, 0)
-}
-
 /// The PC and the EPC that bits are which pass as these.
 fn read_epc(bits: &Bits) -> (u16, EpcWords)
     requires { Passes OneEpc bits.now.items }
@@ -220,7 +198,16 @@ fn read_epc_to(bits: &Bits, reply: &mut Reply)
     ensures { AnswersExpected reply.new OneEpc bits.now.items }
 {
     let (pc, epc) = read_epc(bits);
-    *reply = Reply::Epc { pc, epc };
+    match reply {
+        Reply::Epc {
+            pc: last_pc,
+            epc: last,
+        } => {
+            *last_pc = pc;
+            *last = epc;
+        }
+        _ => *reply = Reply::Epc { pc, epc },
+    }
 }
 
 /// Gives the reply that bits are which pass, in place of another.
@@ -229,7 +216,7 @@ fn read_reply_to(bits: &Bits, expect: &Expect, reply: &mut Reply)
     ensures { AnswersExpected reply.new expect.now bits.now.items }
 {
     match expect {
-        Expect::Rn16 => *reply = Reply::Rn16(word_at(bits, 0)),
+        Expect::Rn16 => put_rn16(word_at(bits, 0), reply),
         Expect::Epc => read_epc_to(bits, reply),
         Expect::Handle => put_handle(word_at(bits, 0), reply),
         Expect::Same(_) => put_handle(word_at(bits, 0), reply),
@@ -257,8 +244,18 @@ fn read_reply_to(bits: &Bits, expect: &Expect, reply: &mut Reply)
     }
 }
 
-/// Puts a handle in place of another reply. What was a handle has its number changed alone, as a reply made anew has all of its
+/// Puts an RN16 in place of another reply. What was an RN16 has its number changed alone, as a reply made anew has all of its
 /// room made ready.
+fn put_rn16(rn: u16, reply: &mut Reply)
+    ensures { reply.new ≡ Rn16 rn }
+{
+    match reply {
+        Reply::Rn16(last) => *last = rn,
+        _ => *reply = Reply::Rn16(rn),
+    }
+}
+
+/// Puts a handle in place of another reply, likewise.
 fn put_handle(handle: u16, reply: &mut Reply)
     ensures { reply.new ≡ Handle handle }
 {

@@ -7,7 +7,7 @@ mod expected;
 mod laws;
 mod reply_words;
 
-pub use decode::{decode_epc, decode_reply, decode_reply_to, decode_rn16};
+pub use decode::{decode_reply, decode_reply_to};
 pub use encode::{
     encode_epc, encode_error, encode_handle, encode_header, encode_reply, encode_rn16, encode_words,
 };

@@ -1,16 +1,11 @@
 -- How the stream of a reply is received, and of bits that are none.
-use Rattle.std.proofs.Common.{◌≡◌, ℕ, inl, inr, Bool, List, length, refl}
+use Rattle.std.proofs.Common.{inl, inr, Bool, List, length, refl}
 use Rattle.line_code.specs.Table.{Table}
-use Rattle.line_code.specs.Stream.{IsStream, Streams}
-use Rattle.line_code.specs.Refusal.{RefusesStream}
-use Rattle.line_code.specs.declared.refusal.LineRefusal.{LineRefusal}
-use Rattle.line_code.specs.declared.refusal.LineRefusal.TheVariants.{Invalid, Unfinished}
-use Rattle.reply_grammar.specs.Refusals.{RefusesReply}
+use Rattle.line_code.specs.Stream.{IsStream}
 use Rattle.reply_grammar.specs.Table.{AnswersExpected}
 use Rattle.reply_grammar.specs.laws.SomeReply.{reply_or_fault}
 use Rattle.reply_grammar.specs.declared.expected.Expect.{Expect}
 use Rattle.reply_grammar.specs.declared.expected.Reply.{Reply}
-use Rattle.reply_grammar.specs.declared.expected.ReplyRefusal.{ReplyRefusal}
 use Rattle.reply_grammar.specs.declared.expected.Received.TheVariants.{Refused}
 use Rattle.reply_wire.specs.Received.{IsWhole, IsUnexpected, IsReceived}
 
@@ -29,16 +24,3 @@ unexpected_received t trext expect bits levels stream none =
           let unexpected : IsUnexpected t trext expect levels (length levels) = record { bits = bits; stream = stream; refusal = found.0; faults = found.1; behind = refl } in
           inr (inr unexpected)
     ]
-
--- bits that are refused as a reply are refused behind the last level
-pub fault_received : (t : Table) (trext : Bool) (expect : Expect) (bits levels : List Bool) (refusal : ReplyRefusal)
-    → IsStream t trext bits levels → RefusesReply refusal expect bits → IsReceived t trext expect levels (Refused (length levels))
-fault_received t trext expect bits levels refusal stream faults =
-    let unexpected : IsUnexpected t trext expect levels (length levels) = record { bits = bits; stream = stream; refusal = refusal; faults = faults; behind = refl } in
-    inr (inr unexpected)
-
--- levels that are no stream are refused at a place
-pub refused_received : (t : Table) (trext : Bool) (expect : Expect) (levels : List Bool) (refusal : LineRefusal)
-    → RefusesStream (Streams t trext) levels refusal → (place : ℕ) × IsReceived t trext expect levels (Refused place)
-refused_received t trext expect levels (Invalid place) bad = (place, inl bad)
-refused_received t trext expect levels (Unfinished count) short = (count, inr (inl short))

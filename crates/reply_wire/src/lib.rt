@@ -6,5 +6,5 @@ mod receive_reply;
 
 pub use laws::{kinds_received, one_received, reply_received};
 pub use line_codes::Code;
-pub use receive_reply::{receive_epc, receive_rn16, receive_to};
+pub use receive_reply::receive;
 pub use reply_grammar::{EpcWords, Expect, Received, Reply};

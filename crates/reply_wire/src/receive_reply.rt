@@ -3,22 +3,17 @@ ghost use Rattle.std.specs.Prelude.{◌≡◌, ℕ, ◌<◌, ◌≤◌, List, Bo
 ghost use Rattle.line_code.specs.TableFacts.{with_level_flipped};
 ghost use Rattle.line_code.specs.Stream.{IsStream};
 ghost use Rattle.line_codes.specs.Codes.{table_of};
-ghost use Rattle.reply_grammar.specs.Reception.{reception_from};
 ghost use Rattle.reply_grammar.specs.Refusals.{RefusesReply};
 ghost use Rattle.reply_grammar.specs.Table.{AnswersExpected};
-ghost use Rattle.reply_grammar.specs.declared.expected.Expect.TheVariants.{Rn16 as OneRn16, Epc as OneEpc};
 ghost use Rattle.reply_grammar.specs.declared.expected.Reply.{Reply};
 ghost use Rattle.reply_grammar.specs.declared.expected.Received.{Received};
 ghost use Rattle.reply_grammar.specs.declared.expected.Received.TheVariants.{Whole, Refused};
-ghost use Rattle.reply_wire.specs.Heard.{pair_received, rn16_received};
 ghost use Rattle.reply_wire.specs.Received.{IsReceived};
 ghost use Rattle.bit_strings.specs.BitString.{most_counted};
 
 use bit_strings::{Bits, Levels};
 use line_codes::{Code, LineRefusal, decode_levels};
-use reply_grammar::{
-    EpcWords, Expect, Received, Reply, ReplyRefusal, decode_epc, decode_reply_to, decode_rn16,
-};
+use reply_grammar::{Expect, Received, Reply, ReplyRefusal, decode_reply_to};
 
 /// Gives what an interrogator makes of a stream of levels (6.3.1.3.2 and 6.3.2.11 of the standard), where it
 /// expects a reply of one kind, in place of what it made of another: the reply, or the place of refusal,
@@ -28,7 +23,7 @@ use reply_grammar::{
 /// `bits` is a buffer with room for as many bits as there are levels. After a whole reply it holds the
 /// bits of the stream, without the dummy at the end. After a refusal it is empty. No memory is taken, and no
 /// list of words is copied: what is received has room for the longest.
-pub fn receive_to(
+pub fn receive(
     stream: &Levels,
     code: Code,
     trext: bool,
@@ -72,44 +67,5 @@ fn take_whole(bits: &Bits, expect: &Expect, received: &mut Received) -> Result<(
     match received {
         Received::Whole(reply) => decode_reply_to(bits, expect, reply),
         Received::Refused(_) => unreachable!(),
-    }
-}
-
-/// The RN16 of a stream, where it is received whole as `receive_to` receives what is expected after a slot command. No `Reply` is
-/// made for it.
-pub fn receive_rn16(stream: &Levels, code: Code, trext: bool, bits: &mut Bits) -> Option<u16>
-    requires room { length stream.now.items ≤ bits.old.capacity }
-    requires few { length stream.now.items ≤ most_counted }
-    ensures received { (received : Received) × IsReceived (table_of code) trext OneRn16 stream.now.items received × (result ≡ rn16_received (reception_from received)) }
-    ensures capacity { bits.new.capacity ≡ bits.old.capacity }
-{
-    match decode_levels(code, trext, stream, bits) {
-        Ok(()) => match decode_rn16(bits) {
-            Ok(rn) => Some(rn),
-            Err(_) => None,
-        },
-        Err(_) => None,
-    }
-}
-
-/// The PC and the EPC of a stream, where they are received whole as `receive_to` receives what is expected after an ACK. No `Reply`
-/// is made for them.
-pub fn receive_epc(
-    stream: &Levels,
-    code: Code,
-    trext: bool,
-    bits: &mut Bits,
-) -> Option<(u16, EpcWords)>
-    requires room { length stream.now.items ≤ bits.old.capacity }
-    requires few { length stream.now.items ≤ most_counted }
-    ensures received { (received : Received) × IsReceived (table_of code) trext OneEpc stream.now.items received × (result ≡ pair_received (reception_from received)) }
-    ensures capacity { bits.new.capacity ≡ bits.old.capacity }
-{
-    match decode_levels(code, trext, stream, bits) {
-        Ok(()) => match decode_epc(bits) {
-            Ok(pair) => Some(pair),
-            Err(_) => None,
-        },
-        Err(_) => None,
     }
 }

@@ -1,5 +1,5 @@
 //! Lines of what came back, as they are read.
-ghost use Rattle.std.specs.Prelude.{◌≡◌, ◌≢◌, ◌≤◌, ◌∷◌, [], IfErr, IfNone, IfOk, IfSome, length};
+ghost use Rattle.std.specs.Prelude.{◌≡◌, ◌≢◌, ◌≤◌, ◌∷◌, [], IfErr, IfNone, IfOk, IfSome, OnErr, length};
 ghost use Rattle.report_lines.specs.ReadLines.{IsNoRx, RxFields, most_levels};
 
 use crate::line_fields::{fields_behind, is_number, next_field};
@@ -25,7 +25,7 @@ fn three_left(mut others: Fields<'_>) -> Option<(&[u8], &[u8], &[u8])>
 }
 
 /// Reads an `rx` line: its levels are put in place of what the list holds, and the answer is the number of the exchange and how many
-/// tags replied, as they are spelled.
+/// tags replied, as they are spelled. After a refusal the list is empty.
 ///
 /// # Errors
 ///
@@ -37,8 +37,10 @@ pub fn read_rx_line<'a>(
     requires { most_levels ≤ levels.old.capacity }
     ensures fields { IfOk result (λ it. (rx : RxFields line.now) × (rx.exchange ≡ it.0.now) × (rx.count ≡ it.1.now) × (rx.levels ≡ levels.new.items)) }
     ensures refused { IfErr result (IsNoRx line.now) }
+    ensures err { OnErr result (levels.new.items ≡ []) }
     ensures capacity { levels.new.capacity ≡ levels.old.capacity }
 {
+    levels.clear();
     let Some(others) = fields_behind(line, b"rx") else {
         return Err(FieldsFault::Word);
     };

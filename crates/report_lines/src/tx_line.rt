@@ -1,5 +1,5 @@
 //! Lines of frames that were sent, as they are read.
-ghost use Rattle.std.specs.Prelude.{◌≡◌, ◌≤◌, ◌↔◌, IfErr, IfOk, IsTrue, codes};
+ghost use Rattle.std.specs.Prelude.{◌≡◌, ◌≤◌, ◌↔◌, [], IfErr, IfOk, IsTrue, OnErr, codes};
 ghost use Rattle.report_lines.specs.ReadLines.{HasTxShape, IsNoTx, TxFields, first_field, most_intervals};
 
 use crate::line_fields::{field_count, fields_behind, is_number, next_field};
@@ -35,7 +35,7 @@ fn wrong_fields(line: &[u8]) -> FieldsFault
 }
 
 /// Reads a `tx` line: its intervals are put in place of what the list holds, and the answer is the number of the exchange, as it is
-/// spelled.
+/// spelled. After a refusal the list is empty.
 ///
 /// # Errors
 ///
@@ -44,8 +44,10 @@ pub fn read_tx_line<'a>(line: &'a [u8], intervals: &mut Intervals) -> Result<&'a
     requires { most_intervals ≤ intervals.old.capacity }
     ensures fields { IfOk result (λ number. (tx : TxFields line.now) × (tx.exchange ≡ number.now) × (tx.intervals ≡ intervals.new.items)) }
     ensures refused { IfErr result (IsNoTx line.now) }
+    ensures err { OnErr result (intervals.new.items ≡ []) }
     ensures capacity { intervals.new.capacity ≡ intervals.old.capacity }
 {
+    intervals.clear();
     let Some(mut others) = fields_behind(line, b"tx") else {
         return Err(FieldsFault::Word);
     };

@@ -42,9 +42,9 @@ whole-taken link expect silence reply meets reads is =
     let least = stream_least link.code link.trext is.bits in
     let none = ap length is.stream in
     absurd (omega arith)
-whole-taken link expect (whole replied) reply meets reads is = stream_reception link expect (whole replied) (Whole reply) meets reads refl is
-whole-taken link expect (broken replied place) reply meets reads is = stream_reception link expect (broken replied place) (Whole reply) meets reads refl is
-whole-taken link expect (raw code trext levels) reply meets reads is = stream_reception link expect (raw code trext levels) (Whole reply) meets reads refl is
+whole-taken link expect (whole replied) reply meets reads is = stream_reception link expect (whole replied) (Whole reply) meets reads (λ none. cc) is
+whole-taken link expect (broken replied place) reply meets reads is = stream_reception link expect (broken replied place) (Whole reply) meets reads (λ none. cc) is
+whole-taken link expect (raw code trext levels) reply meets reads is = stream_reception link expect (raw code trext levels) (Whole reply) meets reads (λ none. cc) is
 
 -- what the channel gives in reply to an ACK of the run of a scenario is an EPC that a tag sent, or is heard by the link
 record IsGivenToAck (scenario : Scenario) (given : Given) : Type 0 where

@@ -1,5 +1,5 @@
 //! What the history and the report of every run say.
-ghost use Rattle.std.specs.Prelude.{◌≡◌, ◌*◌, ◌≤◌, ◌⊎◌, Bool, ◌||◌, List, ◌∷◌, ◌++◌, length, filter, Some, None};
+ghost use Rattle.std.specs.Prelude.{◌≡◌, ◌≢◌, ◌*◌, ◌≤◌, ◌⊎◌, Bool, ◌||◌, List, ◌∷◌, ◌++◌, length, filter, Some, None};
 ghost use Rattle.access_ops.specs.laws.OperationLaws.{Expects};
 ghost use Rattle.command_grammar.specs.Commands.{IsLegalCommand};
 ghost use Rattle.tag_machine.specs.Exchange.{AreLegalTags};
@@ -7,7 +7,7 @@ ghost use Rattle.air_model.specs.Channel.{got_of, heard_levels};
 ghost use Rattle.air_model.specs.Past.{Start, Record, Item, exchanges_in, next_record, tags_behind};
 ghost use Rattle.reply_wire.specs.Received.{IsReceived};
 ghost use Rattle.air_model.specs.Reception.{reception_of, reception_with};
-ghost use Rattle.air_model.specs.declared.got.Got.TheVariants.{Stream};
+ghost use Rattle.air_model.specs.declared.got.Got.TheVariants.{Silence};
 ghost use Rattle.runs.specs.EventsAndRecords.{events_and_records_of, IsConcluded};
 ghost use Rattle.runs.specs.Headline.{AreHeardAsListed, AreLegalSteps, Headline, IsRecordOf, is_op_line, op_lines, most_exchanges};
 ghost use Rattle.runs.specs.History.{history_of};
@@ -129,11 +129,11 @@ pub fn histories_send_legal_commands()
 /// inventory command or to a command of an operation is expected.
 pub fn histories_hear_what_is_received()
     ensures inventory { (scenario : Scenario) (sent : Record) (earlier : List Item) (expect : Expect) (received : Received) → IsScenario scenario →
-        IsRecordOf (history scenario) sent earlier → expectation_of sent.command ≡ Some expect → got_of sent.given ≡ Stream →
+        IsRecordOf (history scenario) sent earlier → expectation_of sent.command ≡ Some expect → got_of scenario.link sent.given ≢ Silence →
         IsReceived (table_of scenario.link.code) scenario.link.trext expect (heard_levels scenario.link sent.given) received →
         reception_of expect sent.given ≡ reception_from received }
     ensures operations { (scenario : Scenario) (sent : Record) (earlier : List Item) (expect : Expect) (extended : Bool) (received : Received) → IsScenario scenario →
-        IsRecordOf (history scenario) sent earlier → Expects sent.command expect extended → got_of sent.given ≡ Stream →
+        IsRecordOf (history scenario) sent earlier → Expects sent.command expect extended → got_of scenario.link sent.given ≢ Silence →
         IsReceived (table_of scenario.link.code) (extended || scenario.link.trext) expect (heard_levels scenario.link sent.given) received →
         reception_with scenario.link.trext extended expect sent.given ≡ reception_from received }
 {

@@ -1,5 +1,5 @@
 //! What a tag holds in every state.
-ghost use Rattle.std.specs.Prelude.{◌≡◌, ◌+◌, ◌^◌, ◌==◌, ◌<◌, if◌then◌else◌, length, IfOk};
+ghost use Rattle.std.specs.Prelude.{◌≡◌, ◌+◌, ◌^◌, ◌==◌, ◌<◌, if◌then◌else◌, IfOk};
 ghost use Rattle.session_flags.specs.Flags.{new_flags};
 ghost use Rattle.tag_body.specs.Draws.{draw_of, place_behind, slot_of_draw, body_after_draw};
 ghost use Rattle.tag_body.specs.BodyFlags.{selected_body};
@@ -105,26 +105,9 @@ impl Body {
 
     /// The words that are drawn.
     pub fn words(&self) -> &[u16]
-        ensures value { result.now ≡ self.now.words }
+        ensures { result.now ≡ self.now.words }
     {
         self.parts.words.words()
-    }
-
-    /// The place of the next draw among the words.
-    pub fn next_draw(&self) -> usize
-        ensures value { result ≡ self.now.next_draw }
-        ensures inside { self.now.next_draw < length self.now.words }
-        ensures few { result < 256 }
-    {
-        self.parts.next_draw
-    }
-
-    /// Moves the place of the next draw.
-    pub fn set_next_draw(&mut self, place: usize)
-        requires { place < length self.old.words }
-        ensures { self.new ≡ record self.old { next_draw = place } }
-    {
-        self.parts.next_draw = place;
     }
 
     /// Lets a Select change its flag.

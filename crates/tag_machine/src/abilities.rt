@@ -4,9 +4,10 @@ ghost use Rattle.tag_machine.specs.Hearing.{tag_value_of};
 
 use crate::any_tag::AnyTag;
 use crate::states::{Acknowledged, Arbitrate, InReply, Opened, Ready, Secured, State};
+use crate::steps::Steps;
 use crate::tag::Tag;
 use std::sync::ledger::Ledger;
-use tag_body::{Body, Steps};
+use tag_body::Body;
 
 /// A state that hears Query and Select: each but killed and without power.
 pub trait Present: State {

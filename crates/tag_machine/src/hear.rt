@@ -11,33 +11,14 @@ ghost use Rattle.reply_grammar.specs.Table.{reply_room};
 
 use crate::any_tag::{Answered, AnyTag, Heard};
 use crate::states::Password;
+use crate::steps::Steps;
 use bit_strings::Bits;
 use command_grammar::Command;
 use std::sync::ledger::Ledger;
-use tag_body::Steps;
 
 impl AnyTag {
-    /// What the tag makes of a command. A QueryRep or a QueryAdjust comes in each slot, so these are made here; what is made of each
-    /// other command stands in a call of its own, and these two don't pay for the room that a Read takes for its words.
-    #[inline(always)]
+    /// What the tag makes of a command. DR, M and TRext of a Query tell the form of the replies, and change nothing in the tag.
     fn take(self, command: &Command, out: &mut Bits) -> Heard
-        requires room { reply_room ≤ out.old.capacity }
-        ensures { GivesOutcome (step command.now (tag_value_of self).state (tag_value_of self).body) result out.old out.new }
-    {
-        if let Command::QueryRep { session } = command {
-            return self.query_rep(*session, out);
-        }
-        if let Command::QueryAdjust { session, updn } = command {
-            return self.query_adjust(*session, *updn, out);
-        }
-        // Bound first, so that what the call writes to memory has room of its own, and the answers to those two stay out of memory.
-        let heard = self.take_any(command, out);
-        heard
-    }
-
-    /// What the tag makes of any command. DR, M and TRext of a Query tell the form of the replies, and change nothing in the tag.
-    #[inline(never)]
-    fn take_any(self, command: &Command, out: &mut Bits) -> Heard
         requires room { reply_room ≤ out.old.capacity }
         ensures { GivesOutcome (step command.now (tag_value_of self).state (tag_value_of self).body) result out.old out.new }
     {

@@ -1,22 +1,22 @@
 //! A command to a tag that only waits, or is killed or without power: where the tag sends nothing and its state keeps
 //! its kind, the tag hears it in its place.
-ghost use Rattle.std.specs.Prelude.{◌≡◌, ◌+◌, ℕ, Some, None, true, false, if◌then◌else◌};
-ghost use Rattle.std.specs.Option.{is_some};
+ghost use Rattle.std.specs.Prelude.{◌≡◌, ◌+◌, ℕ, true, false, if◌then◌else◌};
 ghost use Rattle.tag_machine.specs.Answers.{silent};
 ghost use Rattle.tag_machine.specs.Hearing.{tag_value_of};
 ghost use Rattle.tag_machine.specs.Draws.{enter};
 ghost use Rattle.tag_machine.specs.Inventory.{query_rep};
-ghost use Rattle.tag_machine.specs.Reach.{DrawsAgain, reaches_waiting};
+ghost use Rattle.tag_machine.specs.Reach.{reaches_waiting};
 ghost use Rattle.tag_machine.specs.Step.{step};
 ghost use Rattle.tag_machine.specs.TagValue.{ArbitrateState, BodyValue, IsLegalTag, ReadyState};
 
 use crate::any_tag::AnyTag;
 use crate::states::{Arbitrate, Ready};
+use crate::steps::Steps;
 use crate::tag::Tag;
 use bit_strings::{QValue, Session};
 use command_grammar::{Command, UpDn};
 use std::sync::ledger::Ledger;
-use tag_body::{Slot, Steps, adjusted};
+use tag_body::{Slot, adjusted};
 
 /// Whether a command may change a tag that waits for its slot, or takes no part in a round: a Select, Query, QueryRep or
 /// QueryAdjust.
@@ -87,10 +87,7 @@ impl Tag<Arbitrate> {
         match command {
             Command::QueryRep { session } => self.count_down(*session),
             Command::QueryAdjust { session, updn } => {
-                if own != *session {
-                    return true;
-                }
-                self.draw_slot(*session, adjusted(*updn, own_q)).is_some()
+                own != *session || self.draw_slot(*session, adjusted(*updn, own_q))
             }
             Command::Query {
                 sel,
@@ -99,31 +96,28 @@ impl Tag<Arbitrate> {
                 q,
                 ..
             } => {
-                if !self.body.parts.flags.matches(*sel, *session, *target) {
-                    return false;
-                }
-                self.draw_slot(*session, *q).is_some()
+                let matches = self.body.parts.flags.matches(*sel, *session, *target);
+                matches && self.draw_slot(*session, *q)
             }
             Command::Select { .. } => false,
             _ => !reaches_waiting(command),
         }
     }
 
-    /// Draws a slot in a round, unless it is 0, and answers it.
-    fn draw_slot(&mut self, session: Session, q: QValue) -> Option<u16>
-        ensures drawn { (slot : ℕ) → result ≡ Some slot → self.new.state ≡ ArbitrateState session q slot }
-        ensures heard { (slot : ℕ) → result ≡ Some slot → enter session q self.old.body ≡ silent self.new.state self.new.body }
-        ensures left { result ≡ None → self.new ≡ self.old }
+    /// Draws a slot in a round, unless it is 0, and answers whether it did.
+    fn draw_slot(&mut self, session: Session, q: QValue) -> bool
+        ensures heard { result ≡ true → enter session q self.old.body ≡ silent self.new.state self.new.body }
+        ensures left { result ≡ false → self.new ≡ self.old }
         ensures legal { IsLegalTag self.new }
     {
         let number = self.body.next_slot(q);
         if number == 0 {
-            return None;
+            return false;
         }
         self.body.draw();
         let slot = Slot::new(number);
         self.state = Arbitrate { session, q, slot };
-        Some(number)
+        true
     }
 
     /// Hears a QueryRep that leaves the tag in arbitrate, and answers whether it did.
@@ -164,32 +158,5 @@ impl AnyTag {
             steps.tick();
         }
         heard
-    }
-
-    /// Hears a QueryAdjust where the tag is in arbitrate in a round of its session and draws another slot than 0, and answers the
-    /// slot; else the tag is left as it was, with no word drawn, and has heard nothing.
-    ///
-    /// This is what most tags of a round do at a QueryAdjust, and `hear_in_place` does it too; it tells the slot besides.
-    pub fn draw_again<L: Ledger>(
-        &mut self,
-        session: Session,
-        updn: UpDn,
-        steps: &mut Steps<L>,
-    ) -> Option<u16>
-        ensures drawn { (slot : ℕ) → result ≡ Some slot → DrawsAgain session updn (tag_value_of self.old) slot (tag_value_of self.new) }
-        ensures left { result ≡ None → self.new ≡ self.old }
-        ensures counted { steps.new ≡ steps.old + (if is_some result then 1 else 0) }
-        ensures legal { (slot : ℕ) → result ≡ Some slot → IsLegalTag (tag_value_of self.new) }
-    {
-        let AnyTag::Arbitrate(tag) = self else {
-            return None;
-        };
-        if tag.state.session != session {
-            return None;
-        }
-        let q = tag.state.q;
-        let slot = tag.draw_slot(session, adjusted(updn, q))?;
-        steps.tick();
-        Some(slot)
     }
 }

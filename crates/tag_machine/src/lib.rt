@@ -14,6 +14,7 @@ mod laws;
 mod moves;
 mod numbers;
 mod states;
+mod steps;
 mod tag;
 
 pub use air_events::{Choice, Entry, Event, Several};
@@ -29,5 +30,5 @@ pub use states::{
     Acknowledged, Arbitrate, Half, Held, InReply, Killed, Opened, Password, Ready, Secured, State,
     StateName, Unpowered,
 };
+pub use steps::Steps;
 pub use tag::Tag;
-pub use tag_body::Steps;

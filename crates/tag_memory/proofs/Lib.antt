@@ -1,1 +1,2 @@
 pub mod AllWords
+pub mod LastWords

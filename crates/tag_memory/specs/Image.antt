@@ -1,7 +1,8 @@
 -- 6.3.2.1 Tag memory: the memory that a tag is made with. The sizes are profile.
-use Rattle.std.specs.Prelude.{◌+◌, ◌/◌, ◌%◌, ◌^◌, nat_le, Bool, ◌&&◌, [], ◌∷◌, length, slice_index}
+use Rattle.std.specs.Prelude.{ℕ, ◌+◌, ◌-◌, ◌/◌, ◌%◌, ◌^◌, nat_le, Bool, ◌&&◌, [], ◌∷◌, length, slice_index}
+use Rattle.std.specs.List.{slice_set}
 use Rattle.tag_memory.specs.declared.image.BankImage.{BankImage}
-use Rattle.tag_memory.specs.Memory.{Banks, epc_fits, with_stored_crc}
+use Rattle.tag_memory.specs.Memory.{Banks, epc_fits, length_in, with_stored_crc}
 
 -- the EPC bank from PC on has 1 to 32 words, TID 2 to 16, and User at most 512
 abbrev pub sizes_fit : BankImage → Bool
@@ -25,3 +26,10 @@ image_banks image = record {
 -- the memory of a new tag
 abbrev pub banks_of : BankImage → Banks
 banks_of image = with_stored_crc (image_banks image)
+
+-- the image with another last word of the EPC that PC announces, which stands behind it, and another last word of TID
+abbrev pub with_last_words : BankImage → (last_of_epc last_of_tid : ℕ) → BankImage
+with_last_words image last_of_epc last_of_tid = record image {
+  epc = slice_set image.epc (length_in (slice_index image.epc 0)) last_of_epc;
+  tid = slice_set image.tid (length image.tid - 1) last_of_tid;
+}

@@ -1,11 +1,11 @@
 //! The banks of a tag.
-ghost use Rattle.std.specs.Prelude.{◌≡◌, ◌/◌, ◌%◌, ◌^◌, ◌<◌, ◌≤◌, ◌↔◌, ◌∷◌, length, true, false, Err, IsNone, IfOk, slice_get};
+ghost use Rattle.std.specs.Prelude.{◌≡◌, ◌/◌, ◌%◌, ◌^◌, ◌<◌, ◌≤◌, ◌↔◌, ◌∷◌, length, true, false, Err, IsNone, IfOk, slice_get, slice_index};
 ghost use Rattle.bit_strings.specs.Numbers.{value_of};
 ghost use Rattle.bit_strings.specs.Words.{bits_of_words};
 ghost use Rattle.gen2_crc.specs.Crc.{crc16_of};
 ghost use Rattle.reply_grammar.specs.Table.{AreWords};
 ghost use Rattle.tag_memory.specs.Memory.{IsLegalMemory, AreSound, bank_of, bank_named, pc_of, epc_of, kill_word_of, access_word_of, length_in, epc_fits, with_stored_crc};
-ghost use Rattle.tag_memory.specs.Image.{sizes_fit, pc_fits, image_banks, banks_of};
+ghost use Rattle.tag_memory.specs.Image.{sizes_fit, pc_fits, image_banks, banks_of, with_last_words};
 
 mod access;
 
@@ -107,7 +107,7 @@ fn epc_bank_with(alloc: Global, words: &[u16]) -> Result<Vec<u16>, AllocError>
 
 impl Memory {
     /// The banks of an image, with 0000h in the place of StoredCRC, which [`Memory::power_on`] computes.
-    pub fn without_crc(alloc: Global, image: &BankImage) -> Result<Memory, AllocError>
+    fn without_crc(alloc: Global, image: &BankImage) -> Result<Memory, AllocError>
         requires sizes { sizes_fit image.now ≡ true }
         requires pc { pc_fits image.now ≡ true }
         ensures { IfOk result (λ memory. memory ≡ image_banks image.now) }
@@ -140,6 +140,28 @@ impl Memory {
             return Err(ImageRefusal::Pc);
         }
         let mut memory = Memory::without_crc(alloc, image)?;
+        memory.power_on();
+        Ok(memory)
+    }
+
+    /// The memory of a tag that was just made, of an image in which the last word of the EPC and the last of TID are these. They are
+    /// written where they stand, before StoredCRC is computed, so that no memory is taken but that of the banks.
+    pub fn with_last_words(
+        alloc: Global,
+        image: &BankImage,
+        last_of_epc: u16,
+        last_of_tid: u16,
+    ) -> Result<Memory, AllocError>
+        requires sizes { sizes_fit image.now ≡ true }
+        requires pc { pc_fits image.now ≡ true }
+        requires epc { 1 ≤ length_in (slice_index image.now.epc 0) }
+        ensures { IfOk result (λ memory. memory ≡ banks_of (with_last_words image.now last_of_epc last_of_tid)) }
+    {
+        let mut memory = Memory::without_crc(alloc, image)?;
+        let place_in_epc = 1 + length_in_pc(memory.pc());
+        let place_in_tid = memory.bank(Bank::Tid).len() - 1;
+        memory.put(Bank::Epc, place_in_epc, &[last_of_epc]);
+        memory.put(Bank::Tid, place_in_tid, &[last_of_tid]);
         memory.power_on();
         Ok(memory)
     }

@@ -1,6 +1,8 @@
 -- Tags with numbers: what one event and one command after another makes of them.
-use Rattle.std.proofs.Common.{◌≡◌, ◌≢◌, ℕ, zero, suc, ◌+◌, ◌<◌, ◌≤◌, List, [], ◌∷◌, ◌++◌, length, map, drop, get_or, refl, sym, ap, ◌∙◌, arith, append_assoc, add-one, drop-cons, length-append}
+use Rattle.std.proofs.Common.{◌≡◌, ◌≢◌, ℕ, zero, suc, ◌+◌, ◌<◌, ◌≤◌, Bool, true, false, Option, Some, None, List, [], ◌∷◌, ◌++◌, length, map, drop, get_or, refl, sym, ap, ◌∙◌, arith, append_assoc, add-one, drop-cons, length-append}
+use Rattle.std.specs.List.{All}
 use Rattle.std.specs.Prelude.{slice_set}
+use Rattle.std.proofs.lemmas.List.Elements.{All-append, All-nil}
 use Rattle.std.proofs.lemmas.Bool.{eq-eqb, ne_eqb}
 use Rattle.std.proofs.lemmas.List.{drop_all, length-map}
 use Rattle.air_events.specs.declared.Entry.{Entry}
@@ -10,7 +12,9 @@ use Rattle.tag_machine.specs.Events.{tag_after_event}
 use Rattle.tag_machine.specs.Hearing.{tag_value_of}
 use Rattle.tag_machine.specs.TagValue.{TagValue, IsLegalTag}
 use Rattle.tag_machine.specs.declared.any_tag.AnyTag.{AnyTag}
-use Rattle.tag_machine.specs.Exchange.{AreLegalTags, tag_after_own_event, tags_after_event, tags_after}
+use Rattle.tag_machine.proofs.SentReplies.{sent_fits}
+use Rattle.tag_machine.specs.Answers.{IsSent, Sent}
+use Rattle.tag_machine.specs.Exchange.{AreLegalTags, Replied, is_missed, outcome_unless, replies_from, reply_of, tag_after_own_event, tags_after_event, tags_after}
 use Rattle.tag_population.specs.Hearing.{tags_after_events, hearing_from}
 
 -- an event befalls no tag of another number
@@ -92,3 +96,22 @@ seated_next seats after next more rest tags same is after_is =
     ∙ append_assoc seats (tag_value_of next ∷ []) (map tag_value_of rest)
     ∙ ap (λ (l : List AnyTag). seats ++ map tag_value_of l) (sym is)
     ∙ same
+
+-- what legal tags send is legal
+all_one : {X : Type 0} (P : X → Type 0) (x : X) → P x → All P (x ∷ [])
+all_one P x is zero d within = is
+all_one P x is (suc index) d within = absurd (omega (arith, within))
+
+sent_one : (number : ℕ) (answer : Option Sent) → ((sent : Sent) → answer ≡ Some sent → IsSent (Some sent)) → All (λ replied. IsSent (Some replied.sent)) (reply_of number answer)
+sent_one number None each = All-nil (λ (replied : Replied). IsSent (Some replied.sent))
+sent_one number (Some sent) each = all_one (λ (replied : Replied). IsSent (Some replied.sent)) (record { number = number; sent = sent }) (each sent refl)
+
+sent_unless : (misses : Bool) (command : Command) (tag : TagValue) (sent : Sent) → IsLegalTag tag → (outcome_unless misses command tag).answer ≡ Some sent → IsSent (Some sent)
+sent_unless true command tag sent legal is = absurd cc
+sent_unless false command tag sent legal is = (sent_fits command tag.state tag.body legal sent is).1
+
+pub sent_all : (start : ℕ) (command : Command) (entry : Entry) (tags : List TagValue) → AreLegalTags tags → All (λ replied. IsSent (Some replied.sent)) (replies_from start (hearing_from start command entry tags))
+sent_all start command entry [] legal = All-nil (λ (replied : Replied). IsSent (Some replied.sent))
+sent_all start command entry (tag ∷ tags) legal =
+    All-append (λ (replied : Replied). IsSent (Some replied.sent)) (reply_of start (outcome_unless (is_missed start entry) command tag).answer) (replies_from (start + 1) (hearing_from (start + 1) command entry tags))
+    (sent_one start (outcome_unless (is_missed start entry) command tag).answer (λ sent is. sent_unless (is_missed start entry) command tag sent legal.0 is)) (sent_all (start + 1) command entry tags legal.1)

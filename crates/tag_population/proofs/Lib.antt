@@ -1,13 +1,6 @@
+pub mod KeptAnswers
 pub mod EventsOnTags
 pub mod SeatedTags
-pub mod HeardByCalled
+pub mod CalledTags
+pub mod HeardTags
 pub mod QueryRepCalls
-pub mod TagsAtRest
-pub mod HeardByEach
-pub mod OneExchange
-pub mod HeardInSeats
-pub mod AdjustCalls
-pub mod WordsKept
-pub mod ToldTags
-pub mod SlottedTags
-pub mod MarkedDraws

@@ -1,26 +1,23 @@
 -- Which tags a command has to reach, and what comes of it where those alone are called.
 use Rattle.std.proofs.Common.{◌≡◌, ◌≢◌, ℕ, zero, suc, ◌+◌, ◌<◌, ◌≤◌, ◌==◌, ◌⊎◌, inl, inr, Bool, true, false, ◌||◌, List, [], ◌∷◌, length, map, Option, Some, None, get_or, refl, sym, ap, ◌∙◌, subst, arith, if◌then◌else◌}
 use Rattle.std.specs.Option.{is_some}
-use Rattle.std.proofs.lemmas.Bool.{cases_lt, eq-eqb, ne_eqb}
+use Rattle.std.proofs.lemmas.Bool.{eq-eqb, ne_eqb}
 use Rattle.std.proofs.lemmas.Bool.Decides.{eqb_tells}
-use Rattle.std.proofs.lemmas.List.{get_or_past, length-map}
+use Rattle.std.proofs.lemmas.List.{length-map}
 use Rattle.air_events.specs.declared.Entry.{Entry}
 use Rattle.command_grammar.specs.declared.commands.Command.{Command}
 use Rattle.command_grammar.specs.declared.commands.Command.TheVariants as commands
 use Rattle.tag_machine.specs.Answers.{Outcome, silent}
 use Rattle.tag_machine.specs.Draws.{begin_reply}
+use Rattle.tag_machine.specs.Exchange.{outcome_unless, is_missed, is_busy, busy_from}
 use Rattle.tag_machine.specs.Inventory.{slot_below, count_down}
-use Rattle.tag_machine.specs.Slots.{is_beyond_arbitrate}
 use Rattle.tag_machine.specs.Reach.{reaches_waiting}
+use Rattle.tag_machine.specs.Slots.{is_beyond_arbitrate}
 use Rattle.tag_machine.specs.Step.{step}
 use Rattle.tag_machine.specs.TagValue.{StateValue, ReadyState, ArbitrateState, ReplyState, AcknowledgedState, OpenState, SecuredState, KilledState, UnpoweredState, BodyValue, TagValue}
-use Rattle.tag_population.proofs.HeardByCalled.{participation_of_tag, sum-zero, zero-sum, later}
-use Rattle.tag_population.proofs.SeatedTags.{length-tags_of, tag_at}
+use Rattle.tag_population.proofs.SeatedTags.{length-tags_of, tag_at, participation_of_tag}
+use Rattle.tag_population.specs.Floor.{tag_seated, participation_in, participations_of, called_in, no_tag, counted_floor, FloorValue, AreCalledFor, CallsTags, IsMissedCalled, IsDueCalled}
 use Rattle.waiting_tags.proofs.SlotPlaces.{same_waits}
-use Rattle.tag_machine.specs.Exchange.{outcome_unless, is_missed, is_busy, busy_from}
-use Rattle.tag_population.specs.Hearing.{hearing_from}
-use Rattle.tag_population.specs.Seated.{with_slot, tag_seated, tags_of, participation_in, participations_of, called_in, outcome_called, outcomes_called, AreAtRest, AreCalledFor, CallsTags, IsMissedCalled, IsDueCalled}
-use Rattle.tag_population.specs.Seats.{no_tag}
 use Rattle.waiting_tags.specs.Waiting.{participation_at, is_called, waits_in, counted_down}
 use Rattle.waiting_tags.specs.declared.waiting.Participation.{Participation}
 use Rattle.waiting_tags.specs.declared.waiting.Participation.TheVariants.{Waits, Called}
@@ -45,7 +42,11 @@ pub unless_stays : (misses : Bool) (command : Command) (tag : TagValue) → step
 unless_stays true command tag is = refl
 unless_stays false command tag is = sym is
 
-outcome_kept : (misses : Bool) (command : Command) (tag : TagValue) → reaches_waiting command ≡ false → outcome_called misses command (participation_in tag.state) tag ≡ outcome_unless misses command tag
+-- what comes of a command for a tag where it hears it only if it is called
+abbrev pub outcome_part : Bool → Command → Option Participation → TagValue → Outcome
+outcome_part misses command part tag = if is_called part then outcome_unless misses command tag else silent tag.state tag.body
+
+outcome_kept : (misses : Bool) (command : Command) (tag : TagValue) → reaches_waiting command ≡ false → outcome_part misses command (participation_in tag.state) tag ≡ outcome_unless misses command tag
 outcome_kept misses command tag some =
     elim (bool_cases (is_called (participation_in tag.state))) [
       | inl called ↦ ap (λ (b : Bool). if b then outcome_unless misses command tag else silent tag.state tag.body) called
@@ -54,31 +55,22 @@ outcome_kept misses command tag some =
           ∙ unless_stays misses command tag (stays command tag.state tag.body some none)
     ]
 
-outcomes_kept : (number : ℕ) (command : Command) (entry : Entry) (tags : List TagValue) → reaches_waiting command ≡ false
-    → outcomes_called number command entry (participations_of tags) tags ≡ hearing_from number command entry tags
-outcomes_kept number command entry [] some = refl
-outcomes_kept number command entry (tag ∷ tags) some =
-    ap (λ (o : Outcome). o ∷ outcomes_called (number + 1) command entry (participations_of tags) tags) (outcome_kept (is_missed number entry) command tag some)
-    ∙ ap (λ (l : List Outcome). outcome_unless (is_missed number entry) command tag ∷ l) (outcomes_kept (number + 1) command entry tags some)
+settled_at : (floor : FloorValue) (number : ℕ) → floor.parts ≡ participations_of floor.tags → participation_at floor.parts number ≡ participation_in (get_or floor.tags number no_tag).state
+settled_at floor number settled = ap (λ (l : List (Option Participation)). participation_at l number) settled ∙ participation_of_tag floor.tags number
+
+pub settled_whole : (floor : FloorValue) → floor.parts ≡ participations_of floor.tags → length floor.parts ≡ length floor.tags
+settled_whole floor settled = ap (λ (l : List (Option Participation)). length l) settled ∙ length-map floor.tags (λ (t : TagValue). participation_in t.state)
 
 -- nothing has to be called
-pub none_called_for : (command : Command) (entry : Entry) (participations : List (Option Participation)) (seats : List TagValue) → AreAtRest participations seats → reaches_waiting command ≡ false
-    → AreCalledFor command entry (tags_of participations seats) participations seats
-none_called_for command entry participations seats rest some = record {
-  outcomes =
-      ap (λ (l : List (Option Participation)). outcomes_called 0 command entry l (tags_of participations seats)) rest.settled
-      ∙ outcomes_kept 0 command entry (tags_of participations seats) some;
-  whole = rest.whole;
-  few = rest.few;
-  legal = rest.legal;
-  uncalled = λ number apart. ap (λ (l : List (Option Participation)). participation_at l number) rest.settled ∙ participation_of_tag (tags_of participations seats) number;
+pub none_called_for : (command : Command) (entry : Entry) (floor : FloorValue) → floor.parts ≡ participations_of floor.tags → reaches_waiting command ≡ false → AreCalledFor command entry floor floor
+none_called_for command entry floor settled some = record {
+  outcomes = λ number within.
+      ap (λ (p : Option Participation). outcome_part (is_missed number entry) command p (get_or floor.tags number no_tag)) (settled_at floor number settled)
+      ∙ outcome_kept (is_missed number entry) command (get_or floor.tags number no_tag) some;
+  tags_whole = refl;
+  whole = settled_whole floor settled;
+  uncalled = λ number within apart. settled_at floor number settled;
 }
-
-pub past_settled : (participations : List (Option Participation)) (seats : List TagValue) (number : ℕ) → length participations ≡ length seats → length seats ≤ number
-    → participation_at participations number ≡ participation_in (get_or (tags_of participations seats) number no_tag).state
-past_settled participations seats number same past =
-    get_or_past participations number None (rw same past)
-    ∙ ap (λ (t : TagValue). participation_in t.state) (sym (get_or_past (tags_of participations seats) number no_tag (rw (length-tags_of participations seats same) past)))
 
 -- A QueryRep: the tags that are called hear it or miss it, and the others wait on or have no part in it.
 IsRep : ℕ → Bool → Option Participation → TagValue → Type 0
@@ -97,24 +89,7 @@ rep_from session misses start middle participation tag is (inl missed) (inl due)
       λ same. due.1 (sym due.0 ∙ same),
     )
 
-pub with_slot_twice : (slot old : ℕ) (state : StateValue) → with_slot slot (with_slot old state) ≡ with_slot slot state
-with_slot_twice slot old ReadyState = refl
-with_slot_twice slot old (ArbitrateState session q own) = refl
-with_slot_twice slot old (ReplyState session q rn) = refl
-with_slot_twice slot old (AcknowledgedState session q rn) = refl
-with_slot_twice slot old (OpenState held) = refl
-with_slot_twice slot old (SecuredState held) = refl
-with_slot_twice slot old KilledState = refl
-with_slot_twice slot old UnpoweredState = refl
-
-reseated : (session : ℕ) (participation : Option Participation) (seat : TagValue)
-    → tag_seated (counted_down session participation) seat ≡ tag_seated (counted_down session participation) (tag_seated participation seat)
-reseated session None seat = refl
-reseated session (Some (Waits own slot)) seat =
-    ap (λ (s : StateValue). record seat { state = s }) (sym (with_slot_twice (if own == session then slot_below slot else slot) slot seat.state))
-reseated session (Some Called) seat = refl
-
-pub true_false : (b : Bool) → b ≡ true → b ≡ false → ⊥
+true_false : (b : Bool) → b ≡ true → b ≡ false → ⊥
 true_false true is none = cc
 true_false false is none = cc
 
@@ -146,7 +121,7 @@ arbitrate_rep session false own q slot body missed apart =
     ]
 
 rep_state : (session : ℕ) (misses : Bool) (state : StateValue) (body : BodyValue) → (misses ≡ true → waits_in session (participation_in state) ≡ false) → participation_in state ≢ Some (Waits session 1)
-    → outcome_called misses (commands.QueryRep session) (counted_down session (participation_in state)) (tag_seated (counted_down session (participation_in state)) (record { state = state; body = body }))
+    → outcome_part misses (commands.QueryRep session) (counted_down session (participation_in state)) (tag_seated (counted_down session (participation_in state)) (record { state = state; body = body }))
     ≡ outcome_unless misses (commands.QueryRep session) (record { state = state; body = body })
 rep_state session true ReadyState body missed apart = refl
 rep_state session false ReadyState body missed apart = refl
@@ -160,21 +135,16 @@ rep_state session false KilledState body missed apart = refl
 rep_state session true UnpoweredState body missed apart = refl
 rep_state session false UnpoweredState body missed apart = refl
 
-rep_outcome : (session : ℕ) (misses : Bool) (participation : Option Participation) (seat : TagValue) → IsRep session misses participation (tag_seated participation seat)
-    → outcome_called misses (commands.QueryRep session) (counted_down session participation) (tag_seated (counted_down session participation) seat)
-    ≡ outcome_unless misses (commands.QueryRep session) (tag_seated participation seat)
+rep_outcome : (session : ℕ) (misses : Bool) (part : Option Participation) (tag : TagValue) → IsRep session misses part tag
+    → outcome_part misses (commands.QueryRep session) (counted_down session part) (tag_seated (counted_down session part) tag) ≡ outcome_unless misses (commands.QueryRep session) tag
 unfolding IsRep
-rep_outcome session misses participation seat (inl called) =
+rep_outcome session misses part tag (inl called) =
     subst
-    (λ (s : Option Participation).
-    outcome_called misses (commands.QueryRep session) (counted_down session s) (tag_seated (counted_down session s) seat) ≡ outcome_unless misses (commands.QueryRep session) (tag_seated s seat))
+    (λ (p : Option Participation). outcome_part misses (commands.QueryRep session) (counted_down session p) (tag_seated (counted_down session p) tag) ≡ outcome_unless misses (commands.QueryRep session) tag)
     (sym called) refl
-rep_outcome session misses participation seat (inr others) =
-    let tag : TagValue = tag_seated participation seat in
-    let command : Command = commands.QueryRep session in
-    ap (λ (t : TagValue). outcome_called misses command (counted_down session participation) t) (reseated session participation seat)
-    ∙ ap (λ (s : Option Participation). outcome_called misses command (counted_down session s) (tag_seated (counted_down session s) tag)) others.0
-    ∙ rep_state session misses tag.state tag.body (λ is. ap (λ (s : Option Participation). waits_in session s) (sym others.0) ∙ others.1 is) (λ same. others.2 (others.0 ∙ same))
+rep_outcome session misses part tag (inr others) =
+    ap (λ (p : Option Participation). outcome_part misses (commands.QueryRep session) (counted_down session p) (tag_seated (counted_down session p) tag)) others.0
+    ∙ rep_state session misses tag.state tag.body (λ is. ap (λ (p : Option Participation). waits_in session p) (sym others.0) ∙ others.1 is) (λ same. others.2 (others.0 ∙ same))
 
 counted_settled : (session : ℕ) (state : StateValue) (body : BodyValue)
     → counted_down session (participation_in state) ≡ participation_in (tag_seated (counted_down session (participation_in state)) (record { state = state; body = body })).state
@@ -187,34 +157,14 @@ counted_settled session (SecuredState held) body = refl
 counted_settled session KilledState body = refl
 counted_settled session UnpoweredState body = refl
 
-rep_settled : (session : ℕ) (misses : Bool) (participation : Option Participation) (seat : TagValue) → IsRep session misses participation (tag_seated participation seat) → counted_down session participation ≢ Some Called
-    → counted_down session participation ≡ participation_in (tag_seated (counted_down session participation) seat).state
+rep_settled : (session : ℕ) (misses : Bool) (part : Option Participation) (tag : TagValue) → IsRep session misses part tag → counted_down session part ≢ Some Called
+    → counted_down session part ≡ participation_in (tag_seated (counted_down session part) tag).state
 unfolding IsRep
-rep_settled session misses participation seat (inl called) apart = absurd (apart (ap (λ (s : Option Participation). counted_down session s) called))
-rep_settled session misses participation seat (inr others) apart =
-    let tag : TagValue = tag_seated participation seat in
-    ap (λ (s : Option Participation). counted_down session s) others.0
+rep_settled session misses part tag (inl called) apart = absurd (apart (ap (λ (p : Option Participation). counted_down session p) called))
+rep_settled session misses part tag (inr others) apart =
+    ap (λ (p : Option Participation). counted_down session p) others.0
     ∙ counted_settled session tag.state tag.body
-    ∙ ap (λ (s : Option Participation). participation_in (tag_seated (counted_down session s) tag).state) (sym others.0)
-    ∙ ap (λ (t : TagValue). participation_in t.state) (sym (reseated session participation seat))
-
--- ... for all tags
-rep_outcomes : (number session : ℕ) (entry : Entry) (participations : List (Option Participation)) (seats : List TagValue) → length participations ≡ length seats
-    → ((k : ℕ) → k < length seats → IsRep session (is_missed (number + k) entry) (participation_at participations k) (tag_seated (participation_at participations k) (get_or seats k no_tag)))
-    → outcomes_called number (commands.QueryRep session) entry (map (counted_down session) participations) (tags_of (map (counted_down session) participations) seats)
-    ≡ hearing_from number (commands.QueryRep session) entry (tags_of participations seats)
-rep_outcomes number session entry [] [] same rep = refl
-rep_outcomes number session entry [] (seat ∷ seats) same rep = absurd (omega (arith, same))
-rep_outcomes number session entry (participation ∷ participations) [] same rep = absurd (omega (arith, same))
-rep_outcomes number session entry (participation ∷ participations) (seat ∷ seats) same rep =
-    let first : IsRep session (is_missed number entry) participation (tag_seated participation seat) =
-    subst (λ n. IsRep session (is_missed n entry) participation (tag_seated participation seat)) (sym (sum-zero number)) (rep 0 (omega arith)) in
-    ap (λ (o : Outcome). o ∷ outcomes_called (number + 1) (commands.QueryRep session) entry (map (counted_down session) participations) (tags_of (map (counted_down session) participations) seats))
-    (rep_outcome session (is_missed number entry) participation seat first)
-    ∙ ap (λ (l : List Outcome). outcome_unless (is_missed number entry) (commands.QueryRep session) (tag_seated participation seat) ∷ l)
-    (rep_outcomes (number + 1) session entry participations seats (omega (arith, same))
-    (λ k below.
-    subst (λ n. IsRep session (is_missed n entry) (participation_at participations k) (tag_seated (participation_at participations k) (get_or seats k no_tag))) (sym (later number k)) (rep (suc k) (omega (arith, below)))))
+    ∙ ap (λ (p : Option Participation). participation_in (tag_seated (counted_down session p) tag).state) (sym others.0)
 
 counted_at : (session : ℕ) (participations : List (Option Participation)) (number : ℕ) → participation_at (map (counted_down session) participations) number ≡ counted_down session (participation_at participations number)
 counted_at session [] number = refl
@@ -222,61 +172,60 @@ counted_at session (participation ∷ participations) zero = refl
 counted_at session (participation ∷ participations) (suc number) = counted_at session participations number
 
 -- the tags are called that a QueryRep has to reach: first those that miss it, then those whose slot comes next
-pub record RepCalls (session : ℕ) (entry : Entry) (participations : List (Option Participation)) (seats : List TagValue) (called : List (Option Participation)) (seated : List TagValue) : Type 0 where
-  pub middle : List (Option Participation)
-  pub between : List TagValue
+pub record RepCalls (session : ℕ) (entry : Entry) (before called : FloorValue) : Type 0 where
+  pub middle : FloorValue
   pub steps : ℕ
   pub stepped : ℕ
   pub last : ℕ
-  pub rest : AreAtRest participations seats
-  pub missed : (number : ℕ) → IsMissedCalled session (is_missed number entry) (participation_at participations number) (participation_at middle number)
-  pub first : CallsTags participations seats steps middle between stepped
-  pub due : (number : ℕ) → IsDueCalled session (participation_at middle number) (participation_at called number)
-  pub second : CallsTags middle between stepped called seated last
+  pub settled : before.parts ≡ participations_of before.tags
+  pub missed : (number : ℕ) → IsMissedCalled session (is_missed number entry) (participation_at before.parts number) (participation_at middle.parts number)
+  pub first : CallsTags before steps middle stepped
+  pub due : (number : ℕ) → IsDueCalled session (participation_at middle.parts number) (participation_at called.parts number)
+  pub second : CallsTags middle stepped called last
 
-rep_whole : (session : ℕ) (entry : Entry) (participations : List (Option Participation)) (seats : List TagValue) (called : List (Option Participation)) (seated : List TagValue)
-    → RepCalls session entry participations seats called seated → length called ≡ length seated
-rep_whole session entry participations seats called seated calls =
-    calls.second.whole ∙ calls.first.whole ∙ calls.rest.whole ∙ sym (calls.second.seats_whole ∙ calls.first.seats_whole)
+rep_tags : (session : ℕ) (entry : Entry) (before called : FloorValue) → RepCalls session entry before called → called.tags ≡ before.tags
+rep_tags session entry before called calls = calls.second.tags ∙ calls.first.tags
 
-rep_at : (session : ℕ) (entry : Entry) (participations : List (Option Participation)) (seats : List TagValue) (called : List (Option Participation)) (seated : List TagValue)
-    → RepCalls session entry participations seats called seated → (k : ℕ) → k < length seated
-    → IsRep session (is_missed k entry) (participation_at called k) (tag_seated (participation_at called k) (get_or seated k no_tag))
-rep_at session entry participations seats called seated calls k below =
-    let whole = rep_whole session entry participations seats called seated calls in
-    let tag : get_or (tags_of participations seats) k no_tag ≡ tag_seated (participation_at called k) (get_or seated k no_tag) =
-    ap (λ (l : List TagValue). get_or l k no_tag) (sym (calls.second.tags ∙ calls.first.tags)) ∙ tag_at called seated k no_tag whole below in
-    let start : participation_at participations k ≡ participation_in (tag_seated (participation_at called k) (get_or seated k no_tag)).state =
-    ap (λ (l : List (Option Participation)). participation_at l k) calls.rest.settled ∙ participation_of_tag (tags_of participations seats) k ∙ ap (λ (t : TagValue). participation_in t.state) tag in
-    rep_from session (is_missed k entry) (participation_at participations k) (participation_at calls.middle k) (participation_at called k) (tag_seated (participation_at called k) (get_or seated k no_tag)) start
-    (calls.missed k) (calls.due k)
+rep_whole : (session : ℕ) (entry : Entry) (before called : FloorValue) → RepCalls session entry before called → length called.parts ≡ length called.tags
+rep_whole session entry before called calls =
+    calls.second.whole ∙ calls.first.whole ∙ settled_whole before calls.settled ∙ ap (λ (l : List TagValue). length l) (sym (rep_tags session entry before called calls))
 
-pub rep_called_for : (session : ℕ) (entry : Entry) (participations : List (Option Participation)) (seats : List TagValue) (called : List (Option Participation)) (seated : List TagValue)
-    → RepCalls session entry participations seats called seated
-    → AreCalledFor (commands.QueryRep session) entry (tags_of participations seats) (map (counted_down session) called) seated
-rep_called_for session entry participations seats called seated calls =
-    let counted : List (Option Participation) = map (counted_down session) called in
-    let same = rep_whole session entry participations seats called seated calls in
-    let whole : length counted ≡ length seated = length-map called (counted_down session) ∙ same in
+rep_at : (session : ℕ) (entry : Entry) (before called : FloorValue) → RepCalls session entry before called → (number : ℕ)
+    → IsRep session (is_missed number entry) (participation_at called.parts number) (get_or called.tags number no_tag)
+rep_at session entry before called calls number =
+    rep_from session (is_missed number entry) (participation_at before.parts number) (participation_at calls.middle.parts number) (participation_at called.parts number) (get_or called.tags number no_tag)
+    (settled_at before number calls.settled ∙ ap (λ (l : List TagValue). participation_in (get_or l number no_tag).state) (sym (rep_tags session entry before called calls))) (calls.missed number) (calls.due number)
+
+-- the tag of a number once the counters were counted down
+counted_tag : (session : ℕ) (floor : FloorValue) (number : ℕ) → length floor.parts ≡ length floor.tags → number < length floor.tags
+    → get_or (counted_floor session floor).tags number no_tag ≡ tag_seated (counted_down session (participation_at floor.parts number)) (get_or floor.tags number no_tag)
+counted_tag session floor number same within =
+    tag_at (map (counted_down session) floor.parts) floor.tags number no_tag (length-map floor.parts (counted_down session) ∙ same) within
+    ∙ ap (λ (p : Option Participation). tag_seated p (get_or floor.tags number no_tag)) (counted_at session floor.parts number)
+
+pub rep_called_for : (session : ℕ) (entry : Entry) (before called : FloorValue) → RepCalls session entry before called
+    → AreCalledFor (commands.QueryRep session) entry before (counted_floor session called)
+rep_called_for session entry before called calls =
+    let same = rep_whole session entry before called calls in
+    let tags = rep_tags session entry before called calls in
+    let whole : length (map (counted_down session) called.parts) ≡ length called.tags = length-map called.parts (counted_down session) ∙ same in
+    let long : length (counted_floor session called).tags ≡ length called.tags = length-tags_of (map (counted_down session) called.parts) called.tags whole in
     record {
-      outcomes =
-          rep_outcomes 0 session entry called seated same
-          (λ k below. subst (λ n. IsRep session (is_missed n entry) (participation_at called k) (tag_seated (participation_at called k) (get_or seated k no_tag))) (sym (zero-sum k))
-          (rep_at session entry participations seats called seated calls k below))
-          ∙ ap (λ (l : List TagValue). hearing_from 0 (commands.QueryRep session) entry l) (calls.second.tags ∙ calls.first.tags);
-      whole = whole;
-      few = rw (calls.second.seats_whole, calls.first.seats_whole) calls.rest.few;
-      legal = calls.second.legal (calls.first.legal calls.rest.legal);
-      uncalled = λ number apart.
-          elim (cases_lt number (length seated)) [
-            | inl within ↦
-                counted_at session called number
-                ∙ rep_settled session (is_missed number entry) (participation_at called number) (get_or seated number no_tag) (rep_at session entry participations seats called seated calls number within)
-                (λ is. apart (counted_at session called number ∙ is))
-                ∙ ap (λ (t : TagValue). participation_in t.state)
-                (sym (tag_at counted seated number no_tag whole within ∙ ap (λ (s : Option Participation). tag_seated s (get_or seated number no_tag)) (counted_at session called number)))
-            | inr past ↦ past_settled counted seated number whole past
-          ];
+      outcomes = λ number within.
+          let inside : number < length called.tags = rw tags within in
+          ap (λ (t : TagValue). outcome_part (is_missed number entry) (commands.QueryRep session) (participation_at (map (counted_down session) called.parts) number) t) (counted_tag session called number same inside)
+          ∙ ap (λ (p : Option Participation). outcome_part (is_missed number entry) (commands.QueryRep session) p (tag_seated (counted_down session (participation_at called.parts number)) (get_or called.tags number no_tag)))
+          (counted_at session called.parts number)
+          ∙ rep_outcome session (is_missed number entry) (participation_at called.parts number) (get_or called.tags number no_tag) (rep_at session entry before called calls number)
+          ∙ ap (λ (l : List TagValue). outcome_unless (is_missed number entry) (commands.QueryRep session) (get_or l number no_tag)) tags;
+      tags_whole = long ∙ ap (λ (l : List TagValue). length l) tags;
+      whole = whole ∙ sym long;
+      uncalled = λ number within apart.
+          let inside : number < length called.tags = rw (← long) within in
+          let part = counted_at session called.parts number in
+          part
+          ∙ rep_settled session (is_missed number entry) (participation_at called.parts number) (get_or called.tags number no_tag) (rep_at session entry before called calls number) (λ is. apart (part ∙ is))
+          ∙ ap (λ (t : TagValue). participation_in t.state) (sym (counted_tag session called number same inside));
     }
 
 -- no more tags are called than it keeps busy
@@ -323,20 +272,18 @@ answers_next session (SecuredState held) body is = absurd (cc)
 answers_next session KilledState body is = absurd (cc)
 answers_next session UnpoweredState body is = absurd (cc)
 
-called_busy : (session : ℕ) (entry : Entry) (participations : List (Option Participation)) (seats : List TagValue) (called : List (Option Participation)) (seated : List TagValue)
-    → RepCalls session entry participations seats called seated → (k : ℕ) → participation_at called k ≡ Some Called
-    → is_busy k (commands.QueryRep session) entry (get_or (tags_of participations seats) k no_tag) ≡ true
-called_busy session entry participations seats called seated calls k here =
-    let tag : TagValue = get_or (tags_of participations seats) k no_tag in
-    let start : participation_at participations k ≡ participation_in tag.state =
-    ap (λ (l : List (Option Participation)). participation_at l k) calls.rest.settled ∙ participation_of_tag (tags_of participations seats) k in
-    let misses : Bool = is_missed k entry in
+called_busy : (session : ℕ) (entry : Entry) (before called : FloorValue) → RepCalls session entry before called → (number : ℕ) → participation_at called.parts number ≡ Some Called
+    → is_busy number (commands.QueryRep session) entry (get_or before.tags number no_tag) ≡ true
+called_busy session entry before called calls number here =
+    let tag : TagValue = get_or before.tags number no_tag in
+    let start : participation_at before.parts number ≡ participation_in tag.state = settled_at before number calls.settled in
+    let misses : Bool = is_missed number entry in
     let beyond : Bool = is_beyond_arbitrate tag.state in
     let answers : Bool = is_some (step (commands.QueryRep session) tag.state tag.body).answer in
-    elim (calls.missed k) [
+    elim (calls.missed number) [
       | inr missed ↦ or_first misses beyond answers missed.1
       | inl missed ↦
-          elim (calls.due k) [
+          elim (calls.due number) [
             | inr due ↦ or_third misses beyond answers (answers_next session tag.state tag.body (sym start ∙ sym missed.0 ∙ due.1))
             | inl due ↦ or_second misses beyond answers (beyond_called tag.state (sym start ∙ sym missed.0 ∙ sym due.0 ∙ here))
           ]
@@ -348,6 +295,12 @@ one_busy (Some (Waits session slot)) busy is = omega arith
 one_busy (Some Called) true is = omega arith
 one_busy (Some Called) false is = absurd (true_false false (is refl) refl)
 
+no_more : (number : ℕ) → number + 0 ≡ number
+no_more number = omega arith
+
+later : (start number : ℕ) → start + suc number ≡ start + 1 + number
+later start number = omega arith
+
 busy_most : (number : ℕ) (command : Command) (entry : Entry) (participations : List (Option Participation)) (tags : List TagValue) → length participations ≡ length tags
     → ((k : ℕ) → k < length tags → participation_at participations k ≡ Some Called → is_busy (number + k) command entry (get_or tags k no_tag) ≡ true)
     → called_in participations ≤ busy_from number command entry tags
@@ -356,9 +309,9 @@ busy_most number command entry [] (tag ∷ tags) same busy = absurd (omega (arit
 busy_most number command entry (participation ∷ participations) [] same busy = absurd (omega (arith, same))
 busy_most number command entry (participation ∷ participations) (tag ∷ tags) same busy =
     let first = one_busy participation (is_busy number command entry tag)
-    (λ called. subst (λ n. is_busy n command entry tag ≡ true) (sym (sum-zero number)) (busy 0 (omega arith) called)) in
+    (λ called. subst (λ n. is_busy n command entry tag ≡ true) (no_more number) (busy 0 (omega arith) called)) in
     let rest = busy_most (number + 1) command entry participations tags (omega (arith, same))
-    (λ k below called. subst (λ n. is_busy n command entry (get_or tags k no_tag) ≡ true) (sym (later number k)) (busy (suc k) (omega (arith, below)) called)) in
+    (λ k below called. subst (λ n. is_busy n command entry (get_or tags k no_tag) ≡ true) (later number k) (busy (suc k) (omega (arith, below)) called)) in
     omega (arith, first, rest)
 
 same_called : (session : ℕ) (participation : Option Participation) → is_called (counted_down session participation) ≡ is_called participation
@@ -372,14 +325,12 @@ called_counted session (participation ∷ participations) =
     ap (λ (b : Bool). (if b then 1 else 0) + called_in (map (counted_down session) participations)) (same_called session participation)
     ∙ ap (λ n. (if is_called participation then 1 else 0) + n) (called_counted session participations)
 
-pub rep_bound : (session : ℕ) (entry : Entry) (participations : List (Option Participation)) (seats : List TagValue) (called : List (Option Participation)) (seated : List TagValue)
-    → RepCalls session entry participations seats called seated
-    → called_in (map (counted_down session) called) ≤ busy_from 0 (commands.QueryRep session) entry (tags_of participations seats)
-rep_bound session entry participations seats called seated calls =
-    let same : length called ≡ length (tags_of participations seats) =
-    calls.second.whole ∙ calls.first.whole ∙ calls.rest.whole ∙ sym (length-tags_of participations seats calls.rest.whole) in
-    rw (called_counted session called)
-    (busy_most 0 (commands.QueryRep session) entry called (tags_of participations seats) same
-    (λ k below is.
-    subst (λ n. is_busy n (commands.QueryRep session) entry (get_or (tags_of participations seats) k no_tag) ≡ true) (sym (zero-sum k))
-    (called_busy session entry participations seats called seated calls k is)))
+pub rep_bound : (session : ℕ) (entry : Entry) (before called : FloorValue) → RepCalls session entry before called
+    → called_in (counted_floor session called).parts ≤ busy_from 0 (commands.QueryRep session) entry before.tags
+rep_bound session entry before called calls =
+    let same : length called.parts ≡ length before.tags = rep_whole session entry before called calls ∙ ap (λ (l : List TagValue). length l) (rep_tags session entry before called calls) in
+    let start : (number : ℕ) → number ≡ 0 + number = λ number. omega arith in
+    rw (called_counted session called.parts)
+    (busy_most 0 (commands.QueryRep session) entry called.parts before.tags same
+    (λ number below is.
+    subst (λ n. is_busy n (commands.QueryRep session) entry (get_or before.tags number no_tag) ≡ true) (start number) (called_busy session entry before called calls number is)))

@@ -1,16 +1,17 @@
--- Tags in their seats, some of which wait for their slots and some of which are called.
-use Rattle.std.proofs.Common.{◌≡◌, ℕ, zero, suc, ◌+◌, ◌-◌, ◌<◌, ◌≤◌, ◌==◌, ◌⊎◌, inl, inr, Bool, true, false, ◌||◌, cond, List, [], ◌∷◌, length, Option, Some, None, get_or, set, refl, sym, ap, ◌∙◌, arith}
-use Rattle.std.specs.List.{list_any, All}
-use Rattle.std.proofs.lemmas.Bool.{cases_lt}
+-- Tags in their seats: what they are seen as, and how a slot counter is written back.
+use Rattle.std.proofs.Common.{◌≡◌, ◌≢◌, ℕ, zero, suc, ◌+◌, ◌<◌, ◌≤◌, ◌==◌, inl, inr, List, [], ◌∷◌, ◌++◌, length, map, take, drop, Option, Some, None, get_or, set, refl, sym, ap, ◌∙◌, subst, arith, if◌then◌else◌}
+use Rattle.std.specs.Prelude.{slice_get}
 use Rattle.std.proofs.lemmas.Bool.Decides.{eqb_tells}
-use Rattle.std.proofs.lemmas.List.{get_or_past, set-get_or, length-set}
+use Rattle.std.proofs.lemmas.List.{get_or-set_same, get_or-set_other, get_or_default, set-get_or, set-set, length-set, length-map, map-set, ext_get_or}
+use Rattle.std.proofs.lemmas.Option.{same_Some}
+use Rattle.std.proofs.Math.Seq.{take-append_seam}
 use Rattle.air_events.specs.TagNumbers.{most_tags}
-use Rattle.air_events.specs.declared.Entry.{Entry}
-use Rattle.tag_machine.specs.TagValue.{StateValue, ReadyState, ArbitrateState, ReplyState, AcknowledgedState, OpenState, SecuredState, KilledState, UnpoweredState, BodyValue, TagValue}
-use Rattle.tag_machine.specs.Exchange.{AreLegalTags, is_missed}
-use Rattle.tag_population.specs.Seated.{tag_seated, tags_of, participation_in, seats_written_back, steps_back, called_in, CallsTags, IsMissedCalled}
-use Rattle.tag_population.specs.Seats.{no_tag}
-use Rattle.waiting_tags.specs.Waiting.{participation_at, is_called, waits_in}
+use Rattle.tag_machine.specs.Exchange.{AreLegalTags}
+use Rattle.tag_machine.specs.Inventory.{slot_below}
+use Rattle.tag_machine.specs.TagValue.{StateValue, ReadyState, ArbitrateState, ReplyState, AcknowledgedState, OpenState, SecuredState, KilledState, UnpoweredState, BodyValue, TagValue, IsLegalState, IsLegalTag}
+use Rattle.tag_population.proofs.EventsOnTags.{legal-set}
+use Rattle.tag_population.specs.Floor.{with_slot, tag_seated, tags_of, participation_in, participations_of, seats_written_back, steps_back, became, calling, counted_floor, no_tag, FloorValue, AreSeated}
+use Rattle.waiting_tags.specs.Waiting.{participation_at, slot_in, counted_down, AreSlots}
 use Rattle.waiting_tags.specs.declared.waiting.Participation.{Participation}
 use Rattle.waiting_tags.specs.declared.waiting.Participation.TheVariants.{Waits, Called}
 
@@ -52,121 +53,302 @@ seated_in_state UnpoweredState body = refl
 pub seated_as_is : (tag : TagValue) → tag_seated (participation_in tag.state) tag ≡ tag
 seated_as_is tag = seated_in_state tag.state tag.body
 
--- A tag is called, with its slot counter written back into its seat.
-pub back_and_called : (participation : Option Participation) → steps_back participation + cond (is_called participation) 1 0 ≤ 1
-back_and_called None = omega arith
-back_and_called (Some (Waits session slot)) = omega arith
-back_and_called (Some Called) = omega arith
+pub with_slot_twice : (slot old : ℕ) (state : StateValue) → with_slot slot (with_slot old state) ≡ with_slot slot state
+with_slot_twice slot old ReadyState = refl
+with_slot_twice slot old (ArbitrateState session q own) = refl
+with_slot_twice slot old (ReplyState session q rn) = refl
+with_slot_twice slot old (AcknowledgedState session q rn) = refl
+with_slot_twice slot old (OpenState held) = refl
+with_slot_twice slot old (SecuredState held) = refl
+with_slot_twice slot old KilledState = refl
+with_slot_twice slot old UnpoweredState = refl
 
-pub called_in-set : (participations : List (Option Participation)) (number : ℕ) → number < length participations
-    → called_in (set participations number (Some Called)) + cond (is_called (participation_at participations number)) 1 0 ≡ called_in participations + 1
-called_in-set [] number within = absurd (omega (arith, within))
-called_in-set (participation ∷ participations) zero within = omega arith
-called_in-set (participation ∷ participations) (suc number) within = omega (arith, called_in-set participations number (omega (arith, within)))
+seated_twice : (participation : Option Participation) (seat : TagValue) → tag_seated participation (tag_seated participation seat) ≡ tag_seated participation seat
+seated_twice None seat = refl
+seated_twice (Some (Waits session slot)) seat = ap (λ (s : StateValue). record seat { state = s }) (with_slot_twice slot slot seat.state)
+seated_twice (Some Called) seat = refl
 
-one_called : (participation : Option Participation) → cond (is_called participation) 1 0 ≤ 1
-one_called None = omega arith
-one_called (Some (Waits session slot)) = omega arith
-one_called (Some Called) = omega arith
+reseated : (session : ℕ) (participation : Option Participation) (seat : TagValue)
+    → tag_seated (counted_down session participation) seat ≡ tag_seated (counted_down session participation) (tag_seated participation seat)
+reseated session None seat = refl
+reseated session (Some (Waits own slot)) seat =
+    ap (λ (s : StateValue). record seat { state = s }) (sym (with_slot_twice (if own == session then slot_below slot else slot) slot seat.state))
+reseated session (Some Called) seat = refl
 
-pub called_most : (participations : List (Option Participation)) → called_in participations ≤ length participations
-called_most [] = omega arith
-called_most (participation ∷ participations) = omega (arith, one_called participation, called_most participations)
+-- legal tags, with slot counters of 15 bits
+pub legal_with_slot : (slot : ℕ) (state : StateValue) → slot < 32768 → IsLegalState state → IsLegalState (with_slot slot state)
+legal_with_slot slot ReadyState below legal = legal
+legal_with_slot slot (ArbitrateState session q old) below legal = (legal.0, legal.1, omega (arith, below))
+legal_with_slot slot (ReplyState session q rn) below legal = legal
+legal_with_slot slot (AcknowledgedState session q rn) below legal = legal
+legal_with_slot slot (OpenState held) below legal = legal
+legal_with_slot slot (SecuredState held) below legal = legal
+legal_with_slot slot KilledState below legal = legal
+legal_with_slot slot UnpoweredState below legal = legal
 
--- what is known where a tag is called
-pub record CallsOne (participations : List (Option Participation)) (seats : List TagValue) (steps : ℕ) : Type 0 where
-  pub number : ℕ
-  pub called : List (Option Participation)
-  pub seated : List TagValue
-  pub stepped : ℕ
+legal_seated : (participation : Option Participation) (seat : TagValue) → ((slot : ℕ) → slot_in participation ≡ Some slot → slot < 32768) → IsLegalTag seat → IsLegalTag (tag_seated participation seat)
+legal_seated None seat slots legal = legal
+legal_seated (Some (Waits session slot)) seat slots legal = record { state = legal_with_slot slot seat.state (slots slot refl) legal.state; body = legal.body }
+legal_seated (Some Called) seat slots legal = legal
+
+pub legal_tags : (participations : List (Option Participation)) (seats : List TagValue) → AreSlots participations → AreLegalTags seats → AreLegalTags (tags_of participations seats)
+legal_tags [] seats slots legal = tt
+legal_tags (participation ∷ participations) [] slots legal = tt
+legal_tags (participation ∷ participations) (seat ∷ seats) slots legal =
+    (legal_seated participation seat (λ slot is. slots 0 slot is) legal.0, legal_tags participations seats (λ number slot is. slots (suc number) slot is) legal.1)
+
+pub participation_of_tag : (tags : List TagValue) (number : ℕ) → participation_at (participations_of tags) number ≡ participation_in (get_or tags number no_tag).state
+participation_of_tag [] number = refl
+participation_of_tag (tag ∷ tags) zero = refl
+participation_of_tag (tag ∷ tags) (suc number) = participation_of_tag tags number
+
+-- the tags below a number take part as their states say
+pub record SettledBelow (seats : List TagValue) (number : ℕ) (participations : List (Option Participation)) : Type 0 where
   pub whole : length participations ≡ length seats
-  pub within : number < length seats
-  pub back : seated ≡ seats_written_back participations number seats
-  pub is : called ≡ set participations number (Some Called)
-  pub counts : stepped ≤ steps + steps_back (participation_at participations number)
-  pub legal : AreLegalTags seats → AreLegalTags seated
+  pub each : (other : ℕ) → other < number → participation_at participations other ≡ participation_in (get_or seats other no_tag).state
 
-pub call_tags : (participations : List (Option Participation)) (seats : List TagValue) (steps : ℕ) (one : CallsOne participations seats steps)
-    → CallsTags participations seats steps one.called one.seated one.stepped
-call_tags participations seats steps one =
-    let number = one.number in
-    let seat : TagValue = tag_seated (participation_at participations number) (get_or seats number no_tag) in
-    let room : number < length participations = rw one.whole one.within in
+pub settled_none : (seats : List TagValue) (participations : List (Option Participation)) → length participations ≡ length seats → SettledBelow seats 0 participations
+settled_none seats participations same = record { whole = same; each = λ other below. absurd (omega (arith, below)) }
+
+-- ... where the next one has become another, and is put where it takes part
+pub record SettlesNext (seats : List TagValue) (number : ℕ) (participations : List (Option Participation)) : Type 0 where
+  pub became : List TagValue
+  pub after : List (Option Participation)
+  pub participation : Option Participation
+  pub seat : TagValue
+  pub within : number < length seats
+  pub long : length became ≡ length seats
+  pub at : get_or became number no_tag ≡ seat
+  pub others : (other : ℕ) → other ≢ number → get_or became other no_tag ≡ get_or seats other no_tag
+  pub is : participation ≡ participation_in seat.state
+  pub put : after ≡ set participations number participation
+
+pub settled_next : (seats : List TagValue) (number : ℕ) (participations : List (Option Participation)) → SettledBelow seats number participations
+    → (next : SettlesNext seats number participations) → SettledBelow next.became (number + 1) next.after
+settled_next seats number participations so_far next = record {
+  whole = ap (λ (l : List (Option Participation)). length l) next.put ∙ length-set participations number next.participation ∙ so_far.whole ∙ sym next.long;
+  each = λ other below.
+      elim (eqb_tells other number) [
+        | inl same ↦
+            ap (λ n. participation_at next.after n) same.1
+            ∙ ap (λ (l : List (Option Participation)). participation_at l number) next.put
+            ∙ get_or-set_same participations number next.participation None (rw so_far.whole next.within)
+            ∙ next.is
+            ∙ ap (λ (t : TagValue). participation_in t.state) (sym next.at)
+            ∙ ap (λ n. participation_in (get_or next.became n no_tag).state) (sym same.1)
+        | inr apart ↦
+            ap (λ (l : List (Option Participation)). participation_at l other) next.put
+            ∙ get_or-set_other participations number other next.participation None apart.1
+            ∙ so_far.each other (omega (arith, below, apart.1))
+            ∙ ap (λ (t : TagValue). participation_in t.state) (sym (next.others other apart.1))
+      ];
+}
+
+pub settled_all : (seats : List TagValue) (number : ℕ) (participations : List (Option Participation)) → SettledBelow seats number participations → length seats ≤ number → participations ≡ participations_of seats
+settled_all seats number participations so_far past =
+    ext_get_or None participations (participations_of seats) (so_far.whole ∙ sym (length-map seats (λ (t : TagValue). participation_in t.state)))
+    (λ other below. so_far.each other (omega (arith, below, so_far.whole, past)) ∙ sym (participation_of_tag seats other))
+
+settled_tags : (seats : List TagValue) → tags_of (participations_of seats) seats ≡ seats
+settled_tags [] = refl
+settled_tags (seat ∷ seats) =
+    ap (λ (t : TagValue). t ∷ tags_of (participations_of seats) seats) (seated_as_is seat) ∙ ap (λ (l : List TagValue). seat ∷ l) (settled_tags seats)
+
+legal_slots : (state : StateValue) (slot : ℕ) → IsLegalState state → slot_in (participation_in state) ≡ Some slot → slot < 32768
+legal_slots ReadyState slot legal is = absurd (cc)
+legal_slots (ArbitrateState session q own) slot legal is = omega (arith, legal.2, same_Some own slot is)
+legal_slots (ReplyState session q rn) slot legal is = absurd (cc)
+legal_slots (AcknowledgedState session q rn) slot legal is = absurd (cc)
+legal_slots (OpenState held) slot legal is = absurd (cc)
+legal_slots (SecuredState held) slot legal is = absurd (cc)
+legal_slots KilledState slot legal is = absurd (cc)
+legal_slots UnpoweredState slot legal is = absurd (cc)
+
+slots_at : (seat : TagValue) (seats : List TagValue) → AreLegalTags (seat ∷ seats) → (number slot : ℕ) → slot_in (participation_at (participations_of (seat ∷ seats)) number) ≡ Some slot → slot < 32768
+slots_at seat seats legal zero slot is = legal_slots seat.state slot legal.0.state is
+slots_at seat [] legal (suc number) slot is = absurd (cc)
+slots_at seat (next ∷ seats) legal (suc number) slot is = slots_at next seats legal.1 number slot is
+
+slots_of : (seats : List TagValue) → AreLegalTags seats → AreSlots (participations_of seats)
+slots_of [] legal = λ number slot is. absurd (cc)
+slots_of (seat ∷ seats) legal = λ number slot is. slots_at seat seats legal number slot is
+
+-- tags that take part as their states say are those in the seats
+pub new_tags : (seats : List TagValue) (parts : List (Option Participation)) → parts ≡ participations_of seats → tags_of parts seats ≡ seats
+new_tags seats parts is = ap (λ (l : List (Option Participation)). tags_of l seats) is ∙ settled_tags seats
+
+pub new_seated : (seats : List TagValue) (parts : List (Option Participation)) → parts ≡ participations_of seats → length seats ≤ most_tags → AreLegalTags seats → AreSeated parts seats
+new_seated seats parts is few legal = record {
+  few = few;
+  whole = ap (λ (l : List (Option Participation)). length l) is ∙ length-map seats (λ (t : TagValue). participation_in t.state);
+  legal = legal;
+  slots = subst (λ (l : List (Option Participation)). AreSlots l) (sym is) (slots_of seats legal);
+}
+
+pub steps_back_most : (participation : Option Participation) → steps_back participation ≤ 1
+steps_back_most None = omega arith
+steps_back_most (Some (Waits session slot)) = omega arith
+steps_back_most (Some Called) = omega arith
+
+-- what seats and participations are seen as
+abbrev pub floor_of : List (Option Participation) → List TagValue → FloorValue
+floor_of parts items = record { tags = tags_of parts items; parts = parts }
+
+pub seats_within : (parts : List (Option Participation)) (items : List TagValue) (floor : FloorValue) (number : ℕ) → AreSeated parts items → floor_of parts items ≡ floor → number < length floor.tags → number < length items
+seats_within parts items floor number are is within = rw (← length-tags_of parts items are.whole, ap (λ (f : FloorValue). f.tags) is) within
+
+pub parts_within : (parts : List (Option Participation)) (items : List TagValue) (floor : FloorValue) (number : ℕ) → AreSeated parts items → floor_of parts items ≡ floor → number < length floor.tags → number < length parts
+parts_within parts items floor number are is within = rw are.whole (seats_within parts items floor number are is within)
+
+-- a slot counter was written back
+pub record Back : Type 0 where
+  pub parts : List (Option Participation)
+  pub items : List TagValue
+  pub seated : List TagValue
+  pub number : ℕ
+  pub are : AreSeated parts items
+  pub within : number < length items
+  pub back_is : seated ≡ seats_written_back parts number items
+  pub legal : AreLegalTags items → AreLegalTags seated
+
+abbrev pub written : (parts : List (Option Participation)) (items slice seated : List TagValue) (number : ℕ) (floor : FloorValue) → AreSeated parts items → floor_of parts items ≡ floor → number < length floor.tags
+    → slice ≡ items → seated ≡ seats_written_back parts number slice → (AreLegalTags slice → AreLegalTags seated) → Back
+written parts items slice seated number floor are is within same back legal = record {
+  parts = parts;
+  items = items;
+  seated = seated;
+  number = number;
+  are = are;
+  within = seats_within parts items floor number are is within;
+  back_is = back ∙ ap (λ (l : List TagValue). seats_written_back parts number l) same;
+  legal = λ all. legal (subst (λ (l : List TagValue). AreLegalTags l) (sym same) all);
+}
+
+-- seats that were written all at once are those that were written
+pub all_written : (b : Back) (len : ℕ) → len ≡ length b.items → take len (b.seated ++ drop (length b.seated) b.items) ≡ b.seated
+all_written b len is =
+    ap (λ n. take n (b.seated ++ drop (length b.seated) b.items)) (is ∙ sym (ap (λ (l : List TagValue). length l) b.back_is ∙ length-set b.items b.number (tag_seated (participation_at b.parts b.number) (get_or b.items b.number no_tag))))
+    ∙ take-append_seam b.seated (drop (length b.seated) b.items)
+
+abbrev written_seat : Back → TagValue
+written_seat b = tag_seated (participation_at b.parts b.number) (get_or b.items b.number no_tag)
+
+pub back_long : (b : Back) → length b.seated ≡ length b.items
+back_long b = ap (λ (l : List TagValue). length l) b.back_is ∙ length-set b.items b.number (written_seat b)
+
+-- the seat has what its tag is seen as
+pub back_at : (b : Back) → get_or b.seated b.number no_tag ≡ get_or (tags_of b.parts b.items) b.number no_tag
+back_at b =
+    ap (λ (l : List TagValue). get_or l b.number no_tag) b.back_is
+    ∙ get_or-set_same b.items b.number (written_seat b) no_tag b.within
+    ∙ sym (tag_at b.parts b.items b.number no_tag b.are.whole b.within)
+
+-- the tag that is read from the seats then
+pub back_read : (b : Back) (floor : FloorValue) (at : ℕ) (seat : TagValue) → floor_of b.parts b.items ≡ floor → at ≡ b.number → seat ≡ get_or b.seated at seat → seat ≡ get_or floor.tags b.number no_tag
+back_read b floor at seat is same read =
+    let here : b.number < length b.seated = rw (back_long b) b.within in
+    read
+    ∙ ap (λ n. get_or b.seated n seat) same
+    ∙ get_or_default b.seated b.number seat no_tag here
+    ∙ back_at b
+    ∙ ap (λ (f : FloorValue). get_or f.tags b.number no_tag) is
+
+-- nothing else is changed by it
+pub back_tags : (b : Back) → tags_of b.parts b.seated ≡ tags_of b.parts b.items
+back_tags b =
+    ap (λ (l : List TagValue). tags_of b.parts l) b.back_is
+    ∙ ap (λ (l : List (Option Participation)). tags_of l (set b.items b.number (written_seat b))) (sym (set-get_or b.parts b.number None))
+    ∙ tags-set b.parts b.items b.number (participation_at b.parts b.number) (written_seat b) b.are.whole
+    ∙ ap (λ (t : TagValue). set (tags_of b.parts b.items) b.number t)
+    (seated_twice (participation_at b.parts b.number) (get_or b.items b.number no_tag) ∙ sym (tag_at b.parts b.items b.number no_tag b.are.whole b.within))
+    ∙ set-get_or (tags_of b.parts b.items) b.number no_tag
+
+pub back_seated : (b : Back) → AreSeated b.parts b.seated
+back_seated b = record {
+  few = omega (arith, back_long b, b.are.few);
+  whole = b.are.whole ∙ sym (back_long b);
+  legal = b.legal b.are.legal;
+  slots = b.are.slots;
+}
+
+-- ... and then the tag was called
+called_tags : (b : Back) → tags_of (set b.parts b.number (Some Called)) b.seated ≡ tags_of b.parts b.items
+called_tags b =
+    ap (λ (l : List TagValue). tags_of (set b.parts b.number (Some Called)) l) b.back_is
+    ∙ tags-set b.parts b.items b.number (Some Called) (written_seat b) b.are.whole
+    ∙ ap (λ (t : TagValue). set (tags_of b.parts b.items) b.number t) (sym (tag_at b.parts b.items b.number no_tag b.are.whole b.within))
+    ∙ set-get_or (tags_of b.parts b.items) b.number no_tag
+
+pub called_is : (b : Back) (after : List (Option Participation)) (floor : FloorValue) → floor_of b.parts b.items ≡ floor → after ≡ set b.parts b.number (Some Called) → floor_of after b.seated ≡ calling floor b.number
+called_is b after floor is put =
+    ap (λ (l : List (Option Participation)). floor_of l b.seated) put
+    ∙ ap (λ (l : List TagValue). let changed : FloorValue = record { tags = l; parts = set b.parts b.number (Some Called) } in changed) (called_tags b)
+    ∙ ap (λ (f : FloorValue). calling f b.number) is
+
+pub called_seated : (b : Back) (after : List (Option Participation)) → AreSlots after → after ≡ set b.parts b.number (Some Called) → AreSeated after b.seated
+called_seated b after slots put = record {
+  few = omega (arith, back_long b, b.are.few);
+  whole = ap (λ (l : List (Option Participation)). length l) put ∙ length-set b.parts b.number (Some Called) ∙ b.are.whole ∙ sym (back_long b);
+  legal = b.legal b.are.legal;
+  slots = slots;
+}
+
+-- ... or it became another, and takes part as its state says
+pub record Becomes (b : Back) : Type 0 where
+  pub new : TagValue
+  pub participation : Option Participation
+  pub after : List (Option Participation)
+  pub takes : participation ≡ participation_in new.state
+  pub put : after ≡ set b.parts b.number participation
+  pub slots : AreSlots after
+  pub legal : IsLegalTag new
+
+pub becomes_floor : (b : Back) (n : Becomes b) (floor : FloorValue) (at : ℕ) → floor_of b.parts b.items ≡ floor → at ≡ b.number → floor_of n.after (set b.seated at n.new) ≡ became floor b.number n.new
+becomes_floor b n floor at is same =
+    let after_is : n.after ≡ set b.parts b.number (participation_in n.new.state) = n.put ∙ ap (λ (p : Option Participation). set b.parts b.number p) n.takes in
+    let seats_are : set b.seated b.number n.new ≡ set b.items b.number n.new =
+    ap (λ (l : List TagValue). set l b.number n.new) b.back_is ∙ set-set b.items b.number (written_seat b) n.new in
+    let tags_are : tags_of (set b.parts b.number (participation_in n.new.state)) (set b.items b.number n.new) ≡ set (tags_of b.parts b.items) b.number n.new =
+    tags-set b.parts b.items b.number (participation_in n.new.state) n.new b.are.whole ∙ ap (λ (t : TagValue). set (tags_of b.parts b.items) b.number t) (seated_as_is n.new) in
+    ap (λ m. floor_of n.after (set b.seated m n.new)) same
+    ∙ ap (λ (l : List TagValue). floor_of n.after l) seats_are
+    ∙ ap (λ (l : List (Option Participation)). floor_of l (set b.items b.number n.new)) after_is
+    ∙ ap (λ (l : List TagValue). let changed : FloorValue = record { tags = l; parts = set b.parts b.number (participation_in n.new.state) } in changed) tags_are
+    ∙ ap (λ (f : FloorValue). became f b.number n.new) is
+
+then_seated : (b : Back) (n : Becomes b) → AreSeated n.after (set b.seated b.number n.new)
+then_seated b n =
+    let long : length (set b.seated b.number n.new) ≡ length b.items = length-set b.seated b.number n.new ∙ back_long b in
     record {
-      tags =
-          ap (λ (l : List (Option Participation)). tags_of l one.seated) one.is
-          ∙ ap (λ (l : List TagValue). tags_of (set participations number (Some Called)) l) one.back
-          ∙ tags-set participations seats number (Some Called) seat one.whole
-          ∙ ap (λ (t : TagValue). set (tags_of participations seats) number t) (sym (tag_at participations seats number no_tag one.whole one.within))
-          ∙ set-get_or (tags_of participations seats) number no_tag;
-      whole = ap (λ (l : List (Option Participation)). length l) one.is ∙ length-set participations number (Some Called);
-      seats_whole = ap (λ (l : List TagValue). length l) one.back ∙ length-set seats number seat;
-      counted =
-          rw (ap (λ (l : List (Option Participation)). called_in l) one.is)
-          (omega (arith, called_in-set participations number room, back_and_called (participation_at participations number), one.counts));
-      legal = one.legal;
+      few = omega (arith, long, b.are.few);
+      whole = ap (λ (l : List (Option Participation)). length l) n.put ∙ length-set b.parts b.number n.participation ∙ b.are.whole ∙ sym long;
+      legal = legal-set b.seated b.number n.new (b.legal b.are.legal) n.legal;
+      slots = n.slots;
     }
 
-no_participation : (participation : Participation) → None ≡ Some participation → ⊥
-no_participation participation e = cc
+pub becomes_seated : (b : Back) (n : Becomes b) (at : ℕ) → at ≡ b.number → AreSeated n.after (set b.seated at n.new)
+becomes_seated b n at same =
+    subst (λ m. AreSeated n.after (set b.seated m n.new)) (sym same) (then_seated b n)
 
--- a tag that takes part is there
-pub participation_inside : (participations : List (Option Participation)) (number : ℕ) (participation : Participation) → participation_at participations number ≡ Some participation → number < length participations
-participation_inside participations number participation is =
-    elim (cases_lt number (length participations)) [
-      | inl within ↦ within
-      | inr past ↦ absurd (no_participation participation (sym (get_or_past participations number None past) ∙ is))
-    ]
+-- slot counters were counted down
+pub counted_tags : (session : ℕ) (parts : List (Option Participation)) (seats : List TagValue) → tags_of (map (counted_down session) parts) seats ≡ tags_of (map (counted_down session) parts) (tags_of parts seats)
+counted_tags session [] seats = refl
+counted_tags session (part ∷ parts) [] = refl
+counted_tags session (part ∷ parts) (seat ∷ seats) = rw (← reseated session part seat, ← counted_tags session parts seats) refl
 
--- The tags that miss a QueryRep are called, one after another: so far those of the first names of an entry that wait in its session.
-abbrev pub IsMissedBelow : ℕ → Entry → ℕ → ℕ → Option Participation → Option Participation → Type 0
-IsMissedBelow session entry index number before after =
-    ((after ≡ before) × ((k : ℕ) → k < index → get_or entry.missed k 0 ≡ number → waits_in session before ≡ false)) ⊎ ((after ≡ Some Called) × (is_missed number entry ≡ true))
+pub slice_at : (tags : List TagValue) (number : ℕ) (d : TagValue) → number < length tags → slice_get tags number ≡ Some (get_or tags number d)
+slice_at [] number d within = absurd (omega (arith, within))
+slice_at (tag ∷ tags) zero d within = refl
+slice_at (tag ∷ tags) (suc number) d within = slice_at tags number d (omega (arith, within))
 
-pub record MissedBelow (session : ℕ) (entry : Entry) (participations : List (Option Participation)) (seats : List TagValue) (steps index : ℕ) (called : List (Option Participation)) (seated : List TagValue) (stepped : ℕ) : Type 0 where
-  pub calls : CallsTags participations seats steps called seated stepped
-  pub each : (number : ℕ) → IsMissedBelow session entry index number (participation_at participations number) (participation_at called number)
+pub counted_is : (session : ℕ) (parts after : List (Option Participation)) (items : List TagValue) (floor : FloorValue) → floor_of parts items ≡ floor → after ≡ map (counted_down session) parts
+    → floor_of after items ≡ counted_floor session floor
+counted_is session parts after items floor is counted =
+    ap (λ (l : List (Option Participation)). floor_of l items) counted
+    ∙ ap (λ (l : List TagValue). let changed : FloorValue = record { tags = l; parts = map (counted_down session) parts } in changed) (counted_tags session parts items)
+    ∙ ap (λ (f : FloorValue). counted_floor session f) is
 
-missed_index : (number : ℕ) (missed : List ℕ) → list_any (λ tag. tag == number) missed ≡ true → (k : ℕ) × (k < length missed) × (get_or missed k 0 ≡ number)
-missed_index number [] any = cc
-missed_index number (tag ∷ missed) any =
-    elim (eqb_tells tag number) [
-      | inl w ↦ (0, omega arith, w.1)
-      | inr w ↦
-          let rest = missed_index number missed (sym (ap (λ (b : Bool). b || list_any (λ tag. tag == number) missed) w.0) ∙ any) in
-          (suc rest.0, omega (arith, rest.1), rest.2)
-    ]
-
-pub missed_all : (session : ℕ) (entry : Entry) (index number : ℕ) (before after : Option Participation) → IsMissedBelow session entry index number before after → length entry.missed ≤ index
-    → IsMissedCalled session (is_missed number entry) before after
-missed_all session entry index number before after (inl waits) past =
-    inl (
-      waits.0,
-      λ misses.
-          let found = missed_index number entry.missed misses in
-          waits.1 found.0 (omega (arith, found.1, past)) found.2,
-    )
-missed_all session entry index number before after (inr there) past = inr there
-
--- The tags whose slot comes next are called, one after another.
-pub record DueSoFar (session : ℕ) (participations : List (Option Participation)) (seats : List TagValue) (steps : ℕ) (called : List (Option Participation)) (seated : List TagValue) (stepped : ℕ) : Type 0 where
-  pub calls : CallsTags participations seats steps called seated stepped
-  pub each :
-      (number : ℕ) → (participation_at called number ≡ participation_at participations number) ⊎ ((participation_at called number ≡ Some Called) × (participation_at participations number ≡ Some (Waits session 1)))
-
-uncounted : (session slot : ℕ) (participation : Option Participation) → participation ≡ Some (Waits session slot) → cond (is_called participation) 1 0 ≤ 0
-uncounted session slot participation is = rw is (omega arith)
-
-pub due_smaller : (session due : ℕ) (called more : List (Option Participation)) → participation_at called due ≡ Some (Waits session 1) → more ≡ set called due (Some Called)
-    → length more - called_in more < length called - called_in called
-due_smaller session due called more is put =
-    let within = participation_inside called due (Waits session 1) is in
-    let counts : called_in (set called due (Some Called)) + cond (is_called (participation_at called due)) 1 0 ≡ called_in called + 1 = called_in-set called due within in
-    let none = uncounted session 1 (participation_at called due) is in
-    let most : called_in (set called due (Some Called)) ≤ length (set called due (Some Called)) = called_most (set called due (Some Called)) in
-    rw put (omega (arith, counts, none, most, length-set called due (Some Called)))
-
-pub missed_fits : (items missed : List ℕ) (index count : ℕ) → items ≡ missed → All (λ tag. tag < count) missed → index < length items → count ≤ most_tags → get_or items index 0 < most_tags
-missed_fits items missed index count same all within few =
-    let below : get_or missed index 0 < count = all index 0 (rw (← same) within) in
-    omega (arith, ap (λ (l : List ℕ). get_or l index 0) same, below, few)
+pub became_settled : (floor after : FloorValue) (number : ℕ) (tag : TagValue) → floor.parts ≡ participations_of floor.tags → after ≡ became floor number tag → after.parts ≡ participations_of after.tags
+became_settled floor after number tag settled is =
+    rw is
+    (ap (λ (l : List (Option Participation)). set l number (participation_in tag.state)) settled ∙ sym (map-set (λ (t : TagValue). participation_in t.state) floor.tags number tag))

@@ -1,9 +1,14 @@
--- That a population which lent a tag out stays as it is.
+-- That a population, and the floor of one, which lent a tag out, stay as they are.
 use Rattle.std.specs.Prelude.{◌≡◌, ⊤, List}
 use Rattle.std.specs.Borrow.{follows_so, MutBor, Fml}
 use mathlib.Core.Option.{none}
-use Rattle.tag_population.specs.contracts.population.Population.{the_row}
+use Rattle.tag_population.specs.contracts.floor.Floor as floor
+use Rattle.tag_population.specs.contracts.population.Population as population
+use Rattle.tag_population.specs.Floor.{FloorValue}
 use Rattle.tag_machine.specs.TagValue.{TagValue}
 
+abbrev pub KeepsFloor : MutBor FloorValue → Fml
+KeepsFloor lender = follows_so floor.the_row floor.the_row lender.ghost_name none (λ _ _. ⊤) (λ after. after ≡ lender.now)
+
 abbrev pub KeepsPopulation : MutBor (List TagValue) → Fml
-KeepsPopulation population = follows_so the_row the_row population.ghost_name none (λ _ _. ⊤) (λ after. after ≡ population.now)
+KeepsPopulation lender = follows_so population.the_row population.the_row lender.ghost_name none (λ _ _. ⊤) (λ after. after ≡ lender.now)

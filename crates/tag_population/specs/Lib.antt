@@ -1,6 +1,4 @@
-pub mod AnswersTaken
-pub mod Seats
-pub mod LentSeats
+pub mod Answers
+pub mod Floor
 pub mod Hearing
 pub mod Lent
-pub mod Seated

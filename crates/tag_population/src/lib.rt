@@ -1,10 +1,10 @@
-//! A population of tags with numbers: which of them hear a command, what becomes of each, and who takes what they answer.
+//! A population of tags with numbers: which of them hear a command, what becomes of each, and what they answer.
 #![tactic(auto)]
 
-mod answering;
+mod answers;
+mod floor;
 mod population;
 mod seat;
-mod seats;
 
-pub use answering::AnswerTaker;
+pub use answers::{Answer, Answers};
 pub use population::Population;

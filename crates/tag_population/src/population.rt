@@ -1,62 +1,50 @@
 //! Tags with numbers.
-ghost use Rattle.std.specs.Prelude.{◌≡◌, ℕ, ◌+◌, ◌*◌, ◌<◌, ◌≤◌, ◌++◌, true, List, [], All, Some, None, map, length, vec_len, slice_get, slice_set, IfOk};
+ghost use Rattle.std.specs.Prelude.{◌≡◌, ℕ, ◌+◌, ◌*◌, ◌<◌, ◌≤◌, [], All, Some, map, length, vec_len, slice_get, IfOk};
 ghost use Rattle.std.specs.Borrow.{sem};
 ghost use Rattle.air_events.specs.TagNumbers.{most_tags};
-ghost use Rattle.reply_grammar.specs.Table.{reply_room};
+ghost use Rattle.tag_machine.specs.Answers.{IsSent};
+ghost use Rattle.tag_machine.specs.Exchange.{AreLegalTags, IsQueryRep, busy_from, is_missed, replies_from, tags_after, tags_after_event};
 ghost use Rattle.tag_machine.specs.Hearing.{tag_value_of};
 ghost use Rattle.tag_machine.specs.TagValue.{IsLegalTag};
-ghost use Rattle.tag_machine.specs.Exchange.{AreLegalTags, IsQueryRep, Replied, busy_from, is_missed, replies_from, reply_of, tags_after, tags_after_event};
-ghost use Rattle.tag_population.specs.AnswersTaken.{TookFew};
-ghost use Rattle.tag_population.specs.Hearing.{hearing_from, tags_after_events};
+ghost use Rattle.tag_population.specs.Answers.{answers_of};
+ghost use Rattle.tag_population.specs.Floor.{AreCalledFor, AreUncalledSettled, CallsTags, HeardEach, IsDueCalled, IsMissedCalled, called_in, outcome_called, outcome_each, participations_of};
+ghost use Rattle.tag_population.specs.Hearing.{HearsAll, hearing_from, tags_after_events};
 ghost use Rattle.tag_population.specs.Lent.{KeepsPopulation};
-ghost use Rattle.tag_population.specs.Seated.{AdjustsOne, AreAtRest, AreCalledFor, AreUncalledSettled, CallsTags, HearsAtRest, HearsSeated, AreAdjusted, IsDueCalled, IsMissedCalled, called_in, outcome_seated, outcomes_called, seats_written_back, participations_of, steps_back, tags_of};
 ghost use Rattle.waiting_tags.specs.TagSets.{IsSetOf};
-ghost use Rattle.waiting_tags.specs.Waiting.{participation_at, waits_in};
+ghost use Rattle.waiting_tags.specs.Waiting.{participation_at};
 
-use crate::answering::AnswerTaker;
-use crate::seats::{FEW_TAGS, Seats};
+use crate::answers::Answers;
+use crate::floor::Floor;
 use air_events::TagNumber;
-use bit_strings::{Bits, OutOfMemory, Session};
-use command_grammar::{Command, UpDn};
+use bit_strings::{OutOfMemory, Session};
+use command_grammar::Command;
 use std::alloc::Global;
 use std::marker::Model;
 use std::sync::ledger::Ledger;
 use tag_machine::{AnyTag, Entry, Event, Steps, reaches_waiting};
-use waiting_tags::{Participation, TagSet, Waiting, next_marked};
-
-/// How many bits of an answer there is room for: more than the 8,225 of the longest reply.
-const REPLY_ROOM: u32 = 8240;
+use waiting_tags::TagSet;
 
 /// Tags, numbered from 0, of which there are at most 4,096.
-///
-/// A tag that waits for its slot isn't counted down one by one: its slot counter is the one that `waiting` says, and
-/// is written back into its seat when the tag is called.
 ///
 /// A contract sees the list of the tags.
 #[derive(Drop)]
 pub struct Population {
-    seats: Seats,
-    waiting: Waiting,
-    /// For each tag whether it is marked, while tags draw slots at a QueryAdjust.
-    marks: Vec<u16>,
+    floor: Floor,
     /// The tags that miss a command, while the others hear it, and else none.
     missed: TagSet,
-    /// Where the bits of a tag's answer stand until they are taken.
-    room: Bits,
 }
 
 impl Model for Population {
-    ghost use Rattle.std.specs.Prelude.{List, ◌≡◌, ◌≤◌, length};
-    ghost use Rattle.reply_grammar.specs.Table.{reply_room};
+    ghost use Rattle.std.specs.Prelude.{List, ◌≡◌};
     ghost use Rattle.tag_machine.specs.TagValue.{TagValue};
-    ghost use Rattle.tag_population.specs.Seated.{AreAtRest, tags_of};
+    ghost use Rattle.tag_population.specs.Floor.{participations_of};
     ghost use Rattle.waiting_tags.specs.TagSets.{HasNone};
 
     ghost Value = { List TagValue };
 
-    ghost view = { λ a. tags_of a.waiting a.seats };
+    ghost view = { λ a. a.floor.tags };
 
-    ghost invariant = { λ a. AreAtRest a.waiting a.seats × (length a.marks.items ≡ length a.seats) × HasNone a.missed × (reply_room ≤ a.room.capacity) };
+    ghost invariant = { λ a. (a.floor.parts ≡ participations_of a.floor.tags) × HasNone a.missed };
 }
 
 impl Population {
@@ -66,20 +54,9 @@ impl Population {
         requires { vec_len tags ≤ most_tags }
         ensures { IfOk result (λ population. population ≡ map tag_value_of tags.items) }
     {
-        let seats = Seats::new(alloc, tags)?;
-        let count = seats.len();
-        let mut waiting = Waiting::new(alloc, count)?;
-        settle(&seats, &mut waiting);
-        let marks = vec![in alloc; 0; count]?;
+        let floor = Floor::new(alloc, tags)?;
         let missed = TagSet::new(alloc)?;
-        let room = Bits::new(alloc, REPLY_ROOM)?;
-        Ok(Population {
-            seats,
-            waiting,
-            marks,
-            missed,
-            room,
-        })
+        Ok(Population { floor, missed })
     }
 
     /// How many tags there are.
@@ -88,7 +65,7 @@ impl Population {
         ensures few { length self.now ≤ most_tags }
         ensures legal { AreLegalTags self.now }
     {
-        self.seats.len() as u32
+        self.floor.len() as u32
     }
 
     /// The tag with this number, with its slot counter written back.
@@ -99,10 +76,8 @@ impl Population {
         ensures legal { IsLegalTag (tag_value_of result.now) }
         ensures counted { steps.new ≤ steps.old + 1 }
     {
-        let waiting = &self.waiting;
-        let number = TagNumber::of(number);
-        write_back(&mut self.seats, waiting, number, steps);
-        self.seats.tag(number)
+        let _few = self.floor.len();
+        self.floor.tag(TagNumber::of(number), steps)
     }
 
     /// Lets an event befall the tag with this number.
@@ -113,11 +88,9 @@ impl Population {
         ensures few { length self.new ≤ most_tags }
         ensures counted { steps.new ≤ steps.old + 1 }
     {
-        let seats = &mut self.seats;
-        let number = TagNumber::of(number);
-        call(seats, &mut self.waiting, number, steps);
-        let participation = seats.befall(number, event);
-        self.waiting.put(number, participation);
+        let _few = self.floor.len();
+        self.floor.befall(TagNumber::of(number), event, steps);
+        let _legal = self.floor.len();
     }
 
     /// Lets each of these events befall its tag, in order.
@@ -132,412 +105,180 @@ impl Population {
     }
 
     /// Lets each tag hear a command that doesn't miss it, in the order of their numbers, and has their answers
-    /// taken.
-    pub fn hear<A: AnswerTaker, L: Ledger>(
+    /// kept, and none from before.
+    pub fn hear<L: Ledger>(
         &mut self,
         command: &Command,
         entry: &Entry,
-        answers: &mut A,
+        answers: &mut Answers,
         steps: &mut Steps<L>,
     )
-        requires begun { A.took answers.old [] answers.old }
         requires missed { All (λ tag. tag < length self.old) entry.now.missed }
+        requires room { length self.old ≤ answers.old.tags }
         ensures tags { self.new ≡ tags_after (hearing_from 0 command.now entry.now self.old) }
         ensures count { length self.new ≡ length self.old }
-        ensures replies { A.took answers.old (replies_from 0 (hearing_from 0 command.now entry.now self.old)) answers.new }
+        ensures answers { answers.new ≡ record answers.old { items = answers_of (replies_from 0 (hearing_from 0 command.now entry.now self.old)) } }
+        ensures sent { All (λ replied. IsSent (Some replied.sent)) (replies_from 0 (hearing_from 0 command.now entry.now self.old)) }
         ensures counted { steps.new ≤ steps.old + 2 * length self.old }
         ensures bound { IsQueryRep command.now → steps.new ≤ steps.old + 2 * busy_from 0 command.now entry.now self.old }
         ensures legal { AreLegalTags self.new }
     {
+        let _few = self.floor.len();
+        answers.clear();
         self.missed.insert_all(entry.missed.as_slice());
-        hear_at_rest(
-            &mut self.seats,
-            &mut self.waiting,
-            self.marks.as_mut_slice(),
+        hear(
+            &mut self.floor,
             command,
             entry,
             &self.missed,
-            &mut self.room,
             answers,
             steps,
         );
         self.missed.remove_all(entry.missed.as_slice());
+        let _legal = self.floor.len();
     }
 }
 
-/// Lets each tag take part as its state says.
-fn settle(seats: &Seats, waiting: &mut Waiting)
-    requires whole { length waiting.old ≡ length seats.now }
-    requires few { length seats.now ≤ most_tags }
-    ensures { waiting.new ≡ participations_of seats.now }
-{
-    for at in 0..seats.len() {
-        let number = TagNumber::from_index(at);
-        waiting.put(number, seats.participation(number));
-    }
-}
-
-/// Writes the slot counter of a tag that waits back into its seat.
-#[inline(always)]
-fn write_back<L: Ledger>(
-    seats: &mut Seats,
-    waiting: &Waiting,
-    number: TagNumber,
-    steps: &mut Steps<L>,
-)
-    requires whole { length waiting.now ≡ length seats.old }
-    requires number { number < length seats.old }
-    ensures seats { seats.new ≡ seats_written_back waiting.now number seats.old }
-    ensures counted { steps.new ≤ steps.old + steps_back (participation_at waiting.now number) }
-    ensures legal { AreLegalTags seats.old → AreLegalTags seats.new }
-{
-    if let Some(slot) = waiting.slot(number) {
-        seats.set_slot(number, slot, steps);
-    }
-}
-
-/// Calls a tag to the next command.
-fn call<L: Ledger>(
-    seats: &mut Seats,
-    waiting: &mut Waiting,
-    number: TagNumber,
-    steps: &mut Steps<L>,
-)
-    requires whole { length waiting.old ≡ length seats.old }
-    requires number { number < length seats.old }
-    ensures waiting { waiting.new ≡ slice_set waiting.old number (Some Participation.Called) }
-    ensures calls { CallsTags waiting.old seats.old steps.old waiting.new seats.new steps.new }
-{
-    write_back(seats, waiting, number, steps);
-    waiting.put(number, Some(Participation::Called));
-}
-
-/// Lets each tag hear a command, unless it misses it, in the order of their numbers. Only tags that may change or answer
-/// are asked.
-fn hear_at_rest<A: AnswerTaker, L: Ledger>(
-    seats: &mut Seats,
-    waiting: &mut Waiting,
-    marks: &mut [u16],
+/// Lets each tag hear a command, unless it misses it. Only tags that may change or answer are asked.
+fn hear<L: Ledger>(
+    floor: &mut Floor,
     command: &Command,
     entry: &Entry,
     missed: &TagSet,
-    room: &mut Bits,
-    answers: &mut A,
+    answers: &mut Answers,
     steps: &mut Steps<L>,
 )
+    requires settled { floor.old.parts ≡ participations_of floor.old.tags }
+    requires few { length floor.old.tags ≤ most_tags }
+    requires missed { All (λ tag. tag < length floor.old.tags) entry.now.missed }
     requires of { IsSetOf missed.now entry.now.missed }
-    requires marks { length marks.old ≡ length seats.old }
-    requires rest { AreAtRest waiting.old seats.old }
-    requires room { reply_room ≤ room.old.capacity }
-    requires begun { A.took answers.old [] answers.old }
-    requires missed { All (λ tag. tag < length seats.old) entry.now.missed }
-    ensures heard { HearsAtRest command.now entry.now waiting.old seats.old steps.old waiting.new seats.new steps.new }
-    ensures replies { A.took answers.old (replies_from 0 (hearing_from 0 command.now entry.now (tags_of waiting.old seats.old))) answers.new }
-    ensures bound { IsQueryRep command.now → steps.new ≤ steps.old + 2 * busy_from 0 command.now entry.now (tags_of waiting.old seats.old) }
-    ensures room { reply_room ≤ room.new.capacity }
+    requires none { answers.old.items ≡ [] }
+    requires room { length floor.old.tags ≤ answers.old.tags }
+    ensures heard { HearsAll command.now entry.now floor.old floor.new answers.old answers.new }
+    ensures counted { steps.new ≤ steps.old + 2 * length floor.old.tags }
+    ensures bound { IsQueryRep command.now → steps.new ≤ steps.old + 2 * busy_from 0 command.now entry.now floor.old.tags }
 {
     if let Command::QueryRep { session } = command {
-        call_hearers(seats, waiting, *session, entry, steps);
-        hear_called(seats, waiting, command, entry, missed, room, answers, steps);
-    } else if let Command::QueryAdjust { session, updn } = command {
-        if seats.len() <= FEW_TAGS {
-            waiting.unlink();
-            hear_few(seats, waiting, command, entry, missed, room, answers, steps);
-        } else {
-            adjust_waiting(seats, waiting, marks, *session, *updn, entry, steps);
-            hear_called(seats, waiting, command, entry, missed, room, answers, steps);
-        }
+        hear_query_rep(floor, *session, command, entry, missed, answers, steps);
     } else if reaches_waiting(command) {
-        waiting.unlink();
-        hear_all(seats, waiting, command, entry, missed, room, answers, steps);
+        hear_each(floor, command, entry, missed, answers, steps);
     } else {
-        hear_called(seats, waiting, command, entry, missed, room, answers, steps);
+        hear_called(floor, command, entry, missed, answers, steps);
     }
+}
+
+/// Lets those tags alone hear a QueryRep of a session that may change or answer.
+fn hear_query_rep<L: Ledger>(
+    floor: &mut Floor,
+    session: Session,
+    command: &Command,
+    entry: &Entry,
+    missed: &TagSet,
+    answers: &mut Answers,
+    steps: &mut Steps<L>,
+)
+    requires command { command.now ≡ Command.QueryRep session }
+    requires settled { floor.old.parts ≡ participations_of floor.old.tags }
+    requires few { length floor.old.tags ≤ most_tags }
+    requires missed { All (λ tag. tag < length floor.old.tags) entry.now.missed }
+    requires of { IsSetOf missed.now entry.now.missed }
+    requires none { answers.old.items ≡ [] }
+    requires room { length floor.old.tags ≤ answers.old.tags }
+    ensures heard { HearsAll command.now entry.now floor.old floor.new answers.old answers.new }
+    ensures counted { steps.new ≤ steps.old + 2 * length floor.old.tags }
+    ensures bound { steps.new ≤ steps.old + 2 * busy_from 0 command.now entry.now floor.old.tags }
+{
+    call_hearers(floor, session, entry, steps);
+    hear_called(floor, command, entry, missed, answers, steps);
 }
 
 /// Calls the tags that have to hear a QueryRep of a session, or stay as they are where the session is counted down.
-fn call_hearers<L: Ledger>(
-    seats: &mut Seats,
-    waiting: &mut Waiting,
-    session: Session,
-    entry: &Entry,
-    steps: &mut Steps<L>,
-)
-    requires rest { AreAtRest waiting.old seats.old }
-    requires missed { All (λ tag. tag < length seats.old) entry.now.missed }
-    ensures called { AreCalledFor (Command.QueryRep session) entry.now (tags_of waiting.old seats.old) waiting.new seats.new }
-    ensures seats_whole { length seats.new ≡ length seats.old }
-    ensures counted { steps.new + called_in waiting.old ≤ steps.old + called_in waiting.new }
-    ensures bound { called_in waiting.new ≤ busy_from 0 (Command.QueryRep session) entry.now (tags_of waiting.old seats.old) }
+fn call_hearers<L: Ledger>(floor: &mut Floor, session: Session, entry: &Entry, steps: &mut Steps<L>)
+    requires settled { floor.old.parts ≡ participations_of floor.old.tags }
+    requires few { length floor.old.tags ≤ most_tags }
+    requires missed { All (λ tag. tag < length floor.old.tags) entry.now.missed }
+    ensures called { AreCalledFor (Command.QueryRep session) entry.now floor.old floor.new }
+    ensures counted { steps.new + called_in floor.old.parts ≤ steps.old + called_in floor.new.parts }
+    ensures bound { called_in floor.new.parts ≤ busy_from 0 (Command.QueryRep session) entry.now floor.old.tags }
 {
-    call_missed(seats, waiting, session, entry, steps);
-    call_due(seats, waiting, session, steps);
-    waiting.count_down(session);
+    call_missed(floor, session, entry, steps);
+    call_due(floor, session, steps);
+    floor.count_down(session);
 }
 
-/// Lets the tags that wait in a session draw their slots again at its QueryAdjust, and calls those that draw 0, and those that miss it.
-fn adjust_waiting<L: Ledger>(
-    seats: &mut Seats,
-    waiting: &mut Waiting,
-    marks: &mut [u16],
-    session: Session,
-    updn: UpDn,
-    entry: &Entry,
-    steps: &mut Steps<L>,
-)
-    requires rest { AreAtRest waiting.old seats.old }
-    requires marks { length marks.old ≡ length seats.old }
-    requires missed { All (λ tag. tag < length seats.old) entry.now.missed }
-    ensures called { AreCalledFor (Command.QueryAdjust session updn) entry.now (tags_of waiting.old seats.old) waiting.new seats.new }
-    ensures seats_whole { length seats.new ≡ length seats.old }
-    ensures counted { steps.new ≤ steps.old + length seats.old }
-{
-    call_missed(seats, waiting, session, entry, steps);
-    waiting.unlink();
-    draw_all(seats, waiting, marks, session, updn, steps);
-}
-
-/// Lets the tags that wait in a session draw their slots again, and calls those that draw 0.
-fn draw_all<L: Ledger>(
-    seats: &mut Seats,
-    waiting: &mut Waiting,
-    marks: &mut [u16],
-    session: Session,
-    updn: UpDn,
-    steps: &mut Steps<L>,
-)
-    requires whole { length waiting.old ≡ length seats.old }
-    requires marks { length marks.old ≡ length seats.old }
-    requires few { length seats.old ≤ most_tags }
-    requires legal { AreLegalTags seats.old }
-    requires uncalled { AreUncalledSettled waiting.old (tags_of waiting.old seats.old) }
-    ensures adjusted { AreAdjusted session updn waiting.old (tags_of waiting.old seats.old) waiting.new (tags_of waiting.new seats.new) }
-    ensures whole { length waiting.new ≡ length seats.new }
-    ensures seats_whole { length seats.new ≡ length seats.old }
-    ensures counted { steps.new + called_in waiting.old ≤ steps.old + length waiting.old }
-    ensures legal { AreLegalTags seats.new }
-{
-    waiting.mark_waiting(session, marks);
-    seats.draw_marked(waiting, marks, session, updn, steps);
-    // Most tags drew their slots.
-    let mut at = next_marked(marks, 0);
-    while at < marks.len() {
-        draw_or_call(
-            seats,
-            waiting,
-            TagNumber::from_index(at),
-            session,
-            updn,
-            steps,
-        );
-        at = next_marked(marks, at + 1);
-    }
-}
-
-/// Lets a tag that waits in a session draw its slot again, and calls it where it draws 0.
-fn draw_or_call<L: Ledger>(
-    seats: &mut Seats,
-    waiting: &mut Waiting,
-    number: TagNumber,
-    session: Session,
-    updn: UpDn,
-    steps: &mut Steps<L>,
-)
-    requires whole { length waiting.old ≡ length seats.old }
-    requires number { number < length seats.old }
-    requires waits { waits_in session (participation_at waiting.old number) ≡ true }
-    ensures adjusts { AdjustsOne session updn number waiting.old (tags_of waiting.old seats.old) waiting.new (tags_of waiting.new seats.new) }
-    ensures seats_whole { length seats.new ≡ length seats.old }
-    ensures counted { steps.new ≤ steps.old + 1 }
-    ensures legal { AreLegalTags seats.old → AreLegalTags seats.new }
-{
-    match seats.draw_again(number, session, updn, steps) {
-        Some(slot) => waiting.wait_for(number, session, slot),
-        None => call(seats, waiting, number, steps),
-    }
-}
-
-/// Calls the tags that wait in a session and miss its QueryRep, so that they aren't counted down.
-fn call_missed<L: Ledger>(
-    seats: &mut Seats,
-    waiting: &mut Waiting,
-    session: Session,
-    entry: &Entry,
-    steps: &mut Steps<L>,
-)
-    requires whole { length waiting.old ≡ length seats.old }
-    requires few { length seats.old ≤ most_tags }
-    requires missed { All (λ tag. tag < length seats.old) entry.now.missed }
-    ensures called { (number : ℕ) → IsMissedCalled session (is_missed number entry.now) (participation_at waiting.old number) (participation_at waiting.new number) }
-    ensures calls { CallsTags waiting.old seats.old steps.old waiting.new seats.new steps.new }
+/// Calls the tags that wait in a session and miss its QueryRep, so that they stand one place on when it was counted down.
+fn call_missed<L: Ledger>(floor: &mut Floor, session: Session, entry: &Entry, steps: &mut Steps<L>)
+    requires whole { length floor.old.parts ≡ length floor.old.tags }
+    requires few { length floor.old.tags ≤ most_tags }
+    requires missed { All (λ tag. tag < length floor.old.tags) entry.now.missed }
+    ensures called { (number : ℕ) → IsMissedCalled session (is_missed number entry.now) (participation_at floor.old.parts number) (participation_at floor.new.parts number) }
+    ensures calls { CallsTags floor.old steps.old floor.new steps.new }
 {
     for &number in entry.missed.as_slice() {
         let number = TagNumber::of(number);
-        if waiting.waits_in(number, session) {
-            call(seats, waiting, number, steps);
+        if floor.waits_in(number, session) {
+            floor.call(number, steps);
         }
     }
 }
 
 /// Calls the tags whose slot comes next in a session.
-fn call_due<L: Ledger>(
-    seats: &mut Seats,
-    waiting: &mut Waiting,
-    session: Session,
-    steps: &mut Steps<L>,
-)
-    requires whole { length waiting.old ≡ length seats.old }
-    ensures called { (number : ℕ) → IsDueCalled session (participation_at waiting.old number) (participation_at waiting.new number) }
-    ensures calls { CallsTags waiting.old seats.old steps.old waiting.new seats.new steps.new }
+fn call_due<L: Ledger>(floor: &mut Floor, session: Session, steps: &mut Steps<L>)
+    requires whole { length floor.old.parts ≡ length floor.old.tags }
+    ensures called { (number : ℕ) → IsDueCalled session (participation_at floor.old.parts number) (participation_at floor.new.parts number) }
+    ensures calls { CallsTags floor.old steps.old floor.new steps.new }
 {
-    while let Some(number) = waiting.due(session) {
-        call(seats, waiting, number, steps);
+    while let Some(number) = floor.due(session) {
+        floor.call(number, steps);
     }
 }
 
-/// Lets each tag hear a command, unless it misses it, in the order of their numbers. Each takes part afterwards as its state
-/// says.
-// Its loop over all tags stands apart, so that the registers are its own.
-#[inline(never)]
-fn hear_all<A: AnswerTaker, L: Ledger>(
-    seats: &mut Seats,
-    waiting: &mut Waiting,
+/// Lets each tag hear a command, unless it misses it, in the order of their numbers.
+fn hear_each<L: Ledger>(
+    floor: &mut Floor,
     command: &Command,
     entry: &Entry,
     missed: &TagSet,
-    room: &mut Bits,
-    answers: &mut A,
+    answers: &mut Answers,
     steps: &mut Steps<L>,
 )
-    requires marks { IsSetOf missed.now entry.now.missed }
-    requires rest { AreAtRest waiting.old seats.old }
-    requires room { reply_room ≤ room.old.capacity }
-    requires begun { A.took answers.old [] answers.old }
-    ensures heard { HearsAtRest command.now entry.now waiting.old seats.old steps.old waiting.new seats.new steps.new }
-    ensures replies { A.took answers.old (replies_from 0 (hearing_from 0 command.now entry.now (tags_of waiting.old seats.old))) answers.new }
-    ensures room { reply_room ≤ room.new.capacity }
+    requires of { IsSetOf missed.now entry.now.missed }
+    requires none { answers.old.items ≡ [] }
+    requires room { length floor.old.tags ≤ answers.old.tags }
+    ensures heard { HeardEach (outcome_each command.now entry.now floor.old) floor.old floor.new answers.new.items }
+    ensures tags { answers.new.tags ≡ answers.old.tags }
+    ensures counted { steps.new ≤ steps.old + 2 * length floor.old.tags }
 {
-    hear_each(
-        seats, waiting, true, command, entry, missed, room, answers, steps,
-    );
-}
-
-/// Does so with a QueryAdjust where there are few tags.
-// Nearly each of so few tags that draw again answers, so what is heard in its place isn't tried.
-#[inline(never)]
-fn hear_few<A: AnswerTaker, L: Ledger>(
-    seats: &mut Seats,
-    waiting: &mut Waiting,
-    command: &Command,
-    entry: &Entry,
-    missed: &TagSet,
-    room: &mut Bits,
-    answers: &mut A,
-    steps: &mut Steps<L>,
-)
-    requires marks { IsSetOf missed.now entry.now.missed }
-    requires rest { AreAtRest waiting.old seats.old }
-    requires room { reply_room ≤ room.old.capacity }
-    requires begun { A.took answers.old [] answers.old }
-    ensures heard { HearsAtRest command.now entry.now waiting.old seats.old steps.old waiting.new seats.new steps.new }
-    ensures replies { A.took answers.old (replies_from 0 (hearing_from 0 command.now entry.now (tags_of waiting.old seats.old))) answers.new }
-    ensures room { reply_room ≤ room.new.capacity }
-{
-    hear_each(
-        seats, waiting, false, command, entry, missed, room, answers, steps,
-    );
-}
-
-/// Does so, where it is said whether most tags only wait.
-#[inline(always)]
-fn hear_each<A: AnswerTaker, L: Ledger>(
-    seats: &mut Seats,
-    waiting: &mut Waiting,
-    most_wait: bool,
-    command: &Command,
-    entry: &Entry,
-    missed: &TagSet,
-    room: &mut Bits,
-    answers: &mut A,
-    steps: &mut Steps<L>,
-)
-    requires marks { IsSetOf missed.now entry.now.missed }
-    requires rest { AreAtRest waiting.old seats.old }
-    requires room { reply_room ≤ room.old.capacity }
-    requires begun { A.took answers.old [] answers.old }
-    ensures heard { HearsAtRest command.now entry.now waiting.old seats.old steps.old waiting.new seats.new steps.new }
-    ensures replies { A.took answers.old (replies_from 0 (hearing_from 0 command.now entry.now (tags_of waiting.old seats.old))) answers.new }
-    ensures room { reply_room ≤ room.new.capacity }
-{
-    for at in 0..seats.len() {
+    for at in 0..floor.len() {
         let number = TagNumber::from_index(at);
         let misses = is_missed(number, entry, missed);
-        hear_written_back(
-            seats, waiting, number, misses, most_wait, command, room, answers, steps,
-        );
+        floor.hear(number, misses, command, answers, steps);
     }
 }
 
-/// Lets a tag hear a command, unless it misses it, once its slot counter is written back. It takes part afterwards as its state says.
-#[inline(always)]
-fn hear_written_back<A: AnswerTaker, L: Ledger>(
-    seats: &mut Seats,
-    waiting: &mut Waiting,
-    number: TagNumber,
-    misses: bool,
-    most_wait: bool,
-    command: &Command,
-    room: &mut Bits,
-    answers: &mut A,
-    steps: &mut Steps<L>,
-)
-    requires whole { length waiting.old ≡ length seats.old }
-    requires number { number < length seats.old }
-    requires legal { AreLegalTags seats.old }
-    requires room { reply_room ≤ room.old.capacity }
-    requires few { TookFew A.took answers.old }
-    ensures heard { HearsSeated command.now misses number waiting.old seats.old waiting.new seats.new }
-    ensures took { (first : A) (replies : List Replied) → A.took first replies answers.old
-        → A.took first (replies ++ reply_of number (outcome_seated misses command.now number waiting.old seats.old).answer) answers.new }
-    ensures counted { steps.new ≤ steps.old + 2 }
-    ensures room { reply_room ≤ room.new.capacity }
-{
-    write_back(seats, waiting, number, steps);
-    let participation = seats.hear(number, misses, most_wait, command, room, answers, steps);
-    waiting.put(number, participation);
-}
-
-/// Lets each tag that is called hear a command, unless it misses it, in the order of their numbers. Each takes part
-/// afterwards as its state says.
-fn hear_called<A: AnswerTaker, L: Ledger>(
-    seats: &mut Seats,
-    waiting: &mut Waiting,
+/// Lets each tag that is called hear a command, unless it misses it, in the order of their numbers.
+fn hear_called<L: Ledger>(
+    floor: &mut Floor,
     command: &Command,
     entry: &Entry,
     missed: &TagSet,
-    room: &mut Bits,
-    answers: &mut A,
+    answers: &mut Answers,
     steps: &mut Steps<L>,
 )
-    requires marks { IsSetOf missed.now entry.now.missed }
-    requires room { reply_room ≤ room.old.capacity }
-    requires begun { A.took answers.old [] answers.old }
-    requires whole { length waiting.old ≡ length seats.old }
-    requires few { length seats.old ≤ most_tags }
-    requires legal { AreLegalTags seats.old }
-    requires uncalled { AreUncalledSettled waiting.old (tags_of waiting.old seats.old) }
-    ensures tags { tags_of waiting.new seats.new ≡ tags_after (outcomes_called 0 command.now entry.now waiting.old (tags_of waiting.old seats.old)) }
-    ensures replies { A.took answers.old (replies_from 0 (outcomes_called 0 command.now entry.now waiting.old (tags_of waiting.old seats.old))) answers.new }
-    ensures counted { steps.new ≤ steps.old + called_in waiting.old }
-    ensures rest { AreAtRest waiting.new seats.new }
-    ensures room { reply_room ≤ room.new.capacity }
+    requires of { IsSetOf missed.now entry.now.missed }
+    requires none { answers.old.items ≡ [] }
+    requires room { length floor.old.tags ≤ answers.old.tags }
+    requires whole { length floor.old.parts ≡ length floor.old.tags }
+    requires uncalled { AreUncalledSettled floor.old }
+    ensures heard { HeardEach (outcome_called command.now entry.now floor.old) floor.old floor.new answers.new.items }
+    ensures tags { answers.new.tags ≡ answers.old.tags }
+    ensures counted { steps.new ≤ steps.old + called_in floor.old.parts }
 {
-    let mut next = waiting.first_called();
+    let mut next = floor.first_called();
     while let Some(number) = next {
-        next = waiting.called_after(number);
+        next = floor.called_after(number);
         let misses = is_missed(number, entry, missed);
-        let participation = seats.hear_when_called(number, misses, command, room, answers, steps);
-        waiting.put(number, participation);
+        floor.hear(number, misses, command, answers, steps);
     }
 }
 

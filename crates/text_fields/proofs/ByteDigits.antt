@@ -1,14 +1,17 @@
 -- The digits of bytes, as the kit's `hex` reads them.
-use Rattle.std.proofs.Common.{◌≡◌, ◌<◌, ◌^◌, ◌/◌, ◌%◌, ◌==◌, ◌&&◌, ℕ, zero, suc, Bool, true, List, [], ◌∷◌, length, slice_index, Result, Ok, inl, inr, arith, ap, sym, ◌∙◌, refl}
+use Rattle.std.proofs.Common.{◌≡◌, ◌<◌, ◌^◌, ◌/◌, ◌%◌, ◌==◌, ◌&&◌, ℕ, zero, suc, Bool, true, List, [], ◌∷◌, length, map, slice_index, Result, Ok, inl, inr, arith, ap, sym, ◌∙◌, lit<, refl}
+use Rattle.std.specs.Char.{to_ascii_uppercase}
+use Rattle.std.specs.Int.{from_be_bytes, to_be_bytes, w16}
 use Rattle.std.specs.List.{AllPass, flat_map}
 use Rattle.std.specs.Result.{result_unwrap_or}
 use Rattle.std.proofs.lemmas.Bool.{and_parts, cases_lt, eqb-true}
-use Rattle.hex.specs.Hex.{IsBytes, decode_sized, encode_upper, encode_with, upper_digits}
+use Rattle.std.proofs.lemmas.Nat.{from_be_bytes-to_be_bytes_2}
+use Rattle.hex.specs.Hex.{IsBytes, decode_sized, encode_lower, encode_upper, encode_with, lower_digits, upper_digits}
 use Rattle.hex.specs.declared.error.FromHexError.{FromHexError}
 use Rattle.hex.proofs.HexLemmas.{decode_of-encode_upper, decode_sized-ok, decode_sized-twice, length-encode_with}
-use Rattle.text_fields.specs.Hexadecimal.{hex_byte, hex_digit}
-use Rattle.text_fields.specs.WordLists.{is_upper_hex_digit}
-use Rattle.text_fields.proofs.WordDigits.{one_byte}
+use Rattle.text_fields.specs.Hexadecimal.{hex_byte, hex_digit, hex_word}
+use Rattle.text_fields.specs.WordLists.{is_upper_hex_digit, words_of_digits}
+use Rattle.text_fields.proofs.WordDigits.{four_digits, one_byte}
 
 -- whether two functions agree on the numbers below one
 abbrev agree_below : (ℕ → ℕ) → (ℕ → ℕ) → ℕ → Bool
@@ -29,6 +32,10 @@ agree_at f g (suc n) i agree below =
 upper_digit : (n : ℕ) → n < 16 → slice_index upper_digits n ≡ hex_digit n
 upper_digit n small = agree_at (λ n. slice_index upper_digits n) (λ n. hex_digit n) 16 n refl small
 
+-- an upper-case digit is the lower-case one, changed
+raised_digit : (n : ℕ) → n < 16 → to_ascii_uppercase (slice_index lower_digits n) ≡ hex_digit n
+raised_digit n small = agree_at (λ n. to_ascii_uppercase (slice_index lower_digits n)) (λ n. hex_digit n) 16 n refl small
+
 -- what is written of bytes in upper-case digits
 bytes_written : (bytes : List ℕ) → IsBytes bytes → encode_upper bytes ≡ flat_map hex_byte bytes
 unfolding encode_with
@@ -44,6 +51,25 @@ bytes_read : (bytes : List ℕ) → IsBytes bytes → decode_sized (flat_map hex
 bytes_read bytes small =
     let twice = decode_sized-twice (encode_upper bytes) (length bytes) (length-encode_with upper_digits bytes) in
     rw (bytes_written bytes small) at (twice ∙ decode_of-encode_upper bytes small)
+
+-- what is written of bytes in lower-case digits, changed to upper case
+pub upper_written : (bytes : List ℕ) → IsBytes bytes → map to_ascii_uppercase (encode_lower bytes) ≡ flat_map hex_byte bytes
+unfolding encode_with
+upper_written [] small = refl
+upper_written (byte ∷ bytes) small =
+    let fits : byte < 256 = small 0 in
+    let high = raised_digit (byte / 16) (omega (arith, fits)) in
+    let low = raised_digit (byte % 16) (omega arith) in
+    rw (high, low, upper_written bytes (λ i. small (suc i))) refl
+
+-- the bytes of words are written as the words
+pub bytes_of_words : (words : List ℕ) → ((i : ℕ) → slice_index words i < 2 ^ 16)
+    → flat_map hex_byte (flat_map (λ bytes. bytes) (map (to_be_bytes w16) words)) ≡ flat_map hex_word words
+bytes_of_words [] small = refl
+bytes_of_words (word ∷ words) small =
+    let fits : word < 2 ^ 16 = small 0 in
+    let high : word / 256 % 256 ≡ word / 256 = omega (arith, fits) in
+    rw (high, bytes_of_words words (λ i. small (suc i))) refl
 
 one_fits : (byte : ℕ) → byte < 2 ^ 8 → IsBytes (byte ∷ [])
 one_fits byte small zero = small
@@ -64,3 +90,23 @@ pub byte_is : (field bytes : List ℕ) → AllPass is_upper_hex_digit field → 
 byte_is field bytes are read =
     let one = one_byte field are (decode_sized-ok field 1 bytes read) in
     one.2 ∙ ap (λ n. hex_byte n) (sym (ap (λ list. slice_index list 0) (byte_back field bytes one.0 one.1 one.2 read)))
+
+two_fit : (word : ℕ) → IsBytes (to_be_bytes w16 word)
+two_fit word zero = omega arith
+two_fit word (suc zero) = omega arith
+two_fit word (suc (suc i)) = lit< tt
+
+-- what is read from four digits is their word
+pub word_read : (digits : List ℕ) → length digits ≡ 4 → AllPass is_upper_hex_digit digits
+    → (bytes : List ℕ) × (decode_sized digits 2 ≡ Ok bytes) × (words_of_digits digits ≡ from_be_bytes w16 bytes ∷ [])
+word_read digits four upper =
+    let found = four_digits digits four upper in
+    let word = found.0 in
+    let fits : word < 2 ^ 16 = found.1 in
+    let high : word / 256 % 256 ≡ word / 256 = omega (arith, fits) in
+    let spelled : digits ≡ flat_map hex_byte (to_be_bytes w16 word) = rw high found.2 in
+    let back : from_be_bytes w16 (to_be_bytes w16 word) ≡ word = from_be_bytes-to_be_bytes_2 word fits in (
+      to_be_bytes w16 word,
+      ap (λ list. decode_sized list 2) spelled ∙ bytes_read (to_be_bytes w16 word) (two_fit word),
+      found.3 ∙ ap (λ (n : ℕ). n ∷ []) (sym back),
+    )

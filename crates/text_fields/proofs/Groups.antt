@@ -1,9 +1,9 @@
 -- Bytes in groups of one size.
-use Rattle.std.proofs.Common.{◌≡◌, ◌<◌, ◌/◌, ◌+◌, ◌*◌, ℕ, zero, suc, Bool, true, List, length, take, drop, get_or, arith, ap, sym, ◌∙◌, subst}
+use Rattle.std.proofs.Common.{◌≡◌, ◌<◌, ◌+◌, ◌*◌, ℕ, zero, suc, Bool, true, List, take, drop, get_or, arith, ap, sym, ◌∙◌, subst}
 use Rattle.std.specs.List.{AllPass}
 use Rattle.std.specs.Simd.{first_chunks}
 use Rattle.std.proofs.Math.Nat.{mul-suc}
-use Rattle.std.proofs.lemmas.List.{drop-drop, get_or-take}
+use Rattle.std.proofs.lemmas.List.{drop-drop}
 use Rattle.std.proofs.lemmas.List.Elements.{All-drop, All-take}
 
 -- the group at a place
@@ -24,9 +24,3 @@ pub group_passes : (test : ℕ → Bool) (size : ℕ) (bytes : List ℕ) (count 
 group_passes test size bytes count at default within pass =
     subst (λ list. AllPass test list) (sym (group_at size bytes count at default within))
     (All-take (λ byte. test byte ≡ true) size (drop (size * at) bytes) (All-drop (λ byte. test byte ≡ true) (size * at) bytes pass))
-
--- the group that stands at a place of as many groups as there is room for
-pub group_of : (size : ℕ) (bytes : List ℕ) (groups : List (List ℕ)) (room at : ℕ) (default : List ℕ) → groups ≡ first_chunks size (length bytes / size) bytes → at < room
-    → get_or (take room groups) at default ≡ get_or (first_chunks size (length bytes / size) bytes) at default
-group_of size bytes groups room at default are within =
-    get_or-take room groups at default within ∙ ap (λ (list : List (List ℕ)). get_or list at default) are

@@ -1,5 +1,4 @@
 mod ByteDigits
-mod ByteTable
 mod UpperHexadecimal
 pub mod DecimalDigits
 pub mod EachByte

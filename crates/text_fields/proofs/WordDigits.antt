@@ -1,12 +1,11 @@
 -- Lists of words and their digits.
-use Rattle.std.proofs.Common.{◌≡◌, ◌≢◌, ◌<◌, ◌≤◌, ◌^◌, ◌/◌, ◌%◌, ◌+◌, ◌*◌, ℕ, zero, suc, true, List, [], ◌∷◌, ◌++◌, length, take, drop, get_or, slice_index, slice_set, Some, arith, ap, sym, ◌∙◌, refl, subst}
+use Rattle.std.proofs.Common.{◌≡◌, ◌≢◌, ◌<◌, ◌≤◌, ◌^◌, ◌/◌, ◌%◌, ◌+◌, ◌*◌, ℕ, zero, suc, true, List, [], ◌∷◌, ◌++◌, length, take, drop, get_or, slice_set, Some, arith, ap, sym, ◌∙◌, refl, subst}
 use Rattle.std.specs.Prelude.{All, IfSome, None, Option, slice_get}
 use Rattle.std.specs.List.{AllPass, flat_map}
 use Rattle.std.specs.Simd.{first_chunks}
 use Rattle.std.proofs.lemmas.Bool.Decides.{nat_tests}
 use Rattle.std.proofs.lemmas.List.{append_assoc, append-nil, drop-drop, drop_all, take_all, take_more_set}
 use Rattle.std.proofs.lemmas.List.Elements.{All-append, All-cons, All-head, All-nil, All-tail}
-use Rattle.hex.specs.Hex.{hex_digit_value, is_hex_digit}
 use Rattle.text_fields.specs.Binary.{hyphen}
 use Rattle.text_fields.specs.Hexadecimal.{hex_byte, hex_digit, hex_word, hex_words}
 use Rattle.text_fields.specs.WordLists.{AreWordDigits, digit_number, is_upper_hex_digit, word_number, words_of_digits}
@@ -139,41 +138,15 @@ digits_no_hyphen words same = omega (arith, digits_length words, ap length same)
 pub digits_upper : (digits : List ℕ) → AreWordDigits digits → AllPass is_upper_hex_digit digits
 digits_upper digits are = subst (λ list. AllPass is_upper_hex_digit list) (sym are.spelling) (digits_pass (words_of_digits digits) (words_small digits))
 
--- an upper-case digit is a digit of either case, of the same number
-pub upper_is_hex : (digit : ℕ) → IsDigit digit → is_hex_digit digit ≡ true
-upper_is_hex digit is = grind (arith, nat_tests)
-
-number_is : (digit number : ℕ) → IsDigit digit → hex_digit_value digit ≡ Some number → number ≡ digit_number digit
-number_is digit number is value = grind (arith, nat_tests)
-
--- the numbers of four digits
-pub record FourNumbers (digits : List ℕ) : Type 0 where
-  pub a : ℕ
-  pub b : ℕ
-  pub c : ℕ
-  pub d : ℕ
-  pub first : hex_digit_value (slice_index digits 0) ≡ Some a
-  pub second : hex_digit_value (slice_index digits 1) ≡ Some b
-  pub third : hex_digit_value (slice_index digits 2) ≡ Some c
-  pub fourth : hex_digit_value (slice_index digits 3) ≡ Some d
-
--- the word of four digits, by their numbers
-pub word_numbers : (digits : List ℕ) → length digits ≡ 4 → AllPass is_upper_hex_digit digits → (are : FourNumbers digits)
-    → words_of_digits digits ≡ ((are.a * 16 + are.b) * 256 + (are.c * 16 + are.d)) ∷ []
-word_numbers [] four upper are = absurd (omega arith)
-word_numbers (a ∷ []) four upper are = absurd (omega arith)
-word_numbers (a ∷ b ∷ []) four upper are = absurd (omega arith)
-word_numbers (a ∷ b ∷ c ∷ []) four upper are = absurd (omega arith)
-word_numbers (a ∷ b ∷ c ∷ d ∷ []) four upper are =
-    let bs = All-tail IsDigit a (b ∷ c ∷ d ∷ []) upper in
-    let cs = All-tail IsDigit b (c ∷ d ∷ []) bs in
-    let ds = All-tail IsDigit c (d ∷ []) cs in
-    let first = number_is a are.a (All-head IsDigit a (b ∷ c ∷ d ∷ []) upper) are.first in
-    let second = number_is b are.b (All-head IsDigit b (c ∷ d ∷ []) bs) are.second in
-    let third = number_is c are.c (All-head IsDigit c (d ∷ []) cs) are.third in
-    let fourth = number_is d are.d (All-head IsDigit d [] ds) are.fourth in
-    ap (λ (word : ℕ). word ∷ []) (omega (arith, first, second, third, fourth))
-word_numbers (a ∷ b ∷ c ∷ d ∷ e ∷ digits) four upper are = absurd (omega arith)
+-- four digits are those of their word
+pub four_digits : (digits : List ℕ) → length digits ≡ 4 → AllPass is_upper_hex_digit digits
+    → (word : ℕ) × (word < 2 ^ 16) × (digits ≡ hex_word word) × (words_of_digits digits ≡ word ∷ [])
+four_digits [] four upper = absurd (omega arith)
+four_digits (a ∷ []) four upper = absurd (omega arith)
+four_digits (a ∷ b ∷ []) four upper = absurd (omega arith)
+four_digits (a ∷ b ∷ c ∷ []) four upper = absurd (omega arith)
+four_digits (a ∷ b ∷ c ∷ d ∷ []) four upper = (word_number a b c d, word_small a b c d, words_spelled (a ∷ b ∷ c ∷ d ∷ []) upper refl, refl)
+four_digits (a ∷ b ∷ c ∷ d ∷ e ∷ digits) four upper = absurd (omega arith)
 
 -- the first word of digits is that of the first four
 front_word : (digits : List ℕ) (word : ℕ) → words_of_digits (take 4 digits) ≡ word ∷ [] → words_of_digits digits ≡ word ∷ words_of_digits (drop 4 digits)

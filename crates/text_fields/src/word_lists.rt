@@ -6,7 +6,6 @@ ghost use Rattle.text_fields.specs.Hexadecimal.{hex_words};
 ghost use Rattle.text_fields.specs.WordLists.{AreWordDigits, is_upper_hex_digit, words_of_digits};
 
 use crate::digits::list_digits;
-use crate::hex_bytes::digit_number;
 use bit_strings::OutOfMemory;
 use std::alloc::Global;
 use std::marker::Model;
@@ -53,11 +52,11 @@ fn word_of(digits: &[u8; 4]) -> u16
     requires { AllPass is_upper_hex_digit digits.now }
     ensures { words_of_digits digits.now ≡ result ∷ [] }
 {
-    let first = digit_number(digits[0]);
-    let second = digit_number(digits[1]);
-    let third = digit_number(digits[2]);
-    let fourth = digit_number(digits[3]);
-    u16::from(first * 16 + second) * 256 + u16::from(third * 16 + fourth)
+    let mut bytes = [0; 2];
+    match hex::decode_to_slice(digits.as_slice(), &mut bytes) {
+        Ok(()) => u16::from_be_bytes(bytes),
+        Err(_) => unreachable!(),
+    }
 }
 
 impl<'a> Words<'a> {
@@ -108,8 +107,6 @@ impl<'a> Words<'a> {
         ensures { out.new ≡ self.now }
     {
         let (words, _) = self.digits.as_chunks::<4>();
-        // With as many words as places no index is looked at, and the compiler takes many words at once.
-        let words = &words[..out.len()];
         for at in 0..out.len() {
             out[at] = word_of(&words[at]);
         }

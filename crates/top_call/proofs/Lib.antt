@@ -9,3 +9,4 @@ pub mod EncodedLines
 pub mod Waits
 pub mod ToldForms
 pub mod SummaryLines
+pub mod AuditTexts

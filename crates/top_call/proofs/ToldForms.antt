@@ -8,7 +8,7 @@ use Rattle.std.proofs.lemmas.Str.Parse.{numerals_by_value, tells_digits}
 use Rattle.report_lines.specs.declared.mode.Mode.TheVariants.{Plain, Trace, Json, Exchanges, Vcd}
 use Rattle.top_call.specs.Form.{words_of, IsForm, AskFor}
 use Rattle.top_call.specs.declared.forms.Form.{Form}
-use Rattle.top_call.specs.declared.forms.Form.TheVariants.{Decode, Encode, Run, Upgrade, Portals, Names, Probe, Audit, Gen}
+use Rattle.top_call.specs.declared.forms.Form.TheVariants.{Decode, Encode, Run, Upgrade, Portals, Names, Probe, Audit, Gen, Help, Version}
 
 -- the form that words spell, where they spell one
 form_spelled : List (List ℕ) → Form
@@ -20,6 +20,8 @@ form_spelled words =
     else if bytes_eq (get_or words 0 []) (codes "names") then Names
     else if bytes_eq (get_or words 0 []) (codes "probe") then Probe
     else if bytes_eq (get_or words 0 []) (codes "audit") then Audit
+    else if bytes_eq (get_or words 0 []) (codes "--help") then Help
+    else if bytes_eq (get_or words 0 []) (codes "--version") then Version
     else if bytes_eq (get_or words 0 []) (codes "gen") then Gen (digits_value 10 (get_or words 1 [])) (digits_value 10 (get_or words 2 []))
     else if length words == 1 then Run Plain
     else if bytes_eq (get_or words 1 []) (codes "trace") then Run Trace
@@ -47,6 +49,8 @@ spelled_back Portals fits = refl
 spelled_back Names fits = refl
 spelled_back Probe fits = refl
 spelled_back Audit fits = refl
+spelled_back Help fits = refl
+spelled_back Version fits = refl
 spelled_back (Gen seed tags) fits = same_made _ _ seed tags (value_of seed fits.0) (value_of tags (omega (arith, fits.1)))
 
 pub forms_told : (words : List (List ℕ)) (one other : Form) → AskFor words one → AskFor words other → one ≡ other

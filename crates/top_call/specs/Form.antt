@@ -5,7 +5,7 @@ use Rattle.std.specs.Global.{Global}
 use Rattle.std.specs.String.{string_bytes}
 use Rattle.report_lines.specs.declared.mode.Mode.TheVariants.{Plain, Trace, Json, Exchanges, Vcd}
 use Rattle.top_call.specs.declared.forms.Form.{Form}
-use Rattle.top_call.specs.declared.forms.Form.TheVariants.{Decode, Encode, Run, Upgrade, Portals, Names, Probe, Audit, Gen}
+use Rattle.top_call.specs.declared.forms.Form.TheVariants.{Decode, Encode, Run, Upgrade, Portals, Names, Probe, Audit, Gen, Help, Version}
 use Rattle.made_scenario.specs.Made.{most_made_tags}
 
 -- the bytes of each word
@@ -27,6 +27,8 @@ words_of Names = codes "names" ∷ []
 words_of Probe = codes "probe" ∷ []
 words_of Audit = codes "audit" ∷ []
 words_of (Gen seed tags) = codes "gen" ∷ decimal seed ∷ decimal tags ∷ []
+words_of Help = codes "--help" ∷ []
+words_of Version = codes "--version" ∷ []
 
 -- the numbers of a form are in their ranges
 abbrev pub IsForm : Form → Type 0

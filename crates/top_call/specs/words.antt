@@ -6,5 +6,6 @@ pub mod Reported
 pub mod Named
 pub mod Probed
 pub mod Generated
+pub mod OwnTexts
 pub mod Upgraded
 pub mod Compared

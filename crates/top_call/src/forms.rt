@@ -29,6 +29,10 @@ pub enum Form {
     Names,
     /// The word `audit`: say whether the trace behind the scenario of the input is one of it, and else which line can't be.
     Audit,
+    /// The word `--help`: write which words there are. Nothing is read.
+    Help,
+    /// The word `--version`: write the version, and what the program was proved with. Nothing is read.
+    Version,
     /// The word `gen` and two numbers: make the scenario of a seed with so many tags, run it, and write its
     /// summary. Nothing is read.
     Gen {
@@ -88,6 +92,8 @@ pub fn form_of(words: &[String]) -> Option<Form>
         [word] if is_word(word.as_str(), "names") => Some(Form::Names),
         [word] if is_word(word.as_str(), "probe") => Some(Form::Probe),
         [word] if is_word(word.as_str(), "audit") => Some(Form::Audit),
+        [word] if is_word(word.as_str(), "--help") => Some(Form::Help),
+        [word] if is_word(word.as_str(), "--version") => Some(Form::Version),
         [word, mode] if is_word(word.as_str(), "run") && is_word(mode.as_str(), "trace") => {
             Some(Form::Run(Mode::Trace))
         }

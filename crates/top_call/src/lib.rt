@@ -14,11 +14,12 @@ pub use laws::{
 };
 pub use program::{gen2run, gen2run_surely};
 pub use status::Status;
-pub use words::audit::audit_is_lawful;
+pub use words::audit::{audit_inputs_have_a_text, audit_is_lawful};
 pub use words::decode::decode_is_lawful;
 pub use words::encode::encode_is_lawful;
 pub use words::generate::gen_is_lawful;
 pub use words::names::{names_are_lawful, names_inputs_have_a_text};
+pub use words::own_texts::own_texts_are_lawful;
 pub use words::portals::{portals_are_lawful, portals_inputs_have_a_text};
 pub use words::probe::probe_is_lawful;
 pub use words::run::{run_inputs_have_a_text, run_is_lawful};

@@ -12,8 +12,11 @@ ghost use Rattle.report_lines.specs.declared.mode.Mode.{Mode};
 use crate::forms::{Form, form_of};
 use crate::laws::jobs_are_lawful;
 use crate::status::Status;
-use crate::words::{audit, decode, encode, generate, names, portals, probe, run, upgrade};
+use crate::words::{
+    audit, decode, encode, generate, names, own_texts, portals, probe, run, upgrade,
+};
 use air_io::{Sink, Source, SureSink, SureSource};
+use program_texts::{help_text, version_text};
 use std::alloc::Global;
 
 /// Does what the words ask for: reads the input to its end, and writes the defined text.
@@ -30,7 +33,7 @@ pub fn gen2run<I: Source, O: Sink>(
     ensures bad_words { (result ≡ Status.BadWords) ↔ (¬ HasForm (texts words.now)) }
     ensures untouched { result ≡ Status.BadWords → (input.new ≡ input.old) × (output.new ≡ output.old) }
 
-    // Under a form without an input, as `gen` is, nothing is read, and no status comes that speaks of an input.
+    // Under a form without an input, as `gen`, `--help` and `--version` are, nothing is read, and no status comes that speaks of an input.
     ensures unread { (form : Form) → AskFor (texts words.now) form → (job_of form).input ≡ false
         → (input.new ≡ input.old) × SpeaksOfNoInput result }
 
@@ -119,8 +122,39 @@ pub fn gen2run_surely(
     gen2run(alloc, words, input, output)
 }
 
-/// Answers the words of a form.
+/// Answers the words of a form, and lets the sink hand on what it holds back of a whole text.
 fn answer<I: Source, O: Sink>(alloc: Global, form: Form, input: &mut I, output: &mut O) -> Status
+    requires { IsForm form }
+    ensures tells { Tells (job_of form) (source_change I.left I.faults input.old input.new) (sink_change O.written O.faults output.old output.new) (output.new ≡ output.old) result }
+    ensures unread { (job_of form).input ≡ false → (input.new ≡ input.old) × SpeaksOfNoInput result }
+    ensures names_memory { form ≡ Form.Names → result ≡ Status.OutOfMemory → output.new ≡ output.old }
+{
+    match write_answer(alloc, form, input, output) {
+        Status::Done => behind_text(Status::Done, output),
+        Status::BadInput => behind_text(Status::BadInput, output),
+        status => status,
+    }
+}
+
+/// The status behind a text that is written whole: where the sink fails to hand on what it holds back of it, a write failed.
+fn behind_text<O: Sink>(whole: Status, output: &mut O) -> Status
+    ensures written { O.written output.new ≡ O.written output.old }
+    ensures status { ((result ≡ whole) × (O.faults output.new ≡ O.faults output.old))
+        ⊎ ((result ≡ Status.WriteFault) × FaultsRose (O.faults output.old) (O.faults output.new)) }
+{
+    match output.flush() {
+        Ok(()) => whole,
+        Err(_) => Status::WriteFault,
+    }
+}
+
+/// Writes the answer to the words of a form.
+fn write_answer<I: Source, O: Sink>(
+    alloc: Global,
+    form: Form,
+    input: &mut I,
+    output: &mut O,
+) -> Status
     requires { IsForm form }
     ensures tells { Tells (job_of form) (source_change I.left I.faults input.old input.new) (sink_change O.written O.faults output.old output.new) (output.new ≡ output.old) result }
     ensures unread { (job_of form).input ≡ false → (input.new ≡ input.old) × SpeaksOfNoInput result }
@@ -136,5 +170,7 @@ fn answer<I: Source, O: Sink>(alloc: Global, form: Form, input: &mut I, output: 
         Form::Probe => probe::answer(alloc, input, output),
         Form::Audit => audit::answer(alloc, input, output),
         Form::Gen { seed, tags } => generate::answer(alloc, seed, tags, input, output),
+        Form::Help => own_texts::answer(help_text().as_bytes(), input, output),
+        Form::Version => own_texts::answer(version_text().as_bytes(), input, output),
     }
 }

@@ -34,6 +34,25 @@ pub fn compare<H: Hall + Drop>(
     let mut joint = joint;
     let mut alone2 = alone2;
     let mut alone3 = alone3;
+    play_all(alloc, &mut joint, &mut alone2, &mut alone3, specs)
+}
+
+/// Plays the rounds of two portals in three halls, which are lent for it, so that a hall is dropped where it is owned alone.
+fn play_all<H: Hall>(
+    alloc: Global,
+    joint: &mut H,
+    alone2: &mut H,
+    alone3: &mut H,
+    specs: &[RoundSpec],
+) -> Result<Vec<PortalLine>, OutOfMemory>
+    requires equal2 { H.tags alone2.old ≡ H.tags joint.old }
+    requires equal3 { H.tags alone3.old ≡ H.tags joint.old }
+    requires fresh { All IsNewTag (H.tags joint.old) }
+    requires sessions { All IsOfPortal specs.now }
+    requires few { length specs.now ≤ 1024 }
+    ensures lines { IfOk result (λ lines. lines.items ≡ portal_lines H.played (H.tags joint.old) specs.now) }
+    ensures independent { IfOk result (λ lines. AreIndependent lines.items) }
+{
     let mut heard = Pairs::new(alloc, joint.len())?;
     let mut heard_alone = Pairs::new(alloc, joint.len())?;
     let mut lines = Vec::with_capacity(alloc, specs.len())?;
@@ -41,8 +60,8 @@ pub fn compare<H: Hall + Drop>(
     for spec in specs {
         if spec.session().get() == 2 {
             play_both(
-                &mut joint,
-                &mut alone2,
+                joint,
+                alone2,
                 spec,
                 &mut lines,
                 &mut heard,
@@ -50,8 +69,8 @@ pub fn compare<H: Hall + Drop>(
             );
         } else {
             play_both(
-                &mut joint,
-                &mut alone3,
+                joint,
+                alone3,
                 spec,
                 &mut lines3,
                 &mut heard,

@@ -266,7 +266,7 @@ fn decoded() -> Option<[u8; 4]> {
         return None;
     }
     let mut bytes = [0; 4];
-    read.decode_to(&mut bytes);
+    read.write_to(&mut bytes);
     Some(bytes)
 }
 

@@ -1,10 +1,3 @@
 pub mod WheelLinks
-pub mod KeptPlaces
 pub mod TagSetBits
 pub mod SlotPlaces
-pub mod SlotDraws
-pub mod KeptMarks
-pub mod HalvedNumbers
-pub mod DrawnWords
-pub mod DrawingLists
-pub mod NearMasks

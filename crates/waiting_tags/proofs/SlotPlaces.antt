@@ -5,15 +5,13 @@ use Rattle.std.proofs.lemmas.Bool.{ne_eqb}
 use Rattle.std.proofs.lemmas.List.{get_or-set_same, get_or-set_other, set-get_or, length-map, length-replicate, length-set}
 use Rattle.std.proofs.lemmas.Option.{same_Some}
 use Rattle.air_events.specs.TagNumbers.{most_tags}
-use Rattle.tag_machine.specs.Inventory.{slot_below}
+use Rattle.tag_body.specs.RoundNumbers.{slot_below}
 use Rattle.waiting_tags.specs.declared.waiting.Participation.{Participation}
 use Rattle.waiting_tags.specs.declared.waiting.Participation.TheVariants.{Waits, Called}
 use Rattle.waiting_tags.specs.TagSets.{bit_of, HasNone, IsIn, IsNextIn}
-use Rattle.waiting_tags.specs.KeptPlaces.{stand_of}
-use Rattle.waiting_tags.specs.Wheel.{most_places, place_of, IsTagOn}
-use Rattle.waiting_tags.proofs.KeptPlaces.{stands_none, stands_some}
+use Rattle.waiting_tags.specs.Wheel.{place_of, IsTagOn}
 use Rattle.waiting_tags.proofs.WheelLinks.{stands_inside, stands_nowhere}
-use Rattle.waiting_tags.specs.Waiting.{participation_at, waits_in, IsNextCalled, IsDue, counted_down, called_place, slot_place, slot_behind, slot_in, participation_there, participation_on, participations_on, AreBases, AreCalled, AreSlots}
+use Rattle.waiting_tags.specs.Waiting.{participation_at, IsNextCalled, IsDue, counted_down, called_place, slot_place, slot_behind, slot_in, participation_there, participation_on, participations_on, AreBases, AreCalled, AreSlots}
 
 -- the participation of the tag on a place
 pub participation_of_place : (bases : List ℕ) (places : List (Option ℕ)) (number : ℕ) → participation_at (participations_on bases places) number ≡ participation_on bases (place_of places number)
@@ -49,32 +47,6 @@ waits_there bases base session slot are is few range =
     ∙ ap (λ n. slot_behind n (slot_place base session slot)) (sym is)
     ∙ slot_of_place base session slot (rw is (are.each session)) range in
     rw (ne_eqb (slot_place base session slot) called_place apart, counter, own) refl
-
--- a tag waits in a session where its place is one of those of the session
-waits_by : (bases : List ℕ) (session place : ℕ) → session ≤ 3 → (place / 32768 == session) ≡ waits_in session (participation_on bases (stand_of place))
-waits_by bases session place few =
-    elim (eqb_tells place most_places) [
-      | inl nowhere ↦
-          ne_eqb (place / 32768) session (λ same. omega (arith, same, few, nowhere.1))
-          ∙ ap (λ (s : Option ℕ). waits_in session (participation_on bases s)) (sym (stands_none place nowhere.1))
-      | inr somewhere ↦
-          elim (eqb_tells place called_place) [
-            | inl w ↦
-                ne_eqb (place / 32768) session (λ same. omega (arith, same, few, w.1))
-                ∙ ap (λ (b : Bool). waits_in session (Some (if b then Called else Waits (place / 32768) (slot_behind (get_or bases (place / 32768) 0) place)))) (sym w.0)
-                ∙ ap (λ (s : Option ℕ). waits_in session (participation_on bases s)) (sym (stands_some place somewhere.1))
-            | inr w ↦
-                ap (λ (b : Bool). waits_in session (Some (if b then Called else Waits (place / 32768) (slot_behind (get_or bases (place / 32768) 0) place)))) (sym w.0)
-                ∙ ap (λ (s : Option ℕ). waits_in session (participation_on bases s)) (sym (stands_some place somewhere.1))
-          ]
-    ]
-
-pub waits_there_in : (bases : List ℕ) (places : List (Option ℕ)) (number session place : ℕ) → session ≤ 3 → stand_of place ≡ place_of places number
-    → (place / 32768 == session) ≡ waits_in session (participation_at (participations_on bases places) number)
-waits_there_in bases places number session place few stands =
-    waits_by bases session place few
-    ∙ ap (λ (s : Option ℕ). waits_in session (participation_on bases s)) stands
-    ∙ ap (λ (s : Option Participation). waits_in session s) (sym (participation_of_place bases places number))
 
 -- the counter falls by 1 where the base rises by 1
 counter_falls : (base place : ℕ) → base < 32768 → slot_behind ((base + 1) % 32768) place ≡ slot_below (slot_behind base place)
@@ -194,13 +166,12 @@ called_there : (bases : List ℕ) (places : List (Option ℕ)) (number : ℕ) �
 called_there bases places number is = participation_of_place bases places number ∙ ap (λ p. participation_on bases p) is
 
 -- one that is called already
-pub called_again : (participations : List (Option Participation)) (on : OnPlaces participations) (number place : ℕ) → stand_of place ≡ place_of on.places number → place ≡ called_place
+pub called_again : (numbers : List ℕ) (participations : List (Option Participation)) (on : OnPlaces participations) (number : ℕ) → AreCalled numbers on.places → IsIn numbers number
     → participations ≡ set participations number (Some Called)
-called_again participations on number place stands is =
-    let there : place_of on.places number ≡ Some called_place = sym stands ∙ ap (λ n. stand_of n) is ∙ stands_some called_place (λ same. omega (arith, same)) in
+called_again numbers participations on number are is =
     sym (set-get_or participations number None)
     ∙ ap (λ (s : Option Participation). set participations number s)
-    (ap (λ (l : List (Option Participation)). participation_at l number) (sym on.same) ∙ called_there on.bases on.places number there)
+    (ap (λ (l : List (Option Participation)). participation_at l number) (sym on.same) ∙ called_there on.bases on.places number (are.only number is))
 
 not_there : (bases : List ℕ) (places : List (Option ℕ)) (number : ℕ) (stands : Option ℕ) → place_of places number ≡ stands → place_of places number ≢ Some called_place
     → participation_on bases stands ≢ Some Called

@@ -2,7 +2,7 @@
 -- next command. Where each stands: a waiting tag at the place that its slot counter has behind the base of its session.
 use Rattle.std.proofs.Common.{◌≡◌, ◌≢◌, ℕ, ◌+◌, ◌-◌, ◌*◌, ◌/◌, ◌%◌, ◌<◌, ◌≤◌, ◌==◌, Bool, true, false, List, length, map, Option, Some, None, get_or, if◌then◌else◌}
 use Rattle.air_events.specs.TagNumbers.{most_tags}
-use Rattle.tag_machine.specs.Inventory.{slot_below}
+use Rattle.tag_body.specs.RoundNumbers.{slot_below}
 use Rattle.waiting_tags.specs.declared.waiting.Participation.{Participation}
 use Rattle.waiting_tags.specs.declared.waiting.Participation.TheVariants.{Waits, Called}
 use Rattle.waiting_tags.specs.Wheel.{place_of}

@@ -1,10 +1,10 @@
 //! Which tags wait for their slots, and which are called.
-ghost use Rattle.std.specs.Prelude.{◌≡◌, ◌≢◌, ◌==◌, ℕ, ◌+◌, ◌<◌, ◌≤◌, true, false, Some, None, length, map, replicate, slice_set, get_or, if◌then◌else◌, IfOk};
+ghost use Rattle.std.specs.Prelude.{◌≡◌, ℕ, ◌+◌, ◌<◌, ◌≤◌, Some, None, length, map, replicate, slice_set, IfOk};
 ghost use Rattle.air_events.specs.TagNumbers.{most_tags};
 ghost use Rattle.waiting_tags.specs.Waiting.{AreSlots, IsDue, IsLegalParticipation, IsNextCalled, counted_down, slot_in, slot_place, participation_at, waits_in};
 
-use crate::tag_places::TagPlaces;
 use crate::tag_set::TagSet;
+use crate::wheel::Wheel;
 use air_events::TagNumber;
 use bit_strings::{OutOfMemory, Session};
 use std::alloc::Global;
@@ -34,7 +34,7 @@ pub enum Participation {
 #[derive(Drop)]
 pub struct Waiting {
     bases: [u16; 4],
-    tags: TagPlaces,
+    wheel: Wheel,
     called: TagSet,
 }
 
@@ -45,9 +45,9 @@ impl Model for Waiting {
 
     ghost Value = { List (Option Participation) };
 
-    ghost view = { λ a. participations_on a.bases a.tags };
+    ghost view = { λ a. participations_on a.bases a.wheel };
 
-    ghost invariant = { λ a. AreBases a.bases × AreCalled a.called a.tags };
+    ghost invariant = { λ a. AreBases a.bases × AreCalled a.called a.wheel };
 }
 
 impl Waiting {
@@ -56,11 +56,11 @@ impl Waiting {
         requires { count ≤ most_tags }
         ensures { IfOk result (λ waiting. waiting ≡ replicate count None) }
     {
-        let tags = TagPlaces::new(alloc, count)?;
+        let wheel = Wheel::new(alloc, count)?;
         let called = TagSet::new(alloc)?;
         Ok(Waiting {
             bases: [0; 4],
-            tags,
+            wheel,
             called,
         })
     }
@@ -71,7 +71,7 @@ impl Waiting {
         ensures value { result ≡ slot_in (participation_at self.now number) }
         ensures range { (slot : ℕ) → result ≡ Some slot → slot < 32768 }
     {
-        let place = self.tags.place(number)?;
+        let place = self.wheel.place(number)?;
         if place == CALLED {
             return None;
         }
@@ -84,7 +84,10 @@ impl Waiting {
         requires { number < length self.now }
         ensures { result ≡ waits_in session (participation_at self.now number) }
     {
-        self.tags.place_number(number) / SLOTS == usize::from(session.get())
+        match self.wheel.place(number) {
+            Some(place) => place / SLOTS == usize::from(session.get()),
+            None => false,
+        }
     }
 
     /// Lets a tag take part as is said.
@@ -98,7 +101,7 @@ impl Waiting {
         match participation {
             Some(participation) => self.put_on_place(number, participation),
             None => {
-                self.tags.take(number);
+                self.wheel.take(number);
                 self.called.remove(number);
             }
         }
@@ -115,32 +118,18 @@ impl Waiting {
         match participation {
             Participation::Waits(session, slot) => {
                 let place = slot_place(self.bases[usize::from(session)], session, slot);
-                self.tags.put(number, place);
+                self.wheel.put(number, place);
                 self.called.remove(number);
             }
             Participation::Called => {
                 // A tag beyond arbitrate is called to each command.
-                let place = self.tags.place_number(number);
-                if place == CALLED {
+                if self.called.contains(number) {
                     return;
                 }
-                self.tags.put(number, CALLED);
+                self.wheel.put(number, CALLED);
                 self.called.insert(number);
             }
         }
-    }
-
-    /// Lets a tag that waits in a session wait there for another slot.
-    #[inline]
-    pub fn wait_for(&mut self, number: TagNumber, session: Session, slot: u16)
-        requires number { number < length self.old }
-        requires waits { waits_in session (participation_at self.old number) ≡ true }
-        requires slot { slot < 32768 }
-        ensures { self.new ≡ slice_set self.old number (Some (Participation.Waits session slot)) }
-    {
-        let session = session.get();
-        let place = slot_place(self.bases[usize::from(session)], session, slot);
-        self.tags.put(number, place);
     }
 
     /// The first tag that is called, in the order of their numbers.
@@ -160,45 +149,18 @@ impl Waiting {
     }
 
     /// A tag whose slot comes next in a session; none exactly where there is no such tag.
-    pub fn due(&mut self, session: Session) -> Option<TagNumber>
-        ensures same { self.new ≡ self.old }
-        ensures due { IsDue self.old session result }
+    pub fn due(&self, session: Session) -> Option<TagNumber>
+        ensures { IsDue self.now session result }
     {
         let session = session.get();
         let base = self.bases[usize::from(session)];
-        self.tags.tag_on(slot_place(base, session, 1))
-    }
-
-    /// Lets tags go to other places at less cost, until one is asked for whose slot comes next.
-    pub fn unlink(&mut self)
-        ensures { self.new ≡ self.old }
-    {
-        self.tags.unlink();
-    }
-
-    /// Marks the tags that wait in a session by 1, and all others by 0.
-    pub fn mark_waiting(&self, session: Session, marks: &mut [u16])
-        requires { length marks.old ≡ length self.now }
-        ensures { (number : ℕ) → get_or marks.new number 0 ≡ (if waits_in session (participation_at self.now number) then 1 else 0) }
-    {
-        self.tags.mark(session, marks);
-    }
-
-    /// Lets tags that wait in a session wait there for other slots: those of which a slot is told that isn't 0.
-    pub fn wait_for_all(&mut self, session: Session, slots: &[u16])
-        requires whole { length slots.now ≡ length self.old }
-        requires small { (number : ℕ) → get_or slots.now number 0 < 32768 }
-        requires waits { (number : ℕ) → get_or slots.now number 0 ≢ 0 → waits_in session (participation_at self.old number) ≡ true }
-        ensures whole { length self.new ≡ length self.old }
-        ensures each { (number : ℕ) → participation_at self.new number ≡ (if get_or slots.now number 0 == 0 then participation_at self.old number else Some (Participation.Waits session (get_or slots.now number 0))) }
-    {
-        let base = self.bases[usize::from(session.get())];
-        self.tags.move_all(base, session, slots);
+        self.wheel.tag_on(slot_place(base, session, 1))
     }
 
     /// Counts the slot counters of all tags down that wait in a session.
     pub fn count_down(&mut self, session: Session)
-        ensures { self.new ≡ map (counted_down session) self.old }
+        ensures counted { self.new ≡ map (counted_down session) self.old }
+        ensures slots { AreSlots self.new }
     {
         let at = usize::from(session.get());
         self.bases[at] = ((usize::from(self.bases[at]) + 1) % SLOTS) as u16;

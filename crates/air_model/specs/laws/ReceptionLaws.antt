@@ -88,9 +88,9 @@ broken_heard link expect replied place (Whole reply) by_link is = absurd (broken
 broken_heard link expect replied place (Refused stop) by_link is = (stop, refl)
 
 -- What is received of the levels that the channel gives is what `reception_of` says, where it gives a stream ..
-pub stream_reception : (link : LinkValue) (expect : Expect) (given : Given) (received : Received) → IsGivenFor expect given → IsReadBy link given → got_of given ≡ gots.Stream
+pub stream_reception : (link : LinkValue) (expect : Expect) (given : Given) (received : Received) → IsGivenFor expect given → IsReadBy link given → got_of link given ≢ gots.Silence
     → IsReceived (table_of link.code) link.trext expect (heard_levels link given) received → reception_of expect given ≡ reception_from received
-stream_reception link expect silence received meets reads got is = cc
+stream_reception link expect silence received meets reads got is = absurd (got refl)
 stream_reception link expect (whole replied) received meets reads got is =
     let same = same_received link.code link.trext expect (heard_levels link (whole replied)) (Whole replied.sent.reply) received (whole_heard link expect replied meets) is in
     ap (λ (test : Bool). if test then whole_reply replied.sent.reply else no_such_reply) meets.expected ∙ ap reception_from same
@@ -104,17 +104,17 @@ stream_reception link expect (raw code trext levels) received meets reads got is
     ∙ ap reception_from same
 
 -- ... and where it gives none
-pub silent_reception : (expect : Expect) (given : Given) → got_of given ≡ gots.Silence → reception_of expect given ≡ no_stream
-silent_reception expect silence got = refl
-silent_reception expect (whole replied) got = cc
-silent_reception expect (broken replied place) got = cc
-silent_reception expect (raw code trext levels) got = cc
+pub silent_reception : (link : LinkValue) (expect : Expect) (given : Given) → got_of link given ≡ gots.Silence → reception_of expect given ≡ no_stream
+silent_reception link expect silence got = refl
+silent_reception link expect (whole replied) got = cc
+silent_reception link expect (broken replied place) got = cc
+silent_reception link expect (raw code trext levels) got = cc
 
-some_stream : (expect : Expect) (given : Given) (reply : Reply) → reception_of expect given ≡ whole_reply reply → got_of given ≡ gots.Stream
-some_stream expect silence reply heard = absurd (cc)
-some_stream expect (whole replied) reply heard = refl
-some_stream expect (broken replied place) reply heard = refl
-some_stream expect (raw code trext levels) reply heard = refl
+some_stream : (link : LinkValue) (expect : Expect) (given : Given) (reply : Reply) → reception_of expect given ≡ whole_reply reply → got_of link given ≢ gots.Silence
+some_stream link expect silence reply heard got = cc
+some_stream link expect (whole replied) reply heard got = cc
+some_stream link expect (broken replied place) reply heard got = cc
+some_stream link expect (raw code trext levels) reply heard got = cc
 
 pub from_whole : (received : Received) (reply : Reply) → reception_from received ≡ whole_reply reply → received ≡ Whole reply
 from_whole (Whole other) reply heard = cc
@@ -127,11 +127,11 @@ whole_is_heard link expect given reply meets reads heard =
     let levels = heard_levels link given in
     let received : Received = received_of link.code link.trext expect levels in
     let is : IsReceived (table_of link.code) link.trext expect levels received = received_there link.code link.trext expect levels in
-    let same = stream_reception link expect given received meets reads (some_stream expect given reply heard) is in
+    let same = stream_reception link expect given received meets reads (some_stream link expect given reply heard) is in
     subst (λ (r : Received). IsReceived (table_of link.code) link.trext expect levels r) (from_whole received reply (sym same ∙ heard)) is
 
 -- a Read brings no more words than a bank has
-few_words : (reply : Reply) → HasFewWords reply → FitsBank reply
+pub few_words : (reply : Reply) → HasFewWords reply → FitsBank reply
 few_words (Rn16 rn) few = tt
 few_words (Epc pc epc) few = tt
 few_words (Handle rn) few = tt

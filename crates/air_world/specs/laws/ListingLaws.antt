@@ -1,5 +1,5 @@
 -- What is kept of lines that list nothing.
-use Rattle.std.proofs.Common.{◌≡◌, ℕ, List, [], ◌++◌, sym, ap, append-nil}
+use Rattle.std.proofs.Common.{ℕ, List, [], sym, ap, append-nil}
 use Rattle.air_world.specs.Listing.{HearsPairs}
 use Rattle.bounded_list.specs.ItemList.{ItemList}
 

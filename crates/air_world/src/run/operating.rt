@@ -1,26 +1,33 @@
 //! The operations of a round with a tag that was listed.
 ghost use Rattle.std.specs.Prelude.{◌≡◌, ◌++◌, ◌||◌, ◌≤◌, ℕ, List, [], ◌∷◌, None, Some, length, if◌then◌else◌, option_copied};
+ghost use Rattle.access_ops.specs.OpRunValue.{OpRunStandsFor};
 ghost use Rattle.access_ops.specs.Operations.{IsAnswerFor, dialogue_of, reception_in};
+ghost use Rattle.access_ops.specs.declared.op_next.Answer.TheVariants.{Got as GotAnswer};
 ghost use Rattle.access_ops.specs.laws.OperationLaws.{Expects};
+ghost use Rattle.air_events.specs.Streams.{longest_stream};
 ghost use Rattle.air_model.specs.Past.{Item, Start, next_record, past_behind_command};
-ghost use Rattle.air_world.specs.Playing.{IsAt, StandsAt, IsUnderway};
+ghost use Rattle.air_world.specs.Playing.{IsAt, IsBegun, IsUnderway, StandsAt};
 ghost use Rattle.air_world.specs.Telling.{Passes, lines_behind};
-ghost use Rattle.runs.specs.Report.{exchange_lines};
+ghost use Rattle.line_codes.specs.Codes.{table_of};
+ghost use Rattle.reply_wire.specs.Received.{IsReceived};
 ghost use Rattle.report_lines.specs.ReportLine.{ReportLine, OpLine};
 ghost use Rattle.runs.specs.History.{operation_reception, past_behind_dialogue};
+ghost use Rattle.runs.specs.Report.{exchange_lines};
 
+use crate::receiving::receive_last;
 use crate::run::Run;
 use access_ops::{Answer, OpList, OpNext, OpResult, OpRun};
 use air_channel::{Air, Got};
+use bit_strings::Bits;
 use command_grammar::Command;
-use reply_grammar::{EpcWords, Expect};
+use reply_grammar::{Expect, Received};
 use report_lines::{Line, Listener};
 use std::sync::ledger::Ledger;
 use tag_machine::{answers_are_replies, steps_keep_tags_legal};
 
 impl<'a, L: Ledger> Run<'a, L> {
-    /// Does these operations with the tag that sent this EPC, and this RN16 before it, and tells the result of
-    /// each. It stands alone, so that room for commands and replies is made ready for a round with operations alone.
+    /// Does the operations that were begun with a tag that was listed, and tells the result of each. It stands alone, so that room for commands is made
+    /// ready behind a listed EPC alone.
     #[inline(never)]
     pub(crate) fn operate<R: Listener>(
         &mut self,
@@ -28,22 +35,24 @@ impl<'a, L: Ledger> Run<'a, L> {
         round: u32,
         slot: u32,
         operations: &OpList,
-        epc: &EpcWords,
-        rn: u16,
+        begun: OpRun,
         report: &mut R,
     )
         requires underway { IsUnderway 129 air.old self.old }
         requires few { length operations.now.ops ≤ 32 }
-        ensures { (start : Start) (past : List Item) → IsAt start past air.old self.old
-            → StandsAt (Passes R.hears (lines_behind start past) report.old report.new) start (past_behind_dialogue start round slot 1 (dialogue_of operations.now epc.now rn) past) air.new self.new }
+        requires begun { IsBegun begun operations.now }
+        ensures { (start : Start) (earlier : ℕ) (past : List Item) (epc : List ℕ) (rn : ℕ) → IsAt start earlier past air.old self.old
+            → OpRunStandsFor begun operations.now epc rn []
+            → StandsAt (Passes R.hears (lines_behind start past) report.old report.new) start earlier
+            (past_behind_dialogue start round slot 1 (dialogue_of operations.now epc rn) past) air.new self.new }
     {
-        let mut run = OpRun::start(operations, epc, rn);
+        let mut run = begun;
         let mut next = OpNext::End;
         let mut answer = Answer::Silence;
         let mut is_answered = false;
         let mut index = 1;
         'moves: loop {
-            run.next_to(operations, given(is_answered, &answer), &mut next);
+            run.next(operations, given(is_answered, &answer), &mut next);
             match &next {
                 OpNext::Send {
                     command,
@@ -75,20 +84,19 @@ impl<'a, L: Ledger> Run<'a, L> {
     )
         requires underway { IsUnderway 1 air.old self.old }
         requires expects { Expects command.now expect.now extended }
-        ensures plays { (start : Start) (past : List Item) (round slot : ℕ) → IsAt start past air.old self.old
-            → IsAt start (past_behind_command start round slot command.now past) air.new self.new }
-        ensures rest { self.new ≡ record self.old { entries = self.new.entries } }
+        ensures plays { (start : Start) (earlier : ℕ) (past : List Item) (round slot : ℕ) → IsAt start earlier past air.old self.old
+            → IsAt start earlier (past_behind_command start round slot command.now past) air.new self.new }
         ensures expected { IsAnswerFor expect.now answer.new }
-        ensures heard { (start : Start) (past : List Item) (round slot : ℕ) → IsAt start past air.old self.old
+        ensures heard { (start : Start) (earlier : ℕ) (past : List Item) (round slot : ℕ) → IsAt start earlier past air.old self.old
             → reception_in answer.new ≡ operation_reception start round slot command.now expect.now extended past }
-        ensures told { (start : Start) (past : List Item) (round slot : ℕ) (before : List ReportLine) → IsAt start past air.old self.old
+        ensures told { (start : Start) (earlier : ℕ) (past : List Item) (round slot : ℕ) (before : List ReportLine) → IsAt start earlier past air.old self.old
             → Passes R.hears before report.old report.new (before ++ exchange_lines start.link (next_record start round slot command.now past)) }
     {
         answers_are_replies();
         steps_keep_tags_legal();
         match self.send(air, command, report) {
             Got::Silence => *answer = Answer::Silence,
-            Got::Stream => self.hear(air, expect, extended, answer),
+            _ => hear(air, expect, extended, &mut self.bits, answer),
         }
     }
 }
@@ -110,4 +118,22 @@ fn tell_result<R: Listener>(round: u32, slot: u32, index: u32, ended: &OpResult,
         index,
         ended,
     });
+}
+
+/// Gives what is received of the last stream of an air as what is heard, in place of what was heard before.
+fn hear(air: &Air, expect: &Expect, extended: bool, bits: &mut Bits, answer: &mut Answer)
+    requires room { longest_stream ≤ bits.old.capacity }
+    ensures room { bits.new.capacity ≡ bits.old.capacity }
+    ensures received { (received : Received) × (answer.new ≡ GotAnswer received)
+        × IsReceived (table_of air.now.link.code) (extended || air.now.link.trext) expect.now air.now.stream received }
+{
+    // The room of what was received before is taken over as it is.
+    if let Answer::Got(received) = answer {
+        return receive_last(air, expect, extended, bits, received);
+    }
+    *answer = Answer::Got(Received::Refused(0));
+    match answer {
+        Answer::Got(received) => receive_last(air, expect, extended, bits, received),
+        Answer::Silence => unreachable!(),
+    }
 }

@@ -1,9 +1,10 @@
 -- One bit more in a field, and the beginning of each field.
-use Rattle.std.proofs.Common.{◌≡◌, ℕ, suc, ◌+◌, ◌-◌, ◌/◌, ◌%◌, ◌^◌, ◌<◌, ◌≤◌, Bool, true, false, not, List, [], ◌∷◌, ◌++◌, length, Result, Ok, Err, refl, sym, ap, subst, ◌∙◌, append_assoc, append-nil, length-append, arith, cond}
+use Rattle.std.proofs.Common.{◌≡◌, ℕ, suc, ◌+◌, ◌-◌, ◌*◌, ◌/◌, ◌%◌, ◌^◌, ◌<◌, ◌≤◌, Bool, true, false, not, List, [], ◌∷◌, ◌++◌, length, Result, Ok, Err, refl, sym, ap, subst, ◌∙◌, append_assoc, append-nil, length-append, arith, cond}
 use Rattle.std.specs.Prelude.{◌==◌}
 use mathlib.Core.Bool.{beq}
 use Rattle.std.proofs.lemmas.Bool.Decides.{nat_tests}
 use Rattle.std.proofs.lemmas.List.{take_at}
+use Rattle.std.proofs.Math.Nat.{pow-suc}
 use Rattle.std.proofs.lemmas.Nat.{pow_below}
 use Rattle.bit_strings.specs.Numbers.{digit_of, value_of, field_of}
 use Rattle.bit_strings.specs.Ebv.{IsEbv, IsCutEbv}
@@ -49,6 +50,12 @@ small_digit false = omega arith
 
 pub small_front : (field : NumberField) (number : NumberFront) → IsFront (width_of field) number → number.value < 2 ^ 30
 small_front field number front = omega (arith, front.small, pow_below front.read 30 (omega (arith, front.rest, few_bits field)))
+
+-- with one bit more the value fits the bits read
+pub value_more : (value read more : ℕ) (bit : Bool) → value < 2 ^ read → more ≡ 2 * value + digit_of bit → more < 2 ^ (read + 1)
+value_more value read more bit small same =
+    let e : read + 1 ≡ suc read = omega arith in
+    rw e (omega (arith, small, same, pow-suc 2 read, small_digit bit))
 
 -- ---- words
 

@@ -32,7 +32,6 @@ use Rattle.command_grammar.proofs.reading.FieldRests.{is_fork, fork-at, number-s
 use Rattle.command_grammar.proofs.SpellingLaws.{begun}
 use Rattle.command_grammar.proofs.reading.WholeReading.{all_whole, all_short, all_bad}
 use Rattle.command_grammar.proofs.SpellingLengths.{length-begins}
-use Rattle.command_grammar.proofs.reading.BitRuns.{few_more}
 
 -- ---- a command is its fields, one behind the other
 
@@ -150,10 +149,6 @@ few_bits kind (positions.Within stage) behind v bits resumes = length-begins bit
 few_bits kind positions.Whole behind v bits resumes =
     length-begins bits (begun Spellings bits (command_of kind v, all_whole (command_of kind v) bits (whole_here kind behind v bits resumes)))
 
--- ... also with the front of a run behind them
-pub few_behind : (s : State) (position : Position) (v : Fields) (count : ℕ) (front bits : List Bool) → StateStandsFor s front → count ≤ length bits → Resumes s.kind position s.behind.now v (front ++ take count bits) → s.pushed + count ≤ 4162
-few_behind s position v count front bits stands within resumes = few_more s.pushed count front bits stands.count within (few_bits s.kind position s.behind.now v (front ++ take count bits) resumes)
-
 -- a bit that no command goes on with is the place of refusal
 pub refused_last : (bits : List Bool) (bit : Bool) (place : ℕ) (reason : Reason) → place ≡ length bits → all_of (bits ++ bit ∷ []) ≡ Err (Bad (length {A = Bool} [] + 1) reason) → IsCommandRefusedAt (bits ++ bit ∷ []) place reason
 refused_last bits bit place reason same e =
@@ -199,13 +194,3 @@ pub stage_run : (s : State) (bits run_bits : List Bool) (stage more : Stage) (v 
 stage_run s bits run_bits stage more v here goes stands =
     resumes_more s (positions.Within more) v bits run_bits stands
     (λ rest. ap (λ (position : Position). resume s.kind position s.behind.now s.fields ((bits ++ run_bits) ++ rest) (run_bits ++ rest)) here ∙ ap (λ (r : Reading Fields). r >>= λ x. run s.behind.now s.kind x.0 ((bits ++ run_bits) ++ rest) x.1) (goes rest))
-
--- a refusal at a bit of a list
-pub refused_at : (bits : List Bool) (at : ℕ) (default : Bool) (place : ℕ) (reason : Reason) → at < length bits → place ≡ length (take at bits) → ((rest : List Bool) → all_of (take at bits ++ get_or bits at default ∷ rest) ≡ Err (Bad (length rest + 1) reason))
-    → IsCommandRefusedAt bits place reason
-refused_at bits at default place reason inside same stops =
-    let rest : List Bool = drop (suc at) bits in
-    let split : take at bits ++ get_or bits at default ∷ rest ≡ bits = ap (λ (l : List Bool). take at bits ++ l) (sym (drop-cons bits at default inside)) ∙ take-append-drop at bits in
-    let refused = (all_bad bits (length rest + 1) reason (ap all_of (sym split) ∙ stops rest)).1 in
-    let long : length (take at bits) + (length rest + 1) ≡ length bits = omega (arith, ap (λ (l : List Bool). length l) split, length-append (take at bits) (get_or bits at default ∷ rest)) in
-    subst (λ (n : ℕ). IsCommandRefusedAt bits n reason) (omega arith) refused

@@ -51,15 +51,15 @@ impl Check {
         }
     }
 
-    /// These bits more.
-    #[inline]
-    pub(crate) fn push_all(&mut self, bits: &[bool])
-        ensures counts { (front : List Bool) → Counts self.old front → Counts self.new (front ++ bits.now) }
+    /// One bit more.
+    #[inline(always)]
+    pub(crate) fn push(&mut self, bit: bool)
+        ensures counts { (front : List Bool) → Counts self.old front → Counts self.new (front ++ bit ∷ []) }
         ensures kept { check_kept self.new ≡ check_kept self.old }
     {
         match self {
-            Check::Long(crc) => crc.push_all(bits),
-            Check::Short(crc) => crc.push_all(bits),
+            Check::Long(crc) => crc.push(bit),
+            Check::Short(crc) => crc.push(bit),
             Check::Over => {}
         }
     }

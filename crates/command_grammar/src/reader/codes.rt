@@ -1,5 +1,5 @@
 //! The code of a command, bit by bit (6.3.2.11, Table 6.18).
-ghost use Rattle.std.specs.Prelude.{◌≡◌, ◌≤◌, ◌++◌, List, Bool, length, take};
+ghost use Rattle.std.specs.Prelude.{◌≡◌, ◌∷◌, ◌++◌, [], List, Bool, IsTrue, IsFalse};
 ghost use Rattle.command_grammar.specs.reading.Readers.{next_at};
 ghost use Rattle.command_grammar.specs.reading.Codes.{IsCodeStep, KeepsCode, behind_code, bits_of_front};
 ghost use Rattle.command_grammar.specs.declared.refusal.Reason.TheVariants as Reason;
@@ -37,22 +37,20 @@ pub(crate) enum CodeStep {
 }
 
 impl CodeFront {
-    /// The bits with which these begin and with which some codes go on: gives how many.
-    #[inline]
-    pub(crate) fn take_run(&mut self, bits: &[bool]) -> usize
-        ensures within { result ≤ length bits.now }
-        ensures reads { (rest : List Bool) → next_at (behind_code self.old) Reason.Code (take result bits.now ++ rest) ≡ next_at (behind_code self.new) Reason.Code rest }
-        ensures keeps { bits_of_front self.new ≡ bits_of_front self.old ++ take result bits.now }
+    /// Takes the next bit where some codes go on with it, and gives whether it did.
+    #[inline(always)]
+    pub(crate) fn take_inside(&mut self, bit: bool) -> bool
+        ensures reads { IsTrue result → (rest : List Bool) → next_at (behind_code self.old) Reason.Code (bit ∷ rest) ≡ next_at (behind_code self.new) Reason.Code rest }
+        ensures keeps { IsTrue result → bits_of_front self.old ++ bit ∷ [] ≡ bits_of_front self.new }
+        ensures same { IsFalse result → self.new ≡ self.old }
     {
-        let mut count = 0;
-        for bit in bits {
-            let CodeStep::More(more) = code_step(*self, *bit) else {
-                return count;
-            };
-            *self = more;
-            count += 1;
+        match code_step(*self, bit) {
+            CodeStep::More(more) => {
+                *self = more;
+                true
+            }
+            CodeStep::Is(_) | CodeStep::Refused => false,
         }
-        count
     }
 }
 

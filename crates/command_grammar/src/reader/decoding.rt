@@ -5,13 +5,12 @@ ghost use Rattle.command_grammar.specs.declared.commands.Command.{Command};
 
 use crate::commands::Command;
 use crate::reader::access::decode_access_to;
+use crate::reader::framer::Framer;
 use crate::reader::short::decode_short_to;
-use crate::reader::state::State;
 use crate::refusal::CommandRefusal;
 
-/// Puts in place of another answer the command that these bits are, or why they are none. Bits behind a
-/// refused one are not looked at. Nothing is copied, as an answer has room for the longest mask and the
-/// longest list of words.
+/// Puts in place of another answer the command that these bits are, or why they are none. Nothing is copied, as an answer
+/// has room for the longest mask and the longest list of words.
 pub fn decode_command_to(bits: &[bool], answer: &mut Result<Command, CommandRefusal>)
     ensures answer { IsFinishAnswer answer.new bits.now }
     ensures only { (command : Command) → SpellsCommand command bits.now → answer.new ≡ Ok command }
@@ -31,15 +30,9 @@ pub fn decode_command_to(bits: &[bool], answer: &mut Result<Command, CommandRefu
 fn decode_by_fields_to(bits: &[bool], answer: &mut Result<Command, CommandRefusal>)
     ensures { IsFinishAnswer answer.new bits.now }
 {
-    let mut state = State::new();
-    let mut at = state.take_run(bits);
-    while at < bits.len() {
-        let place = state.pushed;
-        if let Some(reason) = state.take_edge(bits[at]) {
-            state.finish(Some((place, reason)), answer);
-            return;
-        }
-        at += 1 + state.take_run(&bits[at + 1..]);
+    let mut framer = Framer::new();
+    for bit in bits {
+        framer.push(*bit);
     }
-    state.finish(None, answer);
+    framer.finish_to(answer);
 }

@@ -42,6 +42,7 @@ impl Framer {
     }
 
     /// Takes one bit more, and says what the bits now are. After a refusal each push answers the same.
+    #[inline(always)]
     pub fn push(&mut self, bit: bool) -> Pushed
         ensures stands { (bits : List Bool) → FramerStandsFor self.old bits → FramerStandsFor self.new (bits ++ bit ∷ []) }
         ensures judges { (bits : List Bool) → FramerStandsFor self.old bits → Judges result (bits ++ bit ∷ []) }

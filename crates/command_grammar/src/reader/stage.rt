@@ -1,5 +1,5 @@
 //! The field of a command that is being read.
-ghost use Rattle.std.specs.Prelude.{◌≡◌, ◌+◌, ◌*◌, ◌≤◌, ◌<◌, ◌^◌, ◌∷◌, ◌++◌, ℕ, List, Bool, false, length, take, get_or};
+ghost use Rattle.std.specs.Prelude.{◌≡◌, ◌+◌, ◌*◌, ◌≤◌, ◌<◌, ◌^◌, ◌∷◌, ◌++◌, ℕ, List, Bool, IsTrue, IsFalse, length};
 ghost use Rattle.bit_strings.specs.Numbers.{digit_of};
 ghost use Rattle.command_grammar.specs.reading.CommandFields.{field_from};
 ghost use Rattle.command_grammar.specs.reading.FieldStages.{number_from, stage_from, next_from, pair_from, triple_from, bit_from, number_then, words_then};
@@ -42,21 +42,21 @@ impl NumberFront {
         }
     }
 
-    /// The bits with which these begin, up to the last bit of the number, which isn't taken: gives how many.
-    #[inline]
-    fn take_run(&mut self, bits: &[bool]) -> usize
-        requires { IsSmall self.old }
-        ensures within { result ≤ length bits.now }
-        ensures reads { (rest : List Bool) → number_from self.old.behind self.old.value (take result bits.now ++ rest) ≡ number_from self.new.behind self.new.value rest }
-        ensures fits { (width : ℕ) → IsFront width self.old → IsFront width self.new }
-        ensures last { result < length bits.now → self.new.behind ≡ 0 }
+    /// Takes the next bit where it isn't the last one, and gives whether it did.
+    #[inline(always)]
+    fn take_inside(&mut self, bit: bool) -> bool
+        requires { self.old.value < 2 ^ 30 }
+        ensures reads { IsTrue result → (rest : List Bool) → number_from self.old.behind self.old.value (bit ∷ rest) ≡ number_from self.new.behind self.new.value rest }
+        ensures fits { IsTrue result → (width : ℕ) → IsFront width self.old → IsFront width self.new }
+        ensures last { IsFalse result → self.old.behind ≡ 0 }
+        ensures same { IsFalse result → self.new ≡ self.old }
     {
-        let count = bits.len().min(self.behind as usize);
-        for bit in &bits[..count] {
-            self.value = self.with(*bit);
+        if self.behind == 0 {
+            return false;
         }
-        self.behind -= count as u32;
-        count
+        self.value = self.with(bit);
+        self.behind -= 1;
+        true
     }
 
     /// The number with one bit more behind those read.
@@ -77,25 +77,23 @@ impl NumberFront {
         (self.value >> self.behind) % 2 == 1
     }
 
-    /// The bits of a number that is known with which these begin, up to its last bit, which isn't taken, nor
-    /// is one that differs: gives how many.
-    #[inline]
-    fn take_known_run(&mut self, bits: &[bool]) -> usize
+    /// Takes the next bit of a number that is known where it isn't the last one and doesn't differ, and gives whether it did.
+    #[inline(always)]
+    fn take_known_inside(&mut self, bit: bool) -> bool
         requires { self.old.behind ≤ 15 }
-        ensures within { result ≤ length bits.now }
-        ensures reads { (reason : Reason) (fields : Fields) (rest : List Bool) → stage_from (stages.Known reason self.old) fields (take result bits.now ++ rest) ≡ stage_from (stages.Known reason self.new) fields rest }
+        ensures reads { IsTrue result → (reason : Reason) (fields : Fields) (rest : List Bool) → stage_from (stages.Known reason self.old) fields (bit ∷ rest) ≡ stage_from (stages.Known reason self.new) fields rest }
         ensures few { self.new.behind ≤ self.old.behind }
-        ensures last { result < length bits.now → get_or bits.now result false ≡ next_bit self.new → self.new.behind ≡ 0 }
+        ensures last { IsFalse result → bit ≡ next_bit self.old → self.old.behind ≡ 0 }
+        ensures same { IsFalse result → self.new ≡ self.old }
     {
-        let mut count = 0;
-        for bit in bits {
-            if self.behind == 0 || *bit != self.next() {
-                return count;
-            }
-            self.behind -= 1;
-            count += 1;
+        if self.behind == 0 {
+            return false;
         }
-        count
+        if bit != self.next() {
+            return false;
+        }
+        self.behind -= 1;
+        true
     }
 }
 
@@ -226,26 +224,26 @@ impl Stage {
         }
     }
 
-    /// The bits with which these begin inside a number, a mask or bits that are known, as most are: gives how
-    /// many. The last bit of these isn't taken, nor one that differs from the known one, nor one elsewhere.
+    /// Takes a bit inside a number, a mask or bits that are known, as most bits are, and gives whether it did. The last bit
+    /// of these isn't taken, nor one that differs from the known one, nor one elsewhere.
     #[inline(always)]
-    pub(crate) fn take_run(&mut self, bits: &[bool], fields: &mut Fields) -> usize
+    pub(crate) fn take_inside(&mut self, bit: bool, fields: &mut Fields) -> bool
         requires { IsSound self.old fields.old }
-        ensures within { result ≤ length bits.now }
-        ensures reads { (rest : List Bool) → stage_from self.old fields.old (take result bits.now ++ rest) ≡ stage_from self.new fields.new rest }
-        ensures sound { IsSound self.new fields.new }
-        ensures edge { result < length bits.now → IsEdge self.new (get_or bits.now result false) }
+        ensures reads { IsTrue result → (rest : List Bool) → stage_from self.old fields.old (bit ∷ rest) ≡ stage_from self.new fields.new rest }
+        ensures sound { IsTrue result → IsSound self.new fields.new }
+        ensures edge { IsFalse result → IsEdge self.old bit }
+        ensures same { IsFalse result → self.new ≡ self.old }
+        ensures fields { IsFalse result → fields.new ≡ fields.old }
     {
         match self {
-            Stage::Number(_, number) => number.take_run(bits),
-            Stage::Known(_, wanted) => wanted.take_known_run(bits),
-            Stage::Mask(behind) => take_mask_run(behind, bits, fields),
-            Stage::Ebv(front) => front.take_run(bits),
-            Stage::Bit(_) | Stage::Pair(..) | Stage::Triple(..) => 0,
+            Stage::Number(_, number) => number.take_inside(bit),
+            Stage::Known(_, wanted) => wanted.take_known_inside(bit),
+            Stage::Mask(behind) => take_mask_inside(behind, bit, fields),
+            Stage::Ebv(_) | Stage::Bit(_) | Stage::Pair(..) | Stage::Triple(..) => false,
         }
     }
 
-    /// One bit more, of those that `take_run` doesn't take.
+    /// One bit more, of those that `take_inside` doesn't take.
     pub(crate) fn take(self, bit: bool, fields: &mut Fields) -> Next
         requires sound { IsSound self fields.old }
         requires edge { IsEdge self bit }
@@ -434,21 +432,22 @@ fn take_ebv(front: EbvFront, bit: bool, fields: &mut Fields) -> Next
     }
 }
 
-/// The bits of a mask with which these begin, up to its last bit, which isn't taken: gives how many.
-#[inline]
-fn take_mask_run(behind: &mut u32, bits: &[bool], fields: &mut Fields) -> usize
+/// Takes the next bit of a mask, behind which so many come, where it isn't the last one, and gives whether it did.
+#[inline(always)]
+fn take_mask_inside(behind: &mut u32, bit: bool, fields: &mut Fields) -> bool
     requires { length fields.old.mask + behind.old + 1 ≤ 255 }
-    ensures within { result ≤ length bits.now }
-    ensures reads { (rest : List Bool) → stage_from (stages.Mask behind.old) fields.old (take result bits.now ++ rest) ≡ stage_from (stages.Mask behind.new) fields.new rest }
-    ensures sound { length fields.new.mask + behind.new + 1 ≤ 255 }
-    ensures last { result < length bits.now → behind.new ≡ 0 }
+    ensures reads { IsTrue result → (rest : List Bool) → stage_from (stages.Mask behind.old) fields.old (bit ∷ rest) ≡ stage_from (stages.Mask behind.new) fields.new rest }
+    ensures sound { IsTrue result → length fields.new.mask + behind.new + 1 ≤ 255 }
+    ensures last { IsFalse result → behind.old ≡ 0 }
+    ensures same { IsFalse result → behind.new ≡ behind.old }
+    ensures fields { IsFalse result → fields.new ≡ fields.old }
 {
-    let count = bits.len().min(*behind as usize);
-    for bit in &bits[..count] {
-        fields.mask.push_reserved(*bit);
+    if *behind == 0 {
+        return false;
     }
-    *behind -= count as u32;
-    count
+    fields.mask.push_reserved(bit);
+    *behind -= 1;
+    true
 }
 
 /// The last of the bits that are known, or another bit.

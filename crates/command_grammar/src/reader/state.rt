@@ -1,5 +1,5 @@
 //! What was read of a command.
-ghost use Rattle.std.specs.Prelude.{◌≡◌, ◌<◌, ◌≤◌, ◌++◌, ◌∷◌, [], List, Bool, false, Ok, None, length, take, get_or};
+ghost use Rattle.std.specs.Prelude.{◌≡◌, ◌++◌, ◌∷◌, [], List, Bool, IsTrue, IsFalse, Ok, None};
 ghost use Rattle.command_grammar.specs.Commands.{Judges, IsFinishAnswer, SpellsCommand};
 ghost use Rattle.command_grammar.specs.reading.CommandFields.{run};
 ghost use Rattle.command_grammar.specs.reading.CheckNumbers.{Counts, AreServed, check_kept};
@@ -64,41 +64,44 @@ impl State {
         ensures goes { (bits : List Bool) → StateStandsFor self.old bits → Goes result self.new bits bit }
         ensures sound { result ≡ None → IsSoundPosition self.new.position self.new.fields }
     {
-        if self.take_run(&[bit]) == 1 {
+        if self.take_inside(bit) {
             return None;
         }
         self.take_edge(bit)
     }
 
-    /// Takes the bits with which these begin inside a field, as most bits are, and gives how many. The bit behind them
-    /// isn't taken.
+    /// Takes a bit inside a field or the code, as most bits are, and gives whether it did.
     #[inline(always)]
-    pub(crate) fn take_run(&mut self, bits: &[bool]) -> usize
+    fn take_inside(&mut self, bit: bool) -> bool
         requires { IsOpen self.old None }
-        ensures within { result ≤ length bits.now }
-        ensures stands { (front : List Bool) → StateStandsFor self.old front → StateStandsFor self.new (front ++ take result bits.now) }
-        ensures sound { IsSoundPosition self.new.position self.new.fields }
-        ensures edge { result < length bits.now → IsEdgePosition self.new.position (get_or bits.now result false) }
+        ensures stands { IsTrue result → (front : List Bool) → StateStandsFor self.old front → StateStandsFor self.new (front ++ bit ∷ []) }
+        ensures sound { IsTrue result → IsSoundPosition self.new.position self.new.fields }
+        ensures edge { IsFalse result → IsEdgePosition self.old.position bit }
+        ensures same { IsFalse result → self.new ≡ self.old }
     {
         match &mut self.position {
             Position::Within(stage) => {
-                let count = stage.take_run(bits, &mut self.fields);
-                self.check.push_all(&bits[..count]);
-                self.pushed += count as u32;
-                count
+                if !stage.take_inside(bit, &mut self.fields) {
+                    return false;
+                }
+                self.check.push(bit);
+                self.pushed += 1;
+                true
             }
             Position::Code(front) => {
-                let count = front.take_run(bits);
-                self.pushed += count as u32;
-                count
+                if !front.take_inside(bit) {
+                    return false;
+                }
+                self.pushed += 1;
+                true
             }
-            Position::Whole => 0,
+            Position::Whole => false,
         }
     }
 
-    /// Takes one bit more, of those that `take_run` doesn't take, or says why no command goes on with it.
+    /// Takes one bit more, of those that `take_inside` doesn't take, or says why no command goes on with it.
     #[inline(never)]
-    pub(crate) fn take_edge(&mut self, bit: bool) -> Option<Reason>
+    fn take_edge(&mut self, bit: bool) -> Option<Reason>
         requires open { IsOpen self.old None }
         requires edge { IsEdgePosition self.old.position bit }
         ensures goes { (bits : List Bool) → StateStandsFor self.old bits → Goes result self.new bits bit }
@@ -107,7 +110,7 @@ impl State {
         self.pushed += 1;
         match &mut self.position {
             Position::Within(stage) => {
-                self.check.push_all(&[bit]);
+                self.check.push(bit);
                 match stage.take(bit, &mut self.fields) {
                     Next::Stay(next) => *stage = next,
                     Next::Done => self.begin(),

@@ -1,9 +1,10 @@
 use Rattle.std.proofs.Common.{◌≡◌, ◌≢◌, ◌⊎◌, ◌≤◌, ◌<◌, length, sym, ◌∙◌, ap, subst, inl, inr, arith}
-use Rattle.gen2_library.proofs.InRoom.{Call, Leaves, Says, kept, whole, no-room, no-memory, no-count, empty-kept, ends-so, behind, status-is, number-below, number-not-1}
+use Rattle.gen2_library.proofs.InRoom.{Call, Leaves, Says, kept, whole, no-room, no-memory, no-count, empty-kept, ends-so, longer-ends, behind, status-is, number-below, number-not-1}
 use Rattle.gen2_library.proofs.Readable.{readable, read}
 use Rattle.gen2_library.specs.Called.{input_of}
 use Rattle.text_fields.specs.Lines.{fields_of}
 use Rattle.top_call.specs.Form.{AskFor, texts}
+use Rattle.top_call.specs.Job.{Defines}
 use Rattle.top_call.specs.Jobs.{job_of}
 use Rattle.top_call.specs.Outcome.{input_limit, SpeaksOfNoInput}
 use Rattle.top_call.specs.StatusNumber.{status_number}
@@ -98,7 +99,8 @@ returns-clause-bad_words c is =
 pub returns-clause-formless : goal.returns-clause-formless
 returns-clause-formless c none =
     let bad : c.run_over-status.result ≡ BadWords = c.run_over-status.ensures.formless (λ has. none (has.0, subst (λ words. AskFor words has.0) (same-words c) has.1)) in
-    inl (numbered c BadWords (empty-kept (call_of c) (leaves c) (c.run_over-status.ensures.bad_words bad).1 BadWords bad (λ is. cc)))
+    let none-written = (c.run_over-status.ensures.bad_words bad).1 in
+    (inl (numbered c BadWords (empty-kept (call_of c) (leaves c) none-written BadWords bad (λ is. cc))), no-count (call_of c) (leaves c) none-written)
 
 pub returns-clause-unread : goal.returns-clause-unread
 returns-clause-unread c form asks none =
@@ -136,6 +138,12 @@ returns-clause-unread_words c has = absurd (read c.in-Ok.words.items c.args.word
 pub returns-in-Err-Unreadable-clause-complete : goal.returns-in-Err-Unreadable-clause-complete
 returns-in-Err-Unreadable-clause-complete c form asks few allowed = absurd (readable form c.args.words.now asks (c.words_of.ensures.unreadable cc))
 
+pub returns-in-Err-Unreadable-clause-refused : goal.returns-in-Err-Unreadable-clause-refused
+returns-in-Err-Unreadable-clause-refused c form asks few text refused = absurd (readable form c.args.words.now asks (c.words_of.ensures.unreadable cc))
+
+pub returns-in-Err-Unreadable-clause-longer : goal.returns-in-Err-Unreadable-clause-longer
+returns-in-Err-Unreadable-clause-longer c form asks few text defined many = absurd (readable form c.args.words.now asks (c.words_of.ensures.unreadable cc))
+
 pub returns-in-Err-Unreadable-clause-passes_limit : goal.returns-in-Err-Unreadable-clause-passes_limit
 returns-in-Err-Unreadable-clause-passes_limit c form asks reads many = absurd (readable form c.args.words.now asks (c.words_of.ensures.unreadable cc))
 
@@ -163,13 +171,33 @@ returns-clause-complete c form asks few allowed =
     (subst (λ input. length input ≤ input_limit) (sym (same-input c)) few)
     (subst (λ input. (job_of form).allows (input_of (job_of form) input)) (sym (same-input c)) allowed)))
 
+pub returns-clause-refused : goal.returns-clause-refused
+returns-clause-refused c form asks few text refused =
+    answers c BadInput (ends-so (call_of c) (leaves c) BadInput
+    (c.run_over-status.ensures.refused form (asked c form asks)
+    (subst (λ input. length input ≤ input_limit) (sym (same-input c)) few) text
+    (subst (λ input. (job_of form).refuses (input_of (job_of form) input) text) (sym (same-input c)) refused)))
+
+pub returns-clause-longer : goal.returns-clause-longer
+returns-clause-longer c form asks few text defined many =
+    elim (longer-ends (call_of c) (leaves c) text many
+    (c.run_over-status.ensures.whole form (asked c form asks)
+    (subst (λ input. length input ≤ input_limit) (sym (same-input c)) few) text
+    (subst (λ input. Defines (job_of form) (input_of (job_of form) input) text) (sym (same-input c)) defined))) [
+      | inl is ↦ inl (numbered c WriteFault is)
+      | inr is ↦ inr (numbered c OutOfMemory is)
+    ]
+
 pub returns-clause-passes_limit : goal.returns-clause-passes_limit
 returns-clause-passes_limit c form asks reads many =
     let over = c.run_over-status.ensures.passes_limit form (asked c form asks) reads (subst (λ input. input_limit < length input) (sym (same-input c)) many) in
-    elim over.0 [
-      | inl long ↦ inl (numbered c TooLong (empty-kept (call_of c) (leaves c) over.1 TooLong long (λ is. cc)))
-      | inr memory ↦ inr (numbered c OutOfMemory (empty-kept (call_of c) (leaves c) over.1 OutOfMemory memory (λ is. cc)))
-    ]
+    (
+      elim over.0 [
+        | inl long ↦ inl (numbered c TooLong (empty-kept (call_of c) (leaves c) over.1 TooLong long (λ is. cc)))
+        | inr memory ↦ inr (numbered c OutOfMemory (empty-kept (call_of c) (leaves c) over.1 OutOfMemory memory (λ is. cc)))
+      ],
+      no-count (call_of c) (leaves c) over.1,
+    )
 
 pub returns-clause-behind : goal.returns-clause-behind
 returns-clause-behind c = behind (call_of c) (leaves c)

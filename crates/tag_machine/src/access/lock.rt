@@ -7,11 +7,11 @@ ghost use Rattle.reply_grammar.specs.Table.{reply_room};
 use crate::any_tag::{AnyTag, Heard};
 use crate::moves::unanswered;
 use crate::states::Secured;
+use crate::steps::Steps;
 use crate::tag::Tag;
 use bit_strings::{Bits, Payload};
 use lock_rules::Level;
 use std::sync::ledger::Ledger;
-use tag_body::Steps;
 
 impl AnyTag {
     /// Lock, in each state.

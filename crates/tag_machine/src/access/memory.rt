@@ -6,11 +6,11 @@ ghost use Rattle.reply_grammar.specs.Table.{reply_room};
 
 use crate::abilities::WithHandle;
 use crate::any_tag::{AnyTag, Heard};
+use crate::steps::Steps;
 use crate::tag::Tag;
 use bit_strings::{Bits, Count1, Pointer};
 use command_grammar::{Bank, BlockWords};
 use std::sync::ledger::Ledger;
-use tag_body::Steps;
 
 impl AnyTag {
     /// Read, in each state.

@@ -10,11 +10,11 @@ use crate::abilities::WithHandle;
 use crate::any_tag::{AnyTag, Heard};
 use crate::moves::{answer_error, answer_header, go_back};
 use crate::states::{Half, Held, Killed, Password};
+use crate::steps::Steps;
 use crate::tag::Tag;
 use bit_strings::Bits;
 use lock_rules::{ErrorCode, Level};
 use std::sync::ledger::Ledger;
-use tag_body::Steps;
 
 impl TagWithHandle {
     /// Keeps the value as a first half, and answers the handle.

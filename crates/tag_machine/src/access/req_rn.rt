@@ -9,11 +9,12 @@ use crate::abilities::{InTurn, Present};
 use crate::any_tag::{AnyTag, Heard};
 use crate::moves::{answer_handle, go_back, unanswered};
 use crate::states::Held;
+use crate::steps::Steps;
 use crate::tag::Tag;
 use bit_strings::{Bits, QValue, Session};
 use lock_rules::Level;
 use std::sync::ledger::Ledger;
-use tag_body::{Body, Steps};
+use tag_body::Body;
 
 /// Draws a handle and answers it: the tag is in secured where the access password is 0, else in open.
 fn give_handle(mut body: Body, session: Session, q: QValue, out: &mut Bits) -> Heard

@@ -9,11 +9,11 @@ use crate::abilities::{InTurn, Present};
 use crate::any_tag::{Answered, AnyTag, Heard};
 use crate::moves::{go_back, unanswered};
 use crate::states::Acknowledged;
+use crate::steps::Steps;
 use crate::tag::Tag;
 use bit_strings::Bits;
 use reply_grammar::encode_epc;
 use std::sync::ledger::Ledger;
-use tag_body::Steps;
 
 /// Answers an ACK: PC, EPC and CRC-16, with the preamble of the Query's TRext.
 fn answer_epc(tag: AnyTag, out: &mut Bits) -> Heard

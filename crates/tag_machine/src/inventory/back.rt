@@ -6,9 +6,9 @@ use crate::abilities::InTurn;
 use crate::any_tag::AnyTag;
 use crate::moves::back;
 use crate::states::Arbitrate;
+use crate::steps::Steps;
 use crate::tag::Tag;
 use std::sync::ledger::Ledger;
-use tag_body::Steps;
 
 impl<S: InTurn> Tag<S> {
     /// The tag is in arbitrate with slot 0, in its session and with its Q.

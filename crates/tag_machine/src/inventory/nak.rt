@@ -7,10 +7,10 @@ ghost use Rattle.reply_grammar.specs.Table.{reply_room};
 use crate::abilities::InRound;
 use crate::any_tag::{AnyTag, Heard};
 use crate::moves::{go_back, unanswered};
+use crate::steps::Steps;
 use crate::tag::Tag;
 use bit_strings::Bits;
 use std::sync::ledger::Ledger;
-use tag_body::Steps;
 
 impl AnyTag {
     /// NAK, in each state.

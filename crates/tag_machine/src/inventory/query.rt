@@ -8,11 +8,12 @@ use crate::abilities::Present;
 use crate::any_tag::{AnyTag, Heard};
 use crate::moves::{enter, unanswered};
 use crate::states::Ready;
+use crate::steps::Steps;
 use crate::tag::Tag;
 use bit_strings::{Bits, Code, QValue, Session};
 use command_grammar::{Sel, Side};
 use std::sync::ledger::Ledger;
-use tag_body::{Body, Steps};
+use tag_body::Body;
 
 /// What a Query does once the tag's flag was inverted where it had to be: a tag that matches takes the
 /// session and Q and draws its slot, another is ready.

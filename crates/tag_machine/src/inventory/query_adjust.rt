@@ -7,11 +7,12 @@ ghost use Rattle.reply_grammar.specs.Table.{reply_room};
 use crate::abilities::{InRound, Present};
 use crate::any_tag::{AnyTag, Heard};
 use crate::moves::{enter, unanswered};
+use crate::steps::Steps;
 use crate::tag::Tag;
 use bit_strings::{Bits, Session};
 use command_grammar::UpDn;
 use std::sync::ledger::Ledger;
-use tag_body::{Steps, adjusted};
+use tag_body::adjusted;
 
 impl AnyTag {
     /// QueryAdjust, in each state.

@@ -8,10 +8,11 @@ use crate::abilities::{InRound, Present};
 use crate::any_tag::{AnyTag, Heard};
 use crate::moves::{begin_reply, close, go_back, unanswered};
 use crate::states::{Arbitrate, Held};
+use crate::steps::Steps;
 use crate::tag::Tag;
 use bit_strings::{Bits, QValue, Session};
 use std::sync::ledger::Ledger;
-use tag_body::{Body, Slot, Steps};
+use tag_body::{Body, Slot};
 
 /// What a QueryRep of the tag's session does in arbitrate: the counter falls by one, and where it becomes 0
 /// the tag draws an RN16 and answers it.

@@ -8,11 +8,12 @@ use crate::abilities::Present;
 use crate::any_tag::{AnyTag, Heard};
 use crate::moves::{go_back, unanswered};
 use crate::states::Ready;
+use crate::steps::Steps;
 use crate::tag::Tag;
 use bit_strings::{Action, Bits, Pointer};
 use command_grammar::{FlagName, Mask, MaskBank};
 use std::sync::ledger::Ledger;
-use tag_body::{Body, Steps};
+use tag_body::Body;
 
 /// The flag changes by the action, and the tag is ready.
 fn select_ready(

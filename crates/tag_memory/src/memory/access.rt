@@ -170,7 +170,7 @@ impl Memory {
     }
 
     /// Writes words over those of a bank from a place on, whatever the locks say. StoredCRC stays as it is.
-    pub fn put(&mut self, bank: Bank, from: usize, words: &[u16])
+    pub(super) fn put(&mut self, bank: Bank, from: usize, words: &[u16])
         requires inside { from + length words.now ≤ length (bank_of self.old bank) }
         requires length { length_fits (banks_with_words_at self.old bank from words.now) ≡ true }
         ensures value { self.new ≡ banks_with_words_at self.old bank from words.now }

@@ -3,9 +3,11 @@
 use Rattle.std.specs.Prelude.{◌≡◌, ◌⊎◌, ℕ, true, List}
 use Rattle.air_audit.specs.FirstRefusal.{IsVerdict}
 use Rattle.air_audit.specs.OwnTraces.{HasNoEventStep}
+use Rattle.air_audit.specs.ReceivedLists.{ListsWhatIsReceived}
 use Rattle.air_audit.specs.TraceBehind.{scenario_part, trace_part}
 use Rattle.air_audit.specs.VerdictText.{event_line, verdict_line}
 use Rattle.air_audit.specs.declared.verdict.Verdict.{Verdict}
+use Rattle.air_audit.specs.declared.verdict.Verdict.TheVariants.{Yes}
 use Rattle.runs.specs.ScenarioStart.{start_of}
 use Rattle.scenario.specs.Limits.{IsScenario}
 use Rattle.scenario.specs.ScenarioText.{IsText, scenario_text}
@@ -32,6 +34,12 @@ pub record Audits (bytes text : List ℕ) : Type 0 where
   pub spelled : scenario_part bytes ≡ scenario_text scenario
   pub says : SaysEvent scenario text ⊎ SaysVerdict scenario (trace_part bytes) text
 
+-- where the answer is yes, each list line of the trace says the PC and the EPC that are received of the levels before it
+abbrev pub SaysReceived : List ℕ → List ℕ → Type 0
+SaysReceived bytes text =
+    (scenario : Scenario) → IsScenario scenario → scenario_part bytes ≡ scenario_text scenario → text ≡ verdict_line Yes
+    → ListsWhatIsReceived scenario.link (trace_part bytes)
+
 -- whether the trace behind a scenario is one of it
 abbrev pub audit_job : Job
 audit_job = record {
@@ -39,5 +47,5 @@ audit_job = record {
   allows = λ bytes. IsText (scenario_part bytes);
   writes = Audits;
   refuses = λ bytes text. RefusesScenario (scenario_part bytes) text;
-  promises = λ bytes text. Unit {0};
+  promises = SaysReceived;
 }

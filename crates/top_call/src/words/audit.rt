@@ -1,24 +1,25 @@
 //! The word `audit`: whether a trace is what the tags of a scenario and its channel make of the commands in it.
-ghost use Rattle.std.specs.Prelude.{◌≡◌, ◌≤◌, ◌⊎◌, IfOk, length};
+ghost use Rattle.std.specs.Prelude.{◌≡◌, ◌≤◌, ◌⊎◌, ℕ, List, IfOk, length};
 ghost use Rattle.scenario.specs.Limits.{IsScenario};
-ghost use Rattle.top_call.specs.Job.{IsLawful};
+ghost use Rattle.top_call.specs.Job.{Defines, IsLawful};
 ghost use Rattle.top_call.specs.Outcome.{EndsSo, Tells, input_limit, source_change, sink_change};
 ghost use Rattle.top_call.specs.words.Audited.{SaysEvent, SaysVerdict, audit_job};
 
 use crate::ending::{MOST_INPUT_BYTES, WriteEnd, Wrote, status_of, unread_status};
 use crate::status::Status;
 use air_audit::{
-    audit, event_text, has_event_step, split_scenario, traces_have_at_most_one_verdict,
-    verdict_text,
+    audit, event_text, has_event_step, list_lines_are_received, split_scenario,
+    traces_have_a_verdict, traces_have_at_most_one_verdict, verdict_text,
 };
 use air_io::{Sink, Source, read_to_end, write_all};
 use air_world::tags_at_start;
 use arrayvec::ArrayVec;
 use bit_strings::OutOfMemory;
+use runs::histories_keep_tags_legal;
 use scenario::Scenario;
 use scenario_text::{
     ScenarioFault, fault_text, read_scenario, scenario_texts_are_not_faulty,
-    scenarios_are_told_apart, texts_have_one_fault,
+    scenarios_are_told_apart, texts_are_scenarios_or_faulty, texts_have_one_fault,
 };
 use std::alloc::Global;
 
@@ -80,12 +81,24 @@ fn audited_line(
     Ok(verdict_text(verdict))
 }
 
-/// An input has one verdict or one fault line at most, and never both.
+/// An input has one verdict or one fault line at most, and never both; and the list lines of a trace that is audited are what is
+/// received.
 pub fn audit_is_lawful()
     ensures { IsLawful audit_job }
 {
+    list_lines_are_received();
+    histories_keep_tags_legal();
     scenarios_are_told_apart();
     texts_have_one_fault();
     scenario_texts_are_not_faulty();
     traces_have_at_most_one_verdict();
+}
+
+/// Each list of bytes has a defined text: the verdict on the trace behind the scenario that it begins with, or that scenario's fault
+/// line.
+pub fn audit_inputs_have_a_text()
+    ensures { (bytes : List ℕ) → (text : List ℕ) × Defines audit_job bytes text }
+{
+    texts_are_scenarios_or_faulty();
+    traces_have_a_verdict();
 }

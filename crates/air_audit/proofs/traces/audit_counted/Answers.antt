@@ -1,5 +1,11 @@
-use Rattle.std.proofs.Common.{◌∙◌, length, map, sym, subst}
+use Rattle.std.proofs.Common.{◌≡◌, ◌∙◌, length, map, sym, subst}
 use Rattle.std.proofs.lemmas.List.{length-map}
+use Rattle.std.proofs.lemmas.Result.{IfOk-weaker}
+use Rattle.tag_machine.specs.Exchange.{AreLegalTags}
+use Rattle.air_audit.specs.FirstRefusal.{IsVerdict}
+use Rattle.air_audit.specs.ReceivedLists.{ListsWhatIsReceived}
+use Rattle.air_audit.specs.declared.verdict.Verdict.{Verdict}
+use Rattle.air_audit.specs.declared.verdict.Verdict.TheVariants.{Yes}
 use Rattle.air_model.specs.Past.{Start}
 use Rattle.tag_machine.specs.Hearing.{tag_value_of}
 use Rattle.air_audit.specs.Auditing.{AreAsGiven}
@@ -21,8 +27,12 @@ returns g c =
     let start : Start = record { link = c.args.link; tags = map tag_value_of c.args.tags.items; entries = c.args.entries; several = c.args.several } in
     let given : AreAsGiven (length start.tags) start.entries =
     subst (λ count. AreAsGiven count start.entries) (c.args.tags.ok.0 ∙ sym (length-map c.args.tags.items tag_value_of)) c.requires.given in
+    let exact = c.walk.ensures start
+    (begun-stands start c.in_ok-auditor.auditor c.in_ok-population.population c.new-cursor.result c.in_ok-auditor.ensures c.in_ok-population.ensures
+    (c.new-cursor.ensures.all ∙ c.as_slice.ensures.value) given c.len.ensures.legal) in
+    let legal : AreLegalTags start.tags = subst AreLegalTags c.in_ok-population.ensures c.len.ensures.legal in
     record {
-      exact = c.walk.ensures start
-          (begun-stands start c.in_ok-auditor.auditor c.in_ok-population.population c.new-cursor.result c.in_ok-auditor.ensures c.in_ok-population.ensures
-          (c.new-cursor.ensures.all ∙ c.as_slice.ensures.value) given c.len.ensures.legal);
+      exact = exact;
+      listed = IfOk-weaker c.walk.result (IsVerdict start c.args.trace.now) (λ (verdict : Verdict). verdict ≡ Yes → ListsWhatIsReceived start.link c.args.trace.now)
+          (λ verdict is yes. c.list_lines_are_received.ensures start c.args.trace.now legal (subst (IsVerdict start c.args.trace.now) yes is)) exact;
     }

@@ -16,9 +16,9 @@ use Rattle.air_world.proofs.hall.hear_round.Goals.{After-play_round}
 use Rattle.air_world.proofs.hall.hear_round.Goals as goal
 
 -- the run begins
-begins : (g : Over) (c : After-play_round g) → IsAt (start_on c.args.air.now) [] c.args.air.now c.args.run.now
+begins : (g : Over) (c : After-play_round g) → IsAt (start_on c.args.air.now) c.args.air.now.exchanges [] c.args.air.now c.args.run.now
 begins g c = hall-begins c.args.air.now c.args.run.now
-    (record { run_is = c.requires.run; several = c.requires.several; legal = c.requires.legal; fresh = c.requires.fresh })
+    (record { run_is = c.requires.run; several = c.requires.several; legal = c.requires.legal; few = omega (arith, c.exchanges.ensures) })
 
 -- what the laws that the body calls say of this round
 laws-of : (g : Over) (c : After-play_round g) → HallRound (start_on c.args.air.now) c.args.spec.now
@@ -39,9 +39,10 @@ over g c end is = hall-over (start_on c.args.air.now) c.args.spec.now end (laws-
 pub play_round-requires-clause-between : goal.play_round-requires-clause-between
 play_round-requires-clause-between g c = record {
   start = start_on c.args.air.now;
+  earlier = c.args.air.now.exchanges;
   past = [];
   at = hall-begins c.args.air.now c.args.run.now
-      (record { run_is = c.requires.run; several = c.requires.several; legal = c.requires.legal; fresh = c.requires.fresh });
+      (record { run_is = c.requires.run; several = c.requires.several; legal = c.requires.legal; few = omega (arith, c.exchanges.ensures) });
   room = omega arith;
   rounds = omega arith;
 }
@@ -51,7 +52,7 @@ play_round-requires-clause-few g c = omega (arith, ap (λ (list : OpList). lengt
 
 pub unreachable-requires : goal.unreachable-requires
 unreachable-requires g c =
-    let cut = c.in-Err.ensures.ends (start_on c.args.air.now) [] (begins g (goal.at.unreachable-requires g c).After-play_round) in
+    let cut = c.in-Err.ensures.ends (start_on c.args.air.now) c.args.air.now.exchanges [] (begins g (goal.at.unreachable-requires g c).After-play_round) in
     let met = cut.cause in cc
 
 pub returns-clause-pairs : goal.returns-clause-pairs
@@ -59,8 +60,8 @@ returns-clause-pairs g c =
     let start = start_on c.args.air.now in
     let spec = c.args.spec.now in
     let at = begins g (goal.at.returns-clause-pairs g c).After-play_round in
-    let behind = over g (goal.at.returns-clause-pairs g c).After-play_round c.in-Ok.end (c.in-Ok.ensures.end start [] at) in
-    let kept = pairs-kept start.link (c.in-Ok.ensures.ends start [] at).told in
+    let behind = over g (goal.at.returns-clause-pairs g c).After-play_round c.in-Ok.end (c.in-Ok.ensures.end start c.args.air.now.exchanges [] at) in
+    let kept = pairs-kept start.link (c.in-Ok.ensures.ends start c.args.air.now.exchanges [] at).told in
     let pairs : pairs_told (lines_behind start (past_behind_round start c.args.operations.now spec [])) ≡ (played_of c.args.air.now.tags spec).pairs =
     pairs-behind start (past_behind_round start c.args.operations.now spec [])
     ∙ ap (λ (list : OpList). pairs_in (past_behind_round start list spec [])) c.requires.operations ∙ behind.pairs in
@@ -71,16 +72,16 @@ returns-clause-pairs g c =
 pub returns-clause-end : goal.returns-clause-end
 returns-clause-end g c =
     let before = (goal.at.returns-clause-end g c).After-play_round in
-    (over g before c.in-Ok.end (c.in-Ok.ensures.end (start_on c.args.air.now) [] (begins g before))).end_is
+    (over g before c.in-Ok.end (c.in-Ok.ensures.end (start_on c.args.air.now) c.args.air.now.exchanges [] (begins g before))).end_is
 
 pub returns-clause-tags : goal.returns-clause-tags
 returns-clause-tags g c =
     let start = start_on c.args.air.now in
     let before = (goal.at.returns-clause-tags g c).After-play_round in
     let at = begins g before in
-    (c.in-Ok.ensures.ends start [] at).at.tags
+    (c.in-Ok.ensures.ends start c.args.air.now.exchanges [] at).at.tags
     ∙ ap (λ (list : OpList). tags_behind start (past_behind_round start list c.args.spec.now [])) c.requires.operations
-    ∙ (over g before c.in-Ok.end (c.in-Ok.ensures.end start [] at)).tags
+    ∙ (over g before c.in-Ok.end (c.in-Ok.ensures.end start c.args.air.now.exchanges [] at)).tags
 
 pub returns-clause-several : goal.returns-clause-several
-returns-clause-several g c = (c.in-Ok.ensures.ends (start_on c.args.air.now) [] (begins g (goal.at.returns-clause-several g c).After-play_round)).at.several
+returns-clause-several g c = (c.in-Ok.ensures.ends (start_on c.args.air.now) c.args.air.now.exchanges [] (begins g (goal.at.returns-clause-several g c).After-play_round)).at.several

@@ -28,8 +28,8 @@ pub returns : goal.returns
 returns g c =
     let scenario = c.args.scenario.now in
     let stands = c.in_ok-tell_steps.ensures.ends in
-    ends-played (listening g.R.Listener.hears g.R.Listener.failed c.args.report.now c.finish.new.report) c.check.result scenario _ _
+    ends-played (listening g.R.Listener.hears g.R.Listener.failed c.args.report.now c.finish.new.report) c.check.result scenario _ _ c.round_laws.ensures.limit c.requires.scenario
     (whole-told (listening g.R.Listener.hears g.R.Listener.failed c.tell_steps.new.report c.finish.new.report) c.args.report.now scenario c.tell_steps.new.air _ _
     (stands, c.in_ok-tell_steps.ensures.seen) c.finish.ensures.told)
-    (at-kept (start_of scenario) _ _ _ _ c.finish.ensures.air stands.at)
+    (at-kept (start_of scenario) _ _ _ _ _ c.finish.ensures.air stands.at)
     (c.check.ensures.faultless, c.check.ensures.cause)

@@ -1,4 +1,4 @@
-use Rattle.std.proofs.Common.{[], sym, ◌∙◌, ap}
+use Rattle.std.proofs.Common.{sym, ◌∙◌, ap}
 use Rattle.air_world.proofs.Beginning.{given-back}
 use Rattle.air_world.proofs.Listings.{memory-enough, pairs-behind}
 use Rattle.air_world.proofs.Passing.{listening}

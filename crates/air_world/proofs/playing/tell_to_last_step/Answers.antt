@@ -23,7 +23,7 @@ returns-in_err-play_steps-clause-ends g c =
     let start = start_of c.args.scenario.now in
     let first = passes-same g.R.Listener.hears [] (first_lines c.args.air.now.link) (lines_behind start []) _ _ (ap (λ (a : AirValue). first_lines a.link) c.requires.fresh) (c.tell_link.ensures []) in
     let cut = cut-then (listening g.R.Listener.hears g.R.Listener.failed c.tell_link.new.report c.play_steps.new.report) c.args.report.now [] (lines_behind start []) _ _ first
-    (c.in_err-play_steps.ensures start [] c.requires.at) in
+    (c.in_err-play_steps.ensures start 0 [] c.requires.at) in
     ends-cut c.from_residual.result _ _ _ c.from_residual.ensures.1
     (cut-slice (listening g.R.Listener.hears g.R.Listener.failed c.args.report.now c.play_steps.new.report) c.args.scenario.now _ _ c.as_slice.ensures.value cut)
 
@@ -33,7 +33,7 @@ returns-clause-ends g c =
     let start = start_of scenario in
     let first = passes-same g.R.Listener.hears [] (first_lines c.args.air.now.link) (lines_behind start []) _ _ (ap (λ (a : AirValue). first_lines a.link) c.requires.fresh) (c.tell_link.ensures []) in
     let stands = stands-slice _ scenario _ _ _ c.as_slice.ensures.value
-    (stands-then (listening g.R.Listener.hears g.R.Listener.failed c.tell_link.new.report c.play_steps.new.report) c.args.report.now [] (lines_behind start []) (record { start = start; past = _; air = _; run = _ }) first
-    (c.in_ok-play_steps.ensures start [] c.requires.at)) in
-    ends-checked (listening g.R.Listener.hears g.R.Listener.failed c.args.report.now c.play_steps.new.report) [] c.check.result (record { start = start; past = history scenario; air = _; run = _ })
+    (stands-then (listening g.R.Listener.hears g.R.Listener.failed c.tell_link.new.report c.play_steps.new.report) c.args.report.now [] (lines_behind start []) (record { start = start; earlier = 0; past = _; air = _; run = _ }) first
+    (c.in_ok-play_steps.ensures start 0 [] c.requires.at)) in
+    ends-checked (listening g.R.Listener.hears g.R.Listener.failed c.args.report.now c.play_steps.new.report) [] c.check.result (record { start = start; earlier = 0; past = history scenario; air = _; run = _ })
     stands c.check.ensures.cause

@@ -1,5 +1,5 @@
 use Rattle.std.proofs.Common.{◌≡◌, ◌⊎◌, ◌≤◌, ◌<◌, ℕ, List, Some, length, inl, inr, ap, arith, subst, sym}
-use Rattle.gen2_library.proofs.Over.{whole, front, too-long, not-taken, none-rose, completes}
+use Rattle.gen2_library.proofs.Over.{whole, front, too-long, not-taken, none-rose, completes, refuses, wrote-whole}
 use Rattle.top_call.specs.Outcome.{input_limit}
 use Rattle.top_call.specs.Jobs.{job_of}
 use Rattle.top_call.specs.words.Generated.{CountsEveryTag, gen_job}
@@ -49,6 +49,26 @@ returns-clause-complete c form asks few allowed =
     (λ many. let long = too-long _ _ _ c.new-source.ensures (c.gen2run.ensures.too_long many).0 in omega (arith, few, long))
     (λ bad. c.grammatical_inputs_are_not_refused.ensures form _ _ allowed
     (whole (job_of form) (job_of form).refuses _ _ _ _ _ (record { told_is = c.new-source.ensures; unwritten = c.requires }) (c.gen2run.ensures.bad_input form asks bad)))
+
+pub returns-clause-refused : goal.returns-clause-refused
+returns-clause-refused c form asks few text refused =
+    refuses c.gen2run.result
+    (λ words. c.gen2run.ensures.bad_words.0 words (form, asks))
+    (λ failed. none-rose (c.gen2run.ensures.read_fault failed).0)
+    (λ many. let long = too-long _ _ _ c.new-source.ensures (c.gen2run.ensures.too_long many).0 in omega (arith, few, long))
+    (λ done. c.inputs_have_one_text.ensures.apart form _ _ text
+    (whole (job_of form) (job_of form).writes _ _ _ _ _ (record { told_is = c.new-source.ensures; unwritten = c.requires }) (c.gen2run.ensures.done form asks done)) refused)
+
+pub returns-clause-whole : goal.returns-clause-whole
+returns-clause-whole c form asks few text defined =
+    wrote-whole c.gen2run.new.output.written text c.gen2run.result
+    (λ words. c.gen2run.ensures.bad_words.0 words (form, asks))
+    (λ failed. none-rose (c.gen2run.ensures.read_fault failed).0)
+    (λ many. let long = too-long _ _ _ c.new-source.ensures (c.gen2run.ensures.too_long many).0 in omega (arith, few, long))
+    (λ done. c.inputs_have_one_text.ensures.one form _ _ text
+    (inl (whole (job_of form) (job_of form).writes _ _ _ _ _ (record { told_is = c.new-source.ensures; unwritten = c.requires }) (c.gen2run.ensures.done form asks done))) defined)
+    (λ bad. c.inputs_have_one_text.ensures.one form _ _ text
+    (inr (whole (job_of form) (job_of form).refuses _ _ _ _ _ (record { told_is = c.new-source.ensures; unwritten = c.requires }) (c.gen2run.ensures.bad_input form asks bad))) defined)
 
 pub returns-clause-unread : goal.returns-clause-unread
 returns-clause-unread c form asks none = (c.gen2run.ensures.unread form asks none).1

@@ -1,12 +1,12 @@
 -- The levels in the data: whole blocks, then what is left, level by level.
-use Rattle.std.proofs.Common.{◌≡◌, ◌∙◌, ◌+◌, ◌*◌, ◌-◌, ◌++◌, ℕ, [], ◌∷◌, ◌≤◌, List, Bool, length, mul-le-mul_right, take, drop, arith, ap, refl, sym, subst}
+use Rattle.std.proofs.Common.{◌≡◌, ◌∙◌, ◌+◌, ◌*◌, ◌-◌, ◌++◌, ℕ, [], ◌≤◌, List, Bool, length, mul-le-mul_right, take, drop, arith, ap, refl, sym, subst}
 use Rattle.std.proofs.lemmas.Result.{err_from_is_err_and}
 use Rattle.std.proofs.lemmas.List.{length-take-le, length-drop, take_all, append-nil, drop-drop}
 use Rattle.line_code.specs.States.{Reads, HasBlocks, context_after}
 use Rattle.line_code.specs.Stream.{Streams, stream_of, blocks}
 use Rattle.line_code.specs.Table.{Context, Table}
 use Rattle.line_code.specs.laws.Reading.{has_more}
-use Rattle.line_code.proofs.Writing.{capacity_of, one_block}
+use Rattle.line_code.proofs.Writing.{capacity_of}
 use Rattle.line_code.proofs.Steps.{one_more, block_more}
 use Rattle.bit_strings.specs.laws.Family.{bad-in_front}
 use Rattle.bit_strings.specs.BitString.{BitString}
@@ -66,8 +66,8 @@ pub loop-sixteen-init : goal.loop-sixteen-init
 loop-sixteen-init g c =
     let t = g.C.LineCode.table in
     let levels = c.args.levels.now in
-    let found = c.in_ok-at.ensures.found in
-    let at = c.in_ok-at.at in
+    let found = c.in_ok-lead.ensures.found in
+    let at = c.in_ok-lead.lead in
     let read : HasRead t c.args.trext levels at (g.C.LineCode.context_of c.after_lead-mark.result) c.args.out.now c.args.out.now = record {
       within = found.0;
       has = rw c.requires.empty (record { levels_are = found.1 ∙ sym (append-nil (t.lead c.args.trext)); context_is = c.after_lead-mark.ensures });
@@ -100,71 +100,21 @@ loop-sixteen-preserved g c =
     let further : drop count rest ≡ drop (at + count) levels = ap (drop count) loop.are ∙ drop-drop count at levels ∙ ap (λ (n : ℕ). drop n levels) (omega arith) in
     rw (c.CHIPS.ensures, some.3) (begins_at t c.args.trext levels _ _ c.args.out.now _ (at + count) read (behind rest count ∙ further))
 
-pub put_bits-requires-in-Some-next_four : goal.put_bits-requires-in-Some-next_four
-put_bits-requires-in-Some-next_four g c =
-    let code : CodeTable = record { table = g.C.LineCode.table; chips = g.C.LineCode.CHIPS; even = g.met.C.LineCode.even; tells = g.met.C.LineCode.tells_bits } in
-    let some = c.in-Some-next_four.ensures in
-    let within = c.loop-four.invariant.within in
-    has_room code c.args.trext c.args.levels.now _ c.loop-sixteen.out c.loop-four.out c.loop-four.at 4 _ c.loop-four.invariant
-    (omega (arith, some.1, length-drop c.loop-four.at c.args.levels.now)) (omega (arith, c.requires.room, c.loop-sixteen.invariant.read.same)) some.0
-
-pub loop-four-preserved : goal.loop-four-preserved
-loop-four-preserved g c =
-    let t = g.C.LineCode.table in
-    let levels = c.args.levels.now in
-    let at = c.loop-four.at in
-    let some = c.in-Some-next_four.ensures in
-    let within = c.loop-four.invariant.within in
-    let count = 4 * g.C.LineCode.CHIPS in
-    let next : BlocksAt t (g.C.LineCode.context_of c.loop-four.mark) levels at =
-    record { count = count; more = c.in-Some-next_four.four.0; levels_are = ap (take count) (sym (behind levels at)) ∙ some.2 } in
-    rw (c.CHIPS-in-Some-next_four.ensures, some.3) (taken t c.args.trext levels _ c.loop-sixteen.out c.loop-four.out _ at next c.loop-four.invariant (omega (arith, some.1, length-drop at levels)) c.put_bits-in-Some-next_four.ensures)
-
-pub push_reserved-requires : goal.push_reserved-requires
-push_reserved-requires g c =
-    let front = take c.loop-bit.at c.args.levels.now in
-    let put = has_within g.C.LineCode.table g.C.LineCode.CHIPS g.met.C.LineCode.even c.args.trext _ front c.loop-bit.out.items c.loop-bit.invariant.has in
-    let within = c.loop-bit.invariant.within in
-    let least = g.met.C.LineCode.even.least in
-    let some = c.in-Some-next_bit.ensures in
-    let same = c.loop-bit.invariant.same in
-    let before = c.loop-four.invariant.same in
-    let room = c.requires.room in
-    let size = length-take-le c.loop-bit.at c.args.levels.now within in
-    omega (arith, some.0, length-drop c.loop-bit.at c.args.levels.now)
-
-pub loop-bit-preserved : goal.loop-bit-preserved
-loop-bit-preserved g c =
-    let t = g.C.LineCode.table in
-    let levels = c.args.levels.now in
-    let at = c.loop-bit.at in
-    let some = c.in-Some-next_bit.ensures in
-    let context = g.C.LineCode.context_of c.loop-bit.mark in
-    let count = g.C.LineCode.CHIPS in
-    let bit = c.in-Some-next_bit.bit in
-    let next : BlocksAt t context levels at =
-    record { count = count; more = bit ∷ []; levels_are = ap (take count) (sym (behind levels at)) ∙ one_block t context bit _ some.1 } in
-    let put = c.push_reserved.ensures in
-    record {
-      within = let whole = some.0 in let within = c.loop-bit.invariant.within in omega (arith, c.CHIPS-in-Some-next_bit.ensures, length-drop at levels);
-      has =
-          rw (c.CHIPS-in-Some-next_bit.ensures, c.after-mark.ensures, put)
-          (goes_on t c.args.trext context levels c.loop-bit.out.items at c.loop-bit.invariant.has next);
-      same = capacity_of c.push_reserved.new.self c.loop-bit.out _ put ∙ c.loop-bit.invariant.same;
-    }
-
 pub between_blocks-inside-requires : goal.between_blocks-inside-requires
 between_blocks-inside-requires g c =
-    let front = take c.loop-bit.at c.args.levels.now in
-    let put = has_within g.C.LineCode.table g.C.LineCode.CHIPS g.met.C.LineCode.even c.args.trext _ front c.loop-bit.out.items c.loop-bit.invariant.has in
-    let size = length-take-le c.loop-bit.at c.args.levels.now c.loop-bit.invariant.within in
+    let read = c.loop-sixteen.invariant.read in
+    let at = length c.args.levels.now - length c.loop-sixteen.behind.now in
+    let put = has_within g.C.LineCode.table g.C.LineCode.CHIPS g.met.C.LineCode.even c.args.trext _ (take at c.args.levels.now) c.loop-sixteen.out.items read.has in
+    let size = length-take-le at c.args.levels.now read.within in
     omega arith
 
 pub loop-place-init : goal.loop-place-init
 loop-place-init g c =
-    let size = length-take-le c.loop-bit.at c.args.levels.now c.loop-bit.invariant.within in
+    let read = c.loop-sixteen.invariant.read in
+    let at = length c.args.levels.now - length c.loop-sixteen.behind.now in
+    let size = length-take-le at c.args.levels.now read.within in
     record {
-      reads = c.between_blocks-inside.ensures c.args.trext (take c.loop-bit.at c.args.levels.now) (sym size) c.loop-bit.invariant.has;
+      reads = c.between_blocks-inside.ensures c.args.trext (take at c.args.levels.now) (sym size) read.has;
       same = refl;
     }
 
@@ -174,7 +124,7 @@ push-requires-clause-room g c =
     let put = bits_within g.C.LineCode.table g.C.LineCode.CHIPS g.met.C.LineCode.even c.args.trext c.loop-place.inside front c.loop-place.out.items c.loop-place.invariant.reads in
     let test = c.loop-place-test.true in
     let same = c.loop-place.invariant.same in
-    let before = c.loop-bit.invariant.same in
+    let before = c.loop-sixteen.invariant.read.same in
     let room = c.requires.room in
     let size = length-take-le c.loop-place.place c.args.levels.now (omega arith) in
     omega arith

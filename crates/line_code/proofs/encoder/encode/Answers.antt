@@ -11,19 +11,19 @@ use Rattle.bit_strings.specs.laws.Numbers.{field_of-value_of}
 use Rattle.line_code.proofs.Writing.{capacity_of, one_block, written_size, writes_more}
 use Rattle.line_code.proofs.encoder.encode.Goals as goal
 
--- the next 16 bits
-record NextSixteen (bits items : List Bool) (n : ℕ) : Type 0 where
-  enough : n + 16 ≤ length bits
-  size : length items ≡ 16
-  items_are : items ≡ take 16 (drop n bits)
+-- the next four bits
+record NextFour (bits items : List Bool) (n : ℕ) : Type 0 where
+  enough : n + 4 ≤ length bits
+  size : length items ≡ 4
+  items_are : items ≡ take 4 (drop n bits)
 
-next_sixteen : (bits items : List Bool) (n : ℕ) → 16 ≤ length (take (length bits - n) (drop n bits)) → items ≡ take 16 (take (length bits - n) (drop n bits))
-    → NextSixteen bits items n
-next_sixteen bits items n enough same =
+next_four : (bits items : List Bool) (n : ℕ) → 4 ≤ length (take (length bits - n) (drop n bits)) → items ≡ take 4 (take (length bits - n) (drop n bits))
+    → NextFour bits items n
+next_four bits items n enough same =
     let rest = take_rest bits n in
-    let items_are = same ∙ ap (take 16) rest in
-    let sixteen : 16 ≤ length (drop n bits) = omega (arith, enough, ap length rest) in
-    record { enough = omega (arith, sixteen, length-drop n bits); size = ap length items_are ∙ length-take-le 16 (drop n bits) sixteen; items_are = items_are }
+    let items_are = same ∙ ap (take 4) rest in
+    let four : 4 ≤ length (drop n bits) = omega (arith, enough, ap length rest) in
+    record { enough = omega (arith, four, length-drop n bits); size = ap length items_are ∙ length-take-le 4 (drop n bits) four; items_are = items_are }
 
 -- the next bit
 next_one : (bits : List Bool) (n : ℕ) → n + 1 ≤ length bits → take 1 (drop n bits) ≡ get_or bits n false ∷ []
@@ -33,34 +33,34 @@ next_one bits n within = ap (take 1) (drop_more bits n false (omega (arith, with
 room_for : (chips n count bits : ℕ) → n + count ≤ bits → chips * n + chips * count ≤ chips * (bits + 1)
 room_for chips n count bits within = omega (arith, mul-le-mul_left chips within, mul-add chips bits 1, mul-add chips n count)
 
--- the word that 16 bits are has these bits
-bits_of_word : (word : ℕ) (items : List Bool) → word ≡ value_of items → length items ≡ 16 → field_of word 16 ≡ items
-bits_of_word word items is size = ap (λ n. field_of n 16) is ∙ ap (field_of (value_of items)) (sym size) ∙ field_of-value_of items
+-- the number that four bits are has these bits
+bits_of_number : (number : ℕ) (items : List Bool) → number ≡ value_of items → length items ≡ 4 → field_of number 4 ≡ items
+bits_of_number number items is size = ap (λ n. field_of n 4) is ∙ ap (field_of (value_of items)) (sym size) ∙ field_of-value_of items
 
-pub put_word-mark-requires : goal.put_word-mark-requires
-put_word-mark-requires g c =
+pub put_four-mark-requires : goal.put_four-mark-requires
+put_four-mark-requires g c =
     let code : CodeTable = record { table = g.C.LineCode.table; chips = g.C.LineCode.CHIPS; even = g.met.C.LineCode.even; tells = g.met.C.LineCode.tells_bits } in
     let bits = c.as_slice-bits.result.now in
-    let n = c.loop-sixteen.next in
-    let is = c.loop-sixteen.invariant in
-    let next = next_sixteen bits c.in-Some.sixteen.now n c.in-Some.ensures.cases.enough c.in-Some.ensures.cases.same in
-    let size = written_size code c.args.trext bits n _ _ c.loop-sixteen.out is in
+    let n = c.loop-four.next in
+    let is = c.loop-four.invariant in
+    let next = next_four bits c.in-Some.four.now n c.in-Some.ensures.cases.enough c.in-Some.ensures.cases.same in
+    let size = written_size code c.args.trext bits n _ _ c.loop-four.out is in
     let same = capacity_of c.put_all_reserved.new.self c.clear.new.self _ c.put_all_reserved.ensures ∙ capacity_of c.clear.new.self c.args.out.now _ c.clear.ensures in
     let all = ap (λ (bs : List Bool). code.chips * (length bs + 1)) c.as_slice-bits.ensures.value in
-    omega (arith, size, is.same, same, all, room_for code.chips n 16 (length bits) next.enough, c.requires)
+    omega (arith, size, is.same, same, all, room_for code.chips n 4 (length bits) next.enough, c.requires)
 
-pub loop-sixteen-preserved : goal.loop-sixteen-preserved
-loop-sixteen-preserved g c =
+pub loop-four-preserved : goal.loop-four-preserved
+loop-four-preserved g c =
     let t = g.C.LineCode.table in
     let bits = c.as_slice-bits.result.now in
-    let n = c.loop-sixteen.next in
-    let out = c.loop-sixteen.out in
-    let context = g.C.LineCode.context_of c.loop-sixteen.mark in
-    let chunk = next_sixteen bits c.in-Some.sixteen.now n c.in-Some.ensures.cases.enough c.in-Some.ensures.cases.same in
-    let more = bits_of_word c.word_of.result c.in-Some.sixteen.now c.word_of.ensures chunk.size ∙ chunk.items_are in
-    let put = c.put_word-mark.ensures.levels ∙ ap (λ (bs : List Bool). record out { items = out.items ++ blocks t context bs }) more in
-    let mark = c.put_word-mark.ensures.mark ∙ ap (context_after t context) more in
-    rw mark (writes_more t c.args.trext bits n 16 context _ out c.put_word-mark.new.out c.loop-sixteen.invariant chunk.enough put)
+    let n = c.loop-four.next in
+    let out = c.loop-four.out in
+    let context = g.C.LineCode.context_of c.loop-four.mark in
+    let chunk = next_four bits c.in-Some.four.now n c.in-Some.ensures.cases.enough c.in-Some.ensures.cases.same in
+    let more = bits_of_number c.number_of.result c.in-Some.four.now c.number_of.ensures chunk.size ∙ chunk.items_are in
+    let put = c.put_four-mark.ensures.levels ∙ ap (λ (bs : List Bool). record out { items = out.items ++ blocks t context bs }) more in
+    let mark = c.put_four-mark.ensures.mark ∙ ap (context_after t context) more in
+    rw mark (writes_more t c.args.trext bits n 4 context _ out c.put_four-mark.new.out c.loop-four.invariant chunk.enough put)
 
 -- a block has room
 pub put_all_reserved-requires-in-loop-next : goal.put_all_reserved-requires-in-loop-next
@@ -73,7 +73,7 @@ put_all_reserved-requires-in-loop-next g c =
     let block = ap length c.block.ensures ∙ code.even.blocks_even (g.C.LineCode.context_of c.loop-next.mark) _ in
     let same = capacity_of c.put_all_reserved.new.self c.clear.new.self _ c.put_all_reserved.ensures ∙ capacity_of c.clear.new.self c.args.out.now _ c.clear.ensures in
     let all = ap (λ (bs : List Bool). code.chips * (length bs + 1)) c.as_slice-bits.ensures.value in
-    omega (arith, size, block, is.same, c.loop-sixteen.invariant.same, same, all, room_for code.chips n 1 (length bits) (omega (arith, c.loop-next-test.true)), c.requires)
+    omega (arith, size, block, is.same, c.loop-four.invariant.same, same, all, room_for code.chips n 1 (length bits) (omega (arith, c.loop-next-test.true)), c.requires)
 
 pub loop-next-preserved : goal.loop-next-preserved
 loop-next-preserved g c =
@@ -100,7 +100,7 @@ put_all_reserved-requires-2 g c =
     let block = ap length c.block-2.ensures ∙ code.even.blocks_even (g.C.LineCode.context_of c.loop-next.mark) _ in
     let same = capacity_of c.put_all_reserved.new.self c.clear.new.self _ c.put_all_reserved.ensures ∙ capacity_of c.clear.new.self c.args.out.now _ c.clear.ensures in
     let all = ap (λ (bs : List Bool). code.chips * (length bs + 1)) c.as_slice-bits.ensures.value in
-    omega (arith, size, block, is.same, c.loop-sixteen.invariant.same, same, all, mul-add code.chips (length bits) 1, mul-le-mul_left code.chips is.within, c.requires)
+    omega (arith, size, block, is.same, c.loop-four.invariant.same, same, all, mul-add code.chips (length bits) 1, mul-le-mul_left code.chips is.within, c.requires)
 
 pub returns-clause-stream : goal.returns-clause-stream
 returns-clause-stream g c =

@@ -11,14 +11,14 @@ returns-clause-wave c = search rules
 
 pub returns-clause-frame : goal.returns-clause-frame
 returns-clause-frame c =
-    written-frame c.args.link.now c.args.lead c.args.bits.now.items c.put_symbols.new.out.items c.put_header.ensures.legal (returns-clause-wave c)
+    written-frame c.args.link.now c.args.lead c.args.bits.now.items c.put_symbols.new.out.items c.send_header.ensures.legal (returns-clause-wave c)
 
 pub returns-clause-each : goal.returns-clause-each
 returns-clause-each c = frame-bounded _ _ _ (returns-clause-frame c)
 
 pub returns-clause-count : goal.returns-clause-count
 returns-clause-count c =
-    let header = c.put_header.new.out.items in
+    let header = c.send_header.new.frame.items in
     let bits = c.as_slice.result.now in
     let symbols = symbols_with c.highs-zero.result.0 c.highs-zero.result.1 c.pw.result bits in
     let written : c.put_symbols.new.out.items ≡ header ++ symbols = ap (λ (list : IntervalList). list.items) c.put_symbols.ensures in
@@ -27,6 +27,6 @@ returns-clause-count c =
       ap length written,
       length-append header symbols,
       length-symbols_with c.highs-zero.result.0 c.highs-zero.result.1 c.pw.result bits,
-      c.put_header.ensures.written,
+      c.send_header.ensures.written,
       ap length c.as_slice.ensures.value,
     )

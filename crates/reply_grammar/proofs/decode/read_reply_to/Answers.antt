@@ -4,7 +4,7 @@ use Rattle.reply_grammar.specs.laws.PassingReplies.{rn16_passed, handle_passed, 
 use Rattle.reply_grammar.proofs.decode.read_reply_to.Goals as goal
 
 pub returns-in-Rn16 : goal.returns-in-Rn16
-returns-in-Rn16 c = rn16_passed c.args.expect.now c.args.bits.now.items c.word_at.result c.in-Rn16.is c.requires c.word_at.ensures
+returns-in-Rn16 c = rw c.put_rn16.ensures (rn16_passed c.args.expect.now c.args.bits.now.items c.word_at.result c.in-Rn16.is c.requires c.word_at.ensures)
 
 pub returns-in-Epc : goal.returns-in-Epc
 returns-in-Epc c = rw c.in-Epc.is c.read_epc_to.ensures

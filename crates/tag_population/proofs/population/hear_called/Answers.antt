@@ -1,94 +1,89 @@
-use Rattle.std.proofs.Common.{◌≡◌, ◌∙◌, ap, arith, length, subst, suc, ℕ, List, Option}
-use Rattle.tag_machine.specs.Exchange.{Replied}
-use Rattle.tag_population.proofs.HeardByCalled.{BeforeHearing, HeardSoFar, HearsNext, replied_upto, heard_none, heard_on, heard_at, heard_next, heard_end, heard_tags, heard_rest, next_is_called, next_from_start, next_smaller, few_replies, replied_on, replied_next, replied_all, upto}
-use Rattle.tag_population.proofs.SeatedTags.{participation_inside}
-use Rattle.tag_population.specs.Seated.{outcomes_called, tags_of}
+use Rattle.std.proofs.Common.{◌≡◌, ◌∙◌, ap, arith, get_or, refl, Bool, Option}
+use Rattle.tag_machine.specs.Exchange.{is_missed, outcome_unless}
+use Rattle.tag_machine.specs.TagValue.{TagValue}
+use Rattle.tag_population.proofs.CalledTags.{participation_inside}
+use Rattle.tag_population.proofs.HeardTags.{heard_none, heard_on, heard_before, heard_further, heard_end, called_outcome, next_from_start, next_smaller}
+use Rattle.tag_population.specs.Answers.{AnswersValue}
+use Rattle.tag_population.specs.Floor.{no_tag, outcome_called, steps_back}
+use Rattle.waiting_tags.specs.Waiting.{participation_at}
+use Rattle.waiting_tags.specs.declared.waiting.Participation.{Participation}
 use Rattle.waiting_tags.specs.declared.waiting.Participation.TheVariants.{Called}
 use Rattle.tag_population.proofs.population.hear_called.Goals as goal
 
 pub loop-next-init : goal.loop-next-init
-loop-next-init g c =
-    let before : BeforeHearing = record { command = c.args.command.now; entry = c.args.entry.now; participations = c.args.waiting.now; seats = c.args.seats.now; steps = c.args.steps.now } in
-    record {
-      heard = heard_on before 0 c.first_called-next.result _ c.requires.whole (heard_none before c.requires.whole c.requires.legal) c.first_called-next.ensures.next;
-      taken = subst (λ (l : List Replied). g.A.AnswerTaker.took c.args.answers.now l c.args.answers.now) (replied_on before 0 c.first_called-next.result c.requires.whole (omega arith) c.first_called-next.ensures.next) c.requires.begun;
-      room = c.requires.room;
-      called = next_is_called c.args.waiting.now 0 c.first_called-next.result c.first_called-next.ensures.next;
-      slots = c.first_called-next.ensures.slots;
-    }
+loop-next-init g c = record {
+  heard =
+      heard_on c.args.command.now c.args.entry.now c.args.floor.now c.args.steps.now 0 c.first_called-next.result c.args.floor.now c.args.answers.now.items c.args.steps.now c.requires.whole c.requires.uncalled
+      (heard_none (outcome_called c.args.command.now c.args.entry.now c.args.floor.now) c.args.floor.now c.args.answers.now.items c.requires.whole c.requires.none) (omega arith) c.first_called-next.ensures;
+  tags = refl;
+}
 
 pub called_after-next-requires : goal.called_after-next-requires
 called_after-next-requires g c =
-    omega
-    (arith, participation_inside c.args.waiting.now c.in-Some.number Called (c.loop-next.invariant.called c.in-Some.number c.in-Some.is), c.loop-next.invariant.heard.whole, c.requires.whole)
+    omega (
+      arith,
+      participation_inside c.args.floor.now.parts c.in-Some.number Called (c.loop-next.invariant.heard.called c.in-Some.number c.in-Some.is),
+      c.loop-next.invariant.heard.heard.whole,
+      c.requires.whole,
+    )
 
-pub hear_when_called-participation-requires-clause-few : goal.hear_when_called-participation-requires-clause-few
-hear_when_called-participation-requires-clause-few g c =
-    let before : BeforeHearing = record { command = c.args.command.now; entry = c.args.entry.now; participations = c.args.waiting.now; seats = c.args.seats.now; steps = c.args.steps.now } in
-    let from : ℕ = upto (length c.args.seats.now) c.loop-next.next in
-    let here : from ≡ c.in-Some.number = ap (λ n. upto (length c.args.seats.now) n) c.in-Some.is in
-    let within = participation_inside c.args.waiting.now c.in-Some.number Called (c.loop-next.invariant.called c.in-Some.number c.in-Some.is) in
-    record {
-      first = c.args.answers.now;
-      replies = replied_upto before from;
-      taken = c.loop-next.invariant.taken;
-      few =
-          omega (
-            arith,
-            few_replies 0 from (outcomes_called 0 before.command before.entry before.participations (tags_of before.participations before.seats)),
-            here,
-            within,
-            c.requires.whole,
-            c.requires.few,
-          );
-    }
+pub hear-requires-clause-number : goal.hear-requires-clause-number
+hear-requires-clause-number g c =
+    omega (
+      arith,
+      participation_inside c.args.floor.now.parts c.in-Some.number Called (c.loop-next.invariant.heard.called c.in-Some.number c.in-Some.is),
+      c.loop-next.invariant.heard.heard.whole,
+      c.requires.whole,
+    )
+
+pub hear-requires-clause-room : goal.hear-requires-clause-room
+hear-requires-clause-room g c =
+    let at = heard_before _ _ c.args.floor.now c.args.steps.now c.in-Some.number c.loop-next.next _ _ _ c.loop-next.invariant.heard c.in-Some.is in
+    omega (
+      arith,
+      at.few,
+      participation_inside c.args.floor.now.parts c.in-Some.number Called (c.loop-next.invariant.heard.called c.in-Some.number c.in-Some.is),
+      c.requires.whole,
+      c.requires.room,
+      c.loop-next.invariant.tags,
+    )
 
 pub loop-next-smaller : goal.loop-next-smaller
 loop-next-smaller g c =
-    let so_far = heard_at _ c.in-Some.number c.loop-next.next _ c.loop-next.invariant.heard c.in-Some.is in
-    let further = next_from_start _ c.in-Some.number c.called_after-next.result _ so_far c.called_after-next.ensures in
-    next_smaller c.args.waiting.now c.args.seats.now c.in-Some.number c.loop-next.next c.called_after-next.result c.requires.whole c.in-Some.is
-    (c.loop-next.invariant.called c.in-Some.number c.in-Some.is) further
+    let at = heard_before _ _ c.args.floor.now c.args.steps.now c.in-Some.number c.loop-next.next _ _ _ c.loop-next.invariant.heard c.in-Some.is in
+    next_smaller c.args.floor.now.parts c.in-Some.number c.loop-next.next c.called_after-next.result c.in-Some.is (c.loop-next.invariant.heard.called c.in-Some.number c.in-Some.is)
+    (next_from_start _ c.args.floor.now c.in-Some.number c.called_after-next.result _ _ at c.called_after-next.ensures)
 
 pub loop-next-preserved : goal.loop-next-preserved
 loop-next-preserved g c =
-    let before : BeforeHearing = record { command = c.args.command.now; entry = c.args.entry.now; participations = c.args.waiting.now; seats = c.args.seats.now; steps = c.args.steps.now } in
-    let now : HeardSoFar = record { participations = c.loop-next.waiting; seats = c.loop-next.seats; steps = c.loop-next.steps } in
-    let after : HeardSoFar = record { participations = c.put.new.self; seats = c.hear_when_called-participation.new.self; steps = c.hear_when_called-participation.new.steps } in
-    let so_far = heard_at before c.in-Some.number c.loop-next.next now c.loop-next.invariant.heard c.in-Some.is in
-    let further = next_from_start before c.in-Some.number c.called_after-next.result now so_far c.called_after-next.ensures in
-    let next : HearsNext before c.in-Some.number now after = record {
-      misses = c.is_missed-misses.result;
-      participation = c.hear_when_called-participation.result;
-      called = c.loop-next.invariant.called c.in-Some.number c.in-Some.is;
-      missed = c.is_missed-misses.ensures;
-      seats_are = c.hear_when_called-participation.ensures.tag;
-      legal = c.hear_when_called-participation.ensures.legal;
-      takes = c.hear_when_called-participation.ensures.takes_part;
-      put = c.put.ensures.participations;
-      counted = c.hear_when_called-participation.ensures.counted;
-    } in
-    let heard = heard_next before c.in-Some.number now after c.requires.whole so_far next in
-    let was : g.A.AnswerTaker.took c.args.answers.now (replied_upto before c.in-Some.number) c.loop-next.answers =
-    subst (λ (n : Option ℕ). g.A.AnswerTaker.took c.args.answers.now (replied_upto before (upto (length c.args.seats.now) n)) c.loop-next.answers) c.in-Some.is c.loop-next.invariant.taken in
-    let replied = replied_next before c.in-Some.number now after c.requires.whole so_far next ∙ replied_on before (suc c.in-Some.number) c.called_after-next.result c.requires.whole heard.inside further in
+    let command = c.args.command.now in
+    let entry = c.args.entry.now in
+    let before = c.args.floor.now in
+    let now = c.loop-next.invariant in
+    let number = c.in-Some.number in
+    let called = now.heard.called number c.in-Some.is in
+    let at = heard_before command entry before c.args.steps.now number c.loop-next.next c.loop-next.floor c.loop-next.answers.items c.loop-next.steps now.heard c.in-Some.is in
+    let left = at.left number (omega arith) in
+    let back : steps_back (participation_at c.loop-next.floor.parts number) ≡ 0 = ap (λ (p : Option Participation). steps_back p) (left.1 ∙ called) in
     record {
-      heard = heard_on before (suc c.in-Some.number) c.called_after-next.result _ c.requires.whole heard further;
-      taken = subst (λ (l : List Replied). g.A.AnswerTaker.took c.args.answers.now l c.hear_when_called-participation.new.answers) replied (c.hear_when_called-participation.ensures.took c.args.answers.now (replied_upto before c.in-Some.number) was);
-      room = c.hear_when_called-participation.ensures.room;
-      called = next_is_called c.args.waiting.now (suc c.in-Some.number) c.called_after-next.result further;
-      slots = c.put.ensures.slots;
+      heard =
+          heard_further command entry before c.args.steps.now number c.loop-next.next c.called_after-next.result c.loop-next.floor c.hear.new.self c.loop-next.answers.items c.hear.new.answers.items c.loop-next.steps c.hear.new.steps
+          c.requires.whole c.requires.uncalled now.heard c.in-Some.is c.called_after-next.ensures
+          (record {
+            came = outcome_unless c.is_missed-misses.result command (get_or c.loop-next.floor.tags number no_tag);
+            came_is =
+                ap (λ (b : Bool). outcome_unless b command (get_or c.loop-next.floor.tags number no_tag)) c.is_missed-misses.ensures
+                ∙ ap (λ (t : TagValue). outcome_unless (is_missed number entry) command t) left.0
+                ∙ called_outcome command entry before number called;
+            floor_is = c.hear.ensures.floor;
+            more_is = ap (λ (a : AnswersValue). a.items) c.hear.ensures.answers;
+          })
+          (omega (arith, c.hear.ensures.counted, back));
+      tags = ap (λ (a : AnswersValue). a.tags) c.hear.ensures.answers ∙ now.tags;
     }
 
-pub returns-clause-tags : goal.returns-clause-tags
-returns-clause-tags g c = heard_tags _ _ c.requires.whole (heard_end _ c.loop-next.next _ c.loop-next.invariant.heard c.in_default.is)
+pub returns-clause-heard : goal.returns-clause-heard
+returns-clause-heard g c = heard_end c.args.command.now c.args.entry.now c.args.floor.now c.args.steps.now c.loop-next.next c.loop-next.floor c.loop-next.answers.items c.loop-next.steps c.requires.whole c.loop-next.invariant.heard c.in_default.is
 
-pub returns-clause-replies : goal.returns-clause-replies
-returns-clause-replies g c =
-    let before : BeforeHearing = record { command = c.args.command.now; entry = c.args.entry.now; participations = c.args.waiting.now; seats = c.args.seats.now; steps = c.args.steps.now } in
-    subst (λ (l : List Replied). g.A.AnswerTaker.took c.args.answers.now l c.loop-next.answers)
-    (ap (λ (n : Option ℕ). replied_upto before (upto (length c.args.seats.now) n)) c.in_default.is ∙ replied_all before c.requires.whole) c.loop-next.invariant.taken
-
-pub returns-clause-rest : goal.returns-clause-rest
-returns-clause-rest g c =
-    heard_rest _ _ c.requires.whole c.requires.few c.requires.uncalled c.loop-next.invariant.slots (heard_end _ c.loop-next.next _ c.loop-next.invariant.heard c.in_default.is)
+pub returns-clause-counted : goal.returns-clause-counted
+returns-clause-counted g c = omega (arith, c.loop-next.invariant.heard.steps_are)

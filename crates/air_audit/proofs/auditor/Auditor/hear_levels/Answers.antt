@@ -10,15 +10,15 @@ returns-in-Err-clause-follows g c = λ start past sent is.
     let laws : TagLaws = record { rows = c.answers_are_replies.ensures.reply; range = c.answers_are_replies.ensures.legal; stays = c.steps_keep_tags_legal.ensures.befallen } in
     let auditor : AuditorValue = c.args.self.now in
     let number = ap (λ (a : AuditorValue). a.exchanges) c.self.view_is in
-    let count : c.count.result ≡ auditor.answers.count = c.count.ensures.value ∙ ap (λ (a : AuditorValue). a.answers.count) c.self.view_is in
+    let count : c.len.result ≡ auditor.answers.count = c.len.ensures.count ∙ ap (λ (a : AuditorValue). a.answers.count) c.self.view_is in
     let levels : c.levels.result.now.items ≡ auditor.answers.levels = c.levels.ensures.value ∙ ap (λ (a : AuditorValue). a.answers.levels) c.self.view_is in
-    let small : c.count.result < 2 ^ 32 = c.count.ensures.few in
+    let small : c.len.result < 2 ^ 32 = omega arith in
     let early : auditor.exchanges < 2 ^ 32 = omega (arith, c.requires.early.exchanges) in
     let count_small : auditor.answers.count < 2 ^ 32 = subst (λ n. n < 2 ^ 32) count small in
     let first : DiffersFirst auditor.exchanges auditor.answers.count auditor.answers.levels c.args.line.now c.in-Err.reason =
     subst (λ n. DiffersFirst n auditor.answers.count auditor.answers.levels c.args.line.now c.in-Err.reason) number
     (subst (λ n. DiffersFirst c.self.inside.exchanges n auditor.answers.levels c.args.line.now c.in-Err.reason) count
-    (subst (λ (l : List Bool). DiffersFirst c.self.inside.exchanges c.count.result l c.args.line.now c.in-Err.reason) levels c.in-Err.ensures.refused)) in
+    (subst (λ (l : List Bool). DiffersFirst c.self.inside.exchanges c.len.result l c.args.line.now c.in-Err.reason) levels c.in-Err.ensures.refused)) in
     rx-not start past sent c.args.line.now auditor c.in-Err.reason is
     (record {
       readable = record { exchange_small = omega arith; count_small = omega arith; few = levels-few laws start past sent auditor is };

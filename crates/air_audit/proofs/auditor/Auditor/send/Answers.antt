@@ -1,19 +1,24 @@
-use Rattle.std.proofs.Common.{◌≡◌, ◌+◌, List, Ok, refl, ap, ◌∙◌, subst}
+use Rattle.std.proofs.Common.{◌≡◌, ◌+◌, List, Ok, arith, length, refl, ap, sym, ◌∙◌, subst}
+use Rattle.std.specs.List.{All}
+use Rattle.std.proofs.lemmas.List.{length-map}
 use Rattle.air_events.specs.Cursor.{IsLeft}
 use Rattle.command_grammar.specs.declared.commands.Command.{Command}
 use Rattle.air_events.specs.declared.Several.{Several}
 use Rattle.pie_line.specs.Link.{LinkValue}
 use Rattle.tag_machine.specs.Exchange.{Replied, outcomes_in, replies_from}
 use Rattle.tag_machine.specs.TagValue.{TagValue}
+use Rattle.tag_population.specs.Answers.{AnswerValue, AnswersValue, answer_of, answers_of}
 use Rattle.tag_population.specs.Hearing.{hearing_from}
 use Rattle.air_model.specs.Channel.{given_of, heard_levels}
 use Rattle.air_model.specs.Past.{exchanges_in}
 use Rattle.air_audit.specs.Auditing.{AuditorValue}
 use Rattle.air_audit.specs.LineRefusals.{IsNoTxLine}
+use Rattle.air_audit.specs.Rooms.{IsShort}
 use Rattle.air_audit.specs.Standing.{Place}
 use Rattle.air_audit.specs.TraceLines.{Sends}
 use Rattle.air_audit.proofs.Exchanges.{Parts, parts-of, events-there, handed-on, hearing, left-before, missed-there, next-known, next-number, same-next}
-use Rattle.tag_population.proofs.OneExchange.{one_exchange}
+use Rattle.air_audit.proofs.HeardAnswers.{short-answers}
+use Rattle.air_audit.proofs.OneExchange.{length-befallen, one_exchange}
 use Rattle.air_audit.proofs.auditor.Auditor.send.Goals as goal
 
 pub befall_all-requires : goal.befall_all-requires
@@ -29,6 +34,21 @@ hear-requires-clause-missed g c =
     let parts : Parts c.args.self.now = parts-of _ c.args.self.now c.self.view_is in
     missed-there r.0 r.1 c.self.inside.population c.befall_all.new.self c.next_entry-entry.result.now c.as_slice.result.now
     (next-known r.0 r.1 c.args.self.now parts _ c.next_entry-entry.result.now r.2 c.from.ensures c.next_entry-entry.ensures.entry) c.befall_all.ensures.tags
+
+pub hear-requires-clause-room : goal.hear-requires-clause-room
+hear-requires-clause-room g c =
+    omega (arith, c.self.invariant.1, ap (λ (tags : List TagValue). length tags) c.befall_all.ensures.tags, length-befallen 0 c.as_slice.result.now c.self.inside.population)
+
+pub invariant_of-self-2 : goal.invariant_of-self-2
+invariant_of-self-2 g c =
+    let befallen : length c.befall_all.new.self ≡ length c.self.inside.population =
+    ap (λ (tags : List TagValue). length tags) c.befall_all.ensures.tags ∙ length-befallen 0 c.as_slice.result.now c.self.inside.population in
+    (c.self.invariant.0, omega (arith, c.self.invariant.1, befallen, c.hear.ensures.count, ap (λ (a : AnswersValue). a.tags) c.hear.ensures.answers))
+
+pub hear-requires-2-clause-short : goal.hear-requires-2-clause-short
+hear-requires-2-clause-short g c =
+    let replies : List Replied = replies_from 0 (hearing_from 0 c.command-command.result.now c.next_entry-entry.result.now c.befall_all.new.self) in
+    subst (λ (items : List AnswerValue). All IsShort items) (sym (ap (λ (a : AnswersValue). a.items) c.hear.ensures.answers)) (short-answers replies c.hear.ensures.sent)
 
 pub returns-in_err-read-clause-refused : goal.returns-in_err-read-clause-refused
 returns-in_err-read-clause-refused g c =
@@ -46,6 +66,7 @@ returns-clause-sends g c = λ ok start past keeps.
     let heard : c.read.new.self ≡ Ok command = c.command-command.ensures in
     let same : read.command ≡ command = let was = read.read in cc in
     let replies : List Replied = replies_from 0 (hearing_from 0 command c.next_entry-entry.result.now c.befall_all.new.self) in
+    let answers : c.hear.new.answers.items ≡ answers_of replies = ap (λ (a : AnswersValue). a.items) c.hear.ensures.answers in
     let link = ap (λ (a : AuditorValue). a.answers.link) c.self.view_is in
     let several = ap (λ (a : AuditorValue). a.several) c.self.view_is in
     let round = ap (λ (a : AuditorValue). a.round) c.self.view_is in
@@ -66,12 +87,12 @@ returns-clause-sends g c = λ ok start past keeps.
             (one_exchange command c.next_entry-entry.result.now c.self.inside.population c.befall_all.new.self c.as_slice.result.now c.as_slice.ensures.value c.befall_all.ensures.tags);
         tags = c.hear.ensures.tags;
         legal = c.hear.ensures.legal;
-        count = c.hear.ensures.replies.count_is;
+        count = ap length answers ∙ length-map replies answer_of;
         levels =
-            c.begin.ensures.heard _ _ c.hear.ensures.replies
+            c.hear-2.ensures.heard replies answers
             ∙ ap (λ (l : LinkValue). heard_levels l (given_of l replies c.next_entry-entry.result.now.choice c.self.inside.several)) link
             ∙ ap (λ (s : Several). heard_levels c.args.self.now.answers.link (given_of c.args.self.now.answers.link replies c.next_entry-entry.result.now.choice s)) several;
-        link = c.hear.ensures.replies.same_link ∙ c.begin.ensures.link ∙ link;
+        link = c.hear-2.ensures.link ∙ link;
         several = several;
         entries = subst (λ n. IsLeft c.next_entry-entry.new.self start.entries n) number
             (c.next_entry-entry.ensures.left start.entries (exchanges_in past) (left-before start past c.args.self.now parts keeps) number);

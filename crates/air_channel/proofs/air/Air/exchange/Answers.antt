@@ -1,70 +1,81 @@
-use Rattle.std.proofs.Common.{List, ◌++◌, ◌∙◌, length, sym, subst, ◌<◌}
-use Rattle.tag_machine.specs.Exchange.{Replied}
+use Rattle.std.proofs.Common.{◌<◌, ◌≤◌, length, ap, sym, subst, arith}
 use Rattle.std.specs.List.{All}
+use Rattle.std.specs.Prelude.{Some}
+use Rattle.tag_machine.specs.Answers.{IsSent}
+use Rattle.tag_machine.specs.Exchange.{replies_in}
+use Rattle.tag_population.specs.Answers.{AnswersValue}
 use Rattle.air_channel.specs.Air.{AirValue}
-use Rattle.air_channel.proofs.ExchangeFacts.{Exchanged, exchange_air, exchange_got, exchange_steps, exchange_bound, exchange_missed, exchange_replies}
+use Rattle.air_channel.proofs.ExchangeFacts.{Exchanged, exchange_answers, exchange_air, exchange_steps, exchange_bound, as_many_befallen}
 use Rattle.air_channel.proofs.air.Air.exchange.Goals as goal
+
+pub hear-requires-2-clause-missed : goal.hear-requires-2-clause-missed
+hear-requires-2-clause-missed g c =
+    let many = as_many_befallen c.self.inside.population c.as_slice.result.now c.befall_all.new.self c.befall_all.ensures.tags in
+    subst (λ n. All (λ tag. tag < n) c.args.entry.now.missed) (sym many)
+    (subst (λ (a : AirValue). All (λ tag. tag < length a.tags) c.args.entry.now.missed) (sym c.self.view_is) c.requires.named.missed)
+
+pub hear-requires-2-clause-room : goal.hear-requires-2-clause-room
+hear-requires-2-clause-room g c =
+    omega (arith, c.self.invariant.5, as_many_befallen c.self.inside.population c.as_slice.result.now c.befall_all.new.self c.befall_all.ensures.tags)
+
+pub invariant_of-self : goal.invariant_of-self
+invariant_of-self g c =
+    let many = as_many_befallen c.self.inside.population c.as_slice.result.now c.befall_all.new.self c.befall_all.ensures.tags in
+    let before = c.self.invariant in
+    let room : length c.hear-2.new.self ≤ c.hear-2.new.answers.tags = omega (arith, before.5, many, c.hear-2.ensures.count, ap (λ (a : AnswersValue). a.tags) c.hear-2.ensures.answers) in
+    (omega (arith, before.0, c.give.ensures.bits_capacity, c.hear.ensures.bits_capacity), omega (arith, before.1, c.hear.ensures.capacity), c.hear.ensures.short, omega (arith, before.3, c.give.ensures.capacity), c.give.ensures.most, room)
 
 pub returns-clause-air : goal.returns-clause-air
 returns-clause-air g c =
     let air = c.self.inside in
     let old : AirValue =
-    record { link = air.transmitter.link; several = air.several; tags = air.population; frame = air.transmitter.frame; stream = air.stream.items; replies = air.replies.count; exchanges = air.exchanges } in
+    record { link = air.link; several = air.several; tags = air.population; frame = air.frame.items; stream = air.stream.items; answers = air.answers.items; exchanges = air.exchanges } in
     let is : Exchanged air.population c.args.command.now c.args.entry.now =
-    record { heard = c.command-heard.result.now; events = c.as_slice.result.now; befallen = c.befall_all.new.self; same = cc; events_are = c.as_slice.ensures.value; befell = c.befall_all.ensures.tags } in
+    record { heard = c.command.result.now; events = c.as_slice.result.now; befallen = c.befall_all.new.self; same = cc; events_are = c.as_slice.ensures.value; befell = c.befall_all.ensures.tags } in
+    let answers = exchange_answers air.population c.args.command.now c.args.entry.now is air.answers c.hear-2.new.answers c.hear-2.ensures.answers c.hear-2.ensures.sent in
     rw (← c.self.view_is)
     (exchange_air old c.args.command.now c.args.entry.now is
     (record {
-      link = c.transmit.new.transmitter.link;
-      reply_link = c.link.result.now;
-      link_is = c.transmit.ensures.link;
-      reply_link_is = c.link.ensures ∙ c.transmit.ensures.link;
-      tags = c.tell.new.population;
-      frame = c.transmit.new.transmitter.frame;
+      tags = c.hear-2.new.self;
+      frame = c.hear.new.frame.items;
       stream = c.give.new.stream.items;
-      kept = c.tell.new.replies;
+      answers = c.hear-2.new.answers.items;
       exchanges = c.saturating_add-self-inside.result;
-      heard_all = c.tell.ensures.tags;
-      wave = c.transmit.ensures.wave;
-      stands = c.tell.ensures.replies.stands;
-      gives = c.give.ensures.stream;
+      heard_all = c.hear-2.ensures.tags;
+      wave = c.hear.ensures.wave;
+      gives = c.give.ensures.stream (replies_in c.args.command.now c.args.entry.now air.population) answers;
+      answered = answers.same;
       counts = c.saturating_add-self-inside.ensures;
     }))
 
 pub returns-clause-got : goal.returns-clause-got
 returns-clause-got g c =
     let air = c.self.inside in
-    let is : Exchanged c.self.inside.population c.args.command.now c.args.entry.now =
-    record { heard = c.command-heard.result.now; events = c.as_slice.result.now; befallen = c.befall_all.new.self; same = cc; events_are = c.as_slice.ensures.value; befell = c.befall_all.ensures.tags } in
-    rw (← c.self.view_is)
-    (exchange_got (record { link = air.transmitter.link; several = air.several; tags = air.population; frame = air.transmitter.frame; stream = air.stream.items; replies = air.replies.count; exchanges = air.exchanges })
-    c.args.command.now c.args.entry.now is c.link.result.now c.tell.new.replies c.give.result (c.link.ensures ∙ c.transmit.ensures.link) c.tell.ensures.replies.stands c.give.ensures.got)
+    let is : Exchanged air.population c.args.command.now c.args.entry.now =
+    record { heard = c.command.result.now; events = c.as_slice.result.now; befallen = c.befall_all.new.self; same = cc; events_are = c.as_slice.ensures.value; befell = c.befall_all.ensures.tags } in
+    let answers = exchange_answers air.population c.args.command.now c.args.entry.now is air.answers c.hear-2.new.answers c.hear-2.ensures.answers c.hear-2.ensures.sent in
+    rw (← c.self.view_is) (c.give.ensures.got (replies_in c.args.command.now c.args.entry.now air.population) answers)
 
-pub returns-clause-told : goal.returns-clause-told
-returns-clause-told g c = λ first before heard.
-    let is : Exchanged c.self.inside.population c.args.command.now c.args.entry.now =
-    record { heard = c.command-heard.result.now; events = c.as_slice.result.now; befallen = c.befall_all.new.self; same = cc; events_are = c.as_slice.ensures.value; befell = c.befall_all.ensures.tags } in
-    rw (← c.self.view_is)
-    (subst (λ (replies : List Replied). g.A.AnswerListener.hears first (before ++ replies) c.tell.new.answers)
-    (exchange_replies c.self.inside.population c.args.command.now c.args.entry.now is) (c.tell.ensures.told first before heard))
+pub returns-clause-sent : goal.returns-clause-sent
+returns-clause-sent g c =
+    let air = c.self.inside in
+    let is : Exchanged air.population c.args.command.now c.args.entry.now =
+    record { heard = c.command.result.now; events = c.as_slice.result.now; befallen = c.befall_all.new.self; same = cc; events_are = c.as_slice.ensures.value; befell = c.befall_all.ensures.tags } in
+    let answers = exchange_answers air.population c.args.command.now c.args.entry.now is air.answers c.hear-2.new.answers c.hear-2.ensures.answers c.hear-2.ensures.sent in
+    subst (λ (a : AirValue). All (λ replied. IsSent (Some replied.sent)) (replies_in c.args.command.now c.args.entry.now a.tags)) c.self.view_is answers.sent
 
 pub returns-clause-counted : goal.returns-clause-counted
 returns-clause-counted g c =
     let is : Exchanged c.self.inside.population c.args.command.now c.args.entry.now =
-    record { heard = c.command-heard.result.now; events = c.as_slice.result.now; befallen = c.befall_all.new.self; same = cc; events_are = c.as_slice.ensures.value; befell = c.befall_all.ensures.tags } in
+    record { heard = c.command.result.now; events = c.as_slice.result.now; befallen = c.befall_all.new.self; same = cc; events_are = c.as_slice.ensures.value; befell = c.befall_all.ensures.tags } in
     rw (← c.self.view_is)
     (exchange_steps c.self.inside.population c.args.command.now c.args.entry.now is
-    (record { start = c.args.steps.now; befallen = c.befall_all.new.steps; last = c.tell.new.steps; counts = c.befall_all.ensures.counted }) c.tell.ensures.counted)
+    (record { start = c.args.steps.now; befallen = c.befall_all.new.steps; last = c.hear-2.new.steps; counts = c.befall_all.ensures.counted }) c.hear-2.ensures.counted)
 
 pub returns-clause-bound : goal.returns-clause-bound
 returns-clause-bound g c = λ rep none.
     let is : Exchanged c.self.inside.population c.args.command.now c.args.entry.now =
-    record { heard = c.command-heard.result.now; events = c.as_slice.result.now; befallen = c.befall_all.new.self; same = cc; events_are = c.as_slice.ensures.value; befell = c.befall_all.ensures.tags } in
+    record { heard = c.command.result.now; events = c.as_slice.result.now; befallen = c.befall_all.new.self; same = cc; events_are = c.as_slice.ensures.value; befell = c.befall_all.ensures.tags } in
     rw (← c.self.view_is)
     (exchange_bound c.self.inside.population c.args.command.now c.args.entry.now is
-    (record { start = c.args.steps.now; befallen = c.befall_all.new.steps; last = c.tell.new.steps; counts = c.befall_all.ensures.counted }) rep none c.tell.ensures.bound)
-
-pub tell-requires-clause-missed : goal.tell-requires-clause-missed
-tell-requires-clause-missed g c =
-    exchange_missed c.self.inside.population c.args.entry.now c.as_slice.result.now c.befall_all.new.self c.befall_all.ensures.tags
-    (subst (λ (a : AirValue). All (λ tag. tag < length a.tags) c.args.entry.now.missed) (sym c.self.view_is) c.requires.named.missed)
+    (record { start = c.args.steps.now; befallen = c.befall_all.new.steps; last = c.hear-2.new.steps; counts = c.befall_all.ensures.counted }) rep none c.hear-2.ensures.bound)

@@ -1,4 +1,4 @@
-use Rattle.std.proofs.Common.{List}
+use Rattle.std.proofs.Common.{ℕ, List}
 use Rattle.air_model.specs.Past.{Start, Item}
 use Rattle.air_world.proofs.Steps.{StepsUnderway}
 use Rattle.air_world.specs.Playing.{IsAt}
@@ -7,5 +7,5 @@ use Rattle.air_world.proofs.run.Run.play_steps.Given as goal
 
 abbrev pub invariant-loop-step : goal.invariant-loop-step
 invariant-loop-step g l =
-    (start : Start) (past : List Item) → IsAt start past l.fn.air l.fn.self
-    → StepsUnderway (Passes g.R.Listener.hears (lines_behind start past) l.fn.report l.report) (record { start = start; before = past; steps = l.steps }) l.step-index l.air l.self
+    (start : Start) (earlier : ℕ) (past : List Item) → IsAt start earlier past l.fn.air l.fn.self
+    → StepsUnderway (Passes g.R.Listener.hears (lines_behind start past) l.fn.report l.report) earlier (record { start = start; before = past; steps = l.steps }) l.step-index l.air l.self

@@ -1,6 +1,7 @@
 use Rattle.std.proofs.Common.{◌≡◌, ◌<◌, List, [], ◌∷◌, ◌++◌, length, take, Some, ◌∙◌, ap, arith, append_assoc, slice_get}
 use Rattle.air_channel.specs.Air.{AirValue}
-use Rattle.air_world.proofs.LastLines.{some-tag, tag-more}
+use Rattle.air_world.proofs.LastLines.{tag-more}
+use Rattle.air_world.proofs.Places.{some-at}
 use Rattle.air_world.proofs.Passing.{listening, passes-same, passes-then}
 use Rattle.report_lines.specs.ReportLine.{ReportLine, TagLine}
 use Rattle.runs.specs.Report.{tag_lines}
@@ -12,7 +13,7 @@ loop-number-preserved g c =
     let tags = c.args.air.now.tags in
     let number = c.loop-number.number in
     let inside : number < length tags = omega (arith, c.len-number-end.ensures.count) in
-    let found = some-tag tags number inside in
+    let found = some-at tags number inside in
     let at : slice_get c.loop-number.air.tags number ≡ Some found.0 = ap (λ (a : AirValue). slice_get a.tags number) inv.air ∙ found.1 in
     record {
       air = c.tell_tag.ensures.air ∙ inv.air;

@@ -1,14 +1,21 @@
-use Rattle.std.proofs.Common.{ℕ, Option, ap, ◌∙◌, length, List, Bool}
-use Rattle.air_channel.specs.Kept.{wanted_by}
-use Rattle.air_model.specs.Channel.{given_of}
-use Rattle.air_world.specs.Saying.{gave_by}
-use Rattle.air_world.specs.laws.SayingLaws.{gave-given}
-use Rattle.reply_grammar.specs.declared.expected.Reply.{Reply}
+use Rattle.std.proofs.Common.{sym, ◌∙◌, subst}
+use Rattle.air_world.proofs.Saying.{gave-broken, gave-raw, gave-silence, gave-whole}
+use Rattle.air_world.specs.Saying.{AnswersCommand}
+use Rattle.command_grammar.specs.declared.commands.Command.{Command}
+use Rattle.runs.specs.laws.Replies.{AreReplies}
 use Rattle.air_world.proofs.run.saying.gave.Goals as goal
 
-pub returns : goal.returns
-returns c = λ link replies counted kept came.
-    c.gave_of_kept.ensures
-    ∙ ap (λ (answer : Option (ℕ × Reply)). gave_by c.giving_of.result answer c.len.result) kept
-    ∙ gave-given link c.giving_of.result replies (wanted_by c.args.choice.now) (given_of link replies c.args.choice.now c.args.several) c.len.result
-    (c.giving_of.ensures link replies counted) (c.len.ensures.count ∙ ap (λ (levels : List Bool). length levels) came)
+pub returns-in-Silence-clause-gave : goal.returns-in-Silence-clause-gave
+returns-in-Silence-clause-gave c = λ link sent behind command. gave-silence link sent.given (sym c.in-Silence.is ∙ behind.got_is)
+
+pub returns-in-Whole-clause-gave : goal.returns-in-Whole-clause-gave
+returns-in-Whole-clause-gave c = λ link sent behind command.
+    gave-whole link sent.replies sent.given c.in-Whole.tag _ behind.one (sym c.in-Whole.is ∙ behind.got_is)
+    (λ place replied at tag. c.reply_of.ensures.reply sent.replies place replied (c.answers.ensures ∙ behind.answers)
+    (subst (λ (own : Command). AreReplies (AnswersCommand own) sent.replies) (sym command) behind.answered) behind.different at tag)
+
+pub returns-in-Broken-clause-gave : goal.returns-in-Broken-clause-gave
+returns-in-Broken-clause-gave c = λ link sent behind command. gave-broken link sent.given c.in-Broken.tag c.in-Broken.place (sym c.in-Broken.is ∙ behind.got_is)
+
+pub returns-in-Raw-clause-gave : goal.returns-in-Raw-clause-gave
+returns-in-Raw-clause-gave c = λ link sent behind command. gave-raw link sent.given (sym c.in-Raw.is ∙ behind.got_is)

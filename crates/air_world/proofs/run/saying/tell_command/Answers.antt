@@ -1,5 +1,5 @@
 use Rattle.std.proofs.Common.{List, subst}
-use Rattle.air_world.specs.laws.SayingLaws.{missed-more}
+use Rattle.air_world.proofs.Saying.{missed-more}
 use Rattle.report_lines.specs.ReportLine.{ReportLine}
 use Rattle.air_world.proofs.run.saying.tell_command.Goals as goal
 

@@ -8,5 +8,5 @@ use Rattle.decode_lines.proofs.answer.Rooms.answer_heard.Goals as goal
 pub returns : goal.returns
 returns c =
     let same = ap (λ (b : BitString). b.items) c.copy_to.ensures in
-    let right = heard_right c.args.code c.args.trext c.args.expect.now c.args.levels.now _ c.receive_to.new.received same c.receive_to.ensures.received in
-    on_ok_weaker c.push_received.result (λ line. record { answer = heard c.receive_to.new.received; right = right; line = line }) c.push_received.ensures
+    let right = heard_right c.args.code c.args.trext c.args.expect.now c.args.levels.now _ c.receive.new.received same c.receive.ensures.received in
+    on_ok_weaker c.push_received.result (λ line. record { answer = heard c.receive.new.received; right = right; line = line }) c.push_received.ensures

@@ -1,30 +1,23 @@
 -- Each word is that of its group of digits.
-use Rattle.std.proofs.Common.{◌≡◌, ◌<◌, ◌≤◌, ◌/◌, length, arith, ap, ◌∙◌, sym, subst}
+use Rattle.std.proofs.Common.{◌≡◌, ◌<◌, ◌/◌, List, ℕ, length, get_or, arith, ap, ◌∙◌, sym, subst}
 use Rattle.std.specs.List.{AllPass}
-use Rattle.std.proofs.lemmas.List.{length-set, length-take-le}
+use Rattle.std.proofs.lemmas.List.{length-set}
 use Rattle.text_fields.specs.WordLists.{is_upper_hex_digit, words_of_digits}
-use Rattle.text_fields.proofs.Groups.{group_of, group_passes}
+use Rattle.text_fields.proofs.Groups.{group_passes}
 use Rattle.text_fields.proofs.WordDigits.{digits_upper, group_word, word_step, words_done, words_length}
 use Rattle.text_fields.proofs.word_lists.Words.write_to.Goals as goal
-
-pub slice_bounds-words-end : goal.slice_bounds-words-end
-slice_bounds-words-end c =
-    let size : length c.args.out.now ≡ length c.args.self.now = c.requires in
-    let fit : length c.args.out.now ≤ length c.as_chunks.result.0.now = omega (arith, size, ap length c.self.view_is, words_length c.self.inside.digits.now, c.as_chunks.ensures.front_len) in
-    sym (length-take-le (length c.args.out.now) c.as_chunks.result.0.now fit)
 
 pub bounds-words-at : goal.bounds-words-at
 bounds-words-at c =
     let size : length c.args.out.now ≡ length c.args.self.now = c.requires in
-    let fit : length c.args.out.now ≤ length c.as_chunks.result.0.now = omega (arith, size, ap length c.self.view_is, words_length c.self.inside.digits.now, c.as_chunks.ensures.front_len) in
-    omega (arith, length-take-le (length c.args.out.now) c.as_chunks.result.0.now fit, c.loop-at-test.true)
+    omega (arith, size, ap length c.self.view_is, words_length c.self.inside.digits.now, c.as_chunks.ensures.front_len, c.loop-at-test.true)
 
 pub word_of-requires : goal.word_of-requires
 word_of-requires c =
     let digits = c.self.inside.digits.now in
     let size : length c.args.out.now ≡ length c.args.self.now = c.requires in
     let there : c.loop-at.at < length digits / 4 = omega (arith, c.loop-at-test.true, size, ap length c.self.view_is, words_length digits) in
-    subst (λ group. AllPass is_upper_hex_digit group) (sym (group_of 4 digits c.as_chunks.result.0.now (length c.args.out.now) c.loop-at.at _ c.as_chunks.ensures.front c.loop-at-test.true))
+    subst (λ (groups : List (List ℕ)). AllPass is_upper_hex_digit (get_or groups c.loop-at.at _)) (sym c.as_chunks.ensures.front)
     (group_passes is_upper_hex_digit 4 digits (length digits / 4) c.loop-at.at _ there (digits_upper digits c.self.invariant))
 
 pub loop-at-preserved : goal.loop-at-preserved
@@ -33,8 +26,7 @@ loop-at-preserved c =
     let size : length c.args.out.now ≡ length c.args.self.now = c.requires in
     let there : c.loop-at.at < length digits / 4 = omega (arith, c.loop-at-test.true, size, ap length c.self.view_is, words_length digits) in
     let room : c.loop-at.at < length c.loop-at.out = omega (arith, c.loop-at.invariant.count, c.loop-at-test.true) in
-    let group = group_of 4 digits c.as_chunks.result.0.now (length c.args.out.now) c.loop-at.at _ c.as_chunks.ensures.front c.loop-at-test.true in
-    let here = sym (ap words_of_digits group) ∙ c.word_of.ensures in
+    let here = ap (λ (groups : List (List ℕ)). words_of_digits (get_or groups c.loop-at.at _)) (sym c.as_chunks.ensures.front) ∙ c.word_of.ensures in
     record {
       so_far = word_step digits c.args.self.now c.loop-at.out c.loop-at.at c.word_of.result room c.self.view_is
           (group_word digits (length digits / 4) c.loop-at.at c.word_of.result _ there here) c.loop-at.invariant.so_far;

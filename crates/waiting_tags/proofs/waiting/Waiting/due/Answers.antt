@@ -3,8 +3,8 @@ use Rattle.waiting_tags.proofs.SlotPlaces.{due_there}
 use Rattle.waiting_tags.specs.Waiting.{slot_place}
 use Rattle.waiting_tags.proofs.waiting.Waiting.due.Goals as goal
 
-pub returns-clause-due : goal.returns-clause-due
-returns-clause-due c =
+pub returns : goal.returns
+returns c =
     rw (← c.self.view_is, ← c.get-session.ensures.value)
-    (due_there c.self.inside.bases c.self.inside.tags c.get-session.result c.slot_place.result c.tag_on.result c.self.invariant.0 (rw c.get-session.ensures.value c.get-session.ensures.range)
-    (c.slot_place.ensures ∙ ap (λ n. slot_place (get_or c.self.inside.bases n 0) c.get-session.result 1) c.from.ensures) c.tag_on.ensures.on)
+    (due_there c.self.inside.bases c.self.inside.wheel c.get-session.result c.slot_place.result c.tag_on.result c.self.invariant.0 (rw c.get-session.ensures.value c.get-session.ensures.range)
+    (c.slot_place.ensures ∙ ap (λ n. slot_place (get_or c.self.inside.bases n 0) c.get-session.result 1) c.from.ensures) c.tag_on.ensures)

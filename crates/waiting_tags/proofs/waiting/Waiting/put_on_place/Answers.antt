@@ -7,7 +7,7 @@ use Rattle.waiting_tags.proofs.waiting.Waiting.put_on_place.Goals as goal
 
 pub returns-in-Waits-clause-participations : goal.returns-in-Waits-clause-participations
 returns-in-Waits-clause-participations c =
-    let on : OnPlaces c.args.self.now = record { bases = c.self.inside.bases; places = c.self.inside.tags; are = c.self.invariant.0; same = c.self.view_is } in
+    let on : OnPlaces c.args.self.now = record { bases = c.self.inside.bases; places = c.self.inside.wheel; are = c.self.invariant.0; same = c.self.view_is } in
     let session = c.in-Waits.session in
     let slot = c.in-Waits.slot in
     let range : IsLegalParticipation (Some (Waits session slot)) = subst (λ (p : Participation). IsLegalParticipation (Some p)) c.in-Waits.is c.requires.legal in
@@ -18,26 +18,26 @@ returns-in-Waits-clause-participations c =
 pub returns-in-Waits-clause-slots : goal.returns-in-Waits-clause-slots
 returns-in-Waits-clause-slots c = are_slots c.self.inside.bases c.put.new.self _ refl
 
-pub returns-then-place-eq-CALLED-clause-participations : goal.returns-then-place-eq-CALLED-clause-participations
-returns-then-place-eq-CALLED-clause-participations c =
-    let on : OnPlaces c.args.self.now = record { bases = c.self.inside.bases; places = c.self.inside.tags; are = c.self.invariant.0; same = c.self.view_is } in
-    rw c.in-Called.is (called_again c.args.self.now on c.args.number c.place_number-place.result c.place_number-place.ensures.stands c.if-place-eq-CALLED.true)
+pub returns-then-contains-clause-participations : goal.returns-then-contains-clause-participations
+returns-then-contains-clause-participations c =
+    let on : OnPlaces c.args.self.now = record { bases = c.self.inside.bases; places = c.self.inside.wheel; are = c.self.invariant.0; same = c.self.view_is } in
+    rw c.in-Called.is (called_again c.self.inside.called c.args.self.now on c.args.number c.self.invariant.1 (c.contains.ensures.0 c.if-contains.true))
 
-pub returns-then-place-eq-CALLED-clause-slots : goal.returns-then-place-eq-CALLED-clause-slots
-returns-then-place-eq-CALLED-clause-slots c = are_slots c.self.inside.bases c.self.inside.tags c.args.self.now c.self.view_is
+pub returns-then-contains-clause-slots : goal.returns-then-contains-clause-slots
+returns-then-contains-clause-slots c = are_slots c.self.inside.bases c.self.inside.wheel c.args.self.now c.self.view_is
 
-pub returns-else-place-eq-CALLED-clause-participations : goal.returns-else-place-eq-CALLED-clause-participations
-returns-else-place-eq-CALLED-clause-participations c =
-    let on : OnPlaces c.args.self.now = record { bases = c.self.inside.bases; places = c.self.inside.tags; are = c.self.invariant.0; same = c.self.view_is } in
+pub returns-else-contains-clause-participations : goal.returns-else-contains-clause-participations
+returns-else-contains-clause-participations c =
+    let on : OnPlaces c.args.self.now = record { bases = c.self.inside.bases; places = c.self.inside.wheel; are = c.self.invariant.0; same = c.self.view_is } in
     rw c.in-Called.is (put_called c.args.self.now on c.put-in-Called.new.self c.args.number c.put-in-Called.ensures)
 
-pub returns-else-place-eq-CALLED-clause-slots : goal.returns-else-place-eq-CALLED-clause-slots
-returns-else-place-eq-CALLED-clause-slots c = are_slots c.self.inside.bases c.put-in-Called.new.self _ refl
+pub returns-else-contains-clause-slots : goal.returns-else-contains-clause-slots
+returns-else-contains-clause-slots c = are_slots c.self.inside.bases c.put-in-Called.new.self _ refl
 
 pub invariant_of-self-in-Called : goal.invariant_of-self-in-Called
 invariant_of-self-in-Called c = (
   c.self.invariant.0,
   rw c.put-in-Called.ensures
-      (called_placed c.self.inside.called c.insert.new.self c.self.inside.tags c.args.number c.self.invariant.1
-      (rw (length-participations c.self.inside.bases c.self.inside.tags c.args.self.now c.self.view_is) c.requires.number) c.insert.ensures.there c.insert.ensures.others),
+      (called_placed c.self.inside.called c.insert.new.self c.self.inside.wheel c.args.number c.self.invariant.1
+      (rw (length-participations c.self.inside.bases c.self.inside.wheel c.args.self.now c.self.view_is) c.requires.number) c.insert.ensures.there c.insert.ensures.others),
 )

@@ -1,0 +1,258 @@
+-- The list lines of an audited trace are what is received of the levels before them.
+use Rattle.std.proofs.Common.{◌≡◌, ℕ, ◌+◌, inl, inr, Bool, true, false, List, [], ◌∷◌, ◌++◌, Option, Some, None, codes, arith, refl, sym, ap, ◌∙◌, subst, length, append_assoc}
+use Rattle.std.proofs.lemmas.List.{append-nil}
+use Rattle.air_events.specs.declared.Entry.{Entry}
+use Rattle.command_grammar.specs.Commands.{IsLegalCommand}
+use Rattle.command_grammar.specs.declared.commands.Command.{Command}
+use Rattle.command_grammar.specs.declared.commands.Command.TheVariants as commands
+use Rattle.line_codes.specs.Codes.{table_of}
+use Rattle.pie_line.specs.Link.{LinkValue, blf_of}
+use Rattle.reply_grammar.specs.Reception.{Reception, no_stream, whole_reply, no_such_reply}
+use Rattle.reply_grammar.specs.declared.expected.Expect.TheVariants as expects
+use Rattle.reply_grammar.specs.declared.expected.Received.TheVariants.{Whole}
+use Rattle.reply_grammar.specs.declared.expected.Reply.TheVariants as replies
+use Rattle.reply_wire.specs.Received.{IsReceived}
+use Rattle.tag_machine.specs.Exchange.{AreLegalTags, outcome_unless, outcomes_from, tags_after, tag_after_events, is_missed}
+use Rattle.tag_machine.specs.Step.{step}
+use Rattle.tag_machine.specs.TagValue.{TagValue, StateValue, BodyValue, IsLegalTag}
+use Rattle.air_model.specs.Channel.{Given, heard_levels}
+use Rattle.air_model.specs.Past.{Start, Record, Item, exchanged, exchanges_in, next_entry, tags_behind, tags_behind_from}
+use Rattle.air_model.specs.Reception.{IsGivenFor, reception_of}
+use Rattle.air_model.specs.laws.ReceptionLaws.{whole_is_heard}
+use Rattle.report_lines.specs.ReadLines.{first_field, text_of}
+use Rattle.report_lines.specs.ReportLine.{BlfLine, RxLine}
+use Rattle.runs.proofs.Answering.{TagLaws, given-in-expected}
+use Rattle.runs.proofs.MadeRecords.{made-read}
+use Rattle.runs.specs.Listing.{Listed, listed_by, listed_from, reception_of_ack}
+use Rattle.runs.specs.NextItem.{expectation_of}
+use Rattle.runs.specs.laws.Replies.{events-legal}
+use Rattle.runs.specs.laws.Tags.{tags-exchanged}
+use Rattle.air_audit.specs.AuditedTrace.{IsAudited}
+use Rattle.air_audit.specs.ReceivedLists.{IsReceivedBefore, ListsWhatIsReceived}
+use Rattle.air_audit.specs.Standing.{Standing, begun, between, sending, listing, telling, ended, GoesOn, Leads, behind_exchange, behind_told, next_tag, record_of, rx_line}
+use Rattle.air_audit.specs.TraceLines.{Sends}
+use Rattle.air_audit.proofs.OneStanding.{tells-word, tx-word}
+use Rattle.air_audit.proofs.Received.{made-again}
+use Rattle.air_audit.proofs.Words.{differ, line-word, list-rx, list-tags, list-tx, list-unjudged, word-text}
+
+-- the laws of tags that this goes by
+abbrev pub HeardLegal : Type 0
+HeardLegal = (command : Command) (state : StateValue) (body : BodyValue) → IsLegalCommand command → IsLegalTag (record { state = state; body = body })
+    → IsLegalTag (step command state body).tag
+
+pub record Laws : Type 0 where
+  pub tags : TagLaws
+  pub heard : HeardLegal
+
+outcome-legal : (misses : Bool) (command : Command) (tag : TagValue) → HeardLegal → IsLegalCommand command → IsLegalTag tag → IsLegalTag (outcome_unless misses command tag).tag
+outcome-legal true command tag heard legal is = is
+outcome-legal false command tag heard legal is = heard command tag.state tag.body legal is
+
+outcomes-legal : (number : ℕ) (command : Command) (entry : Entry) (tags : List TagValue) → Laws → IsLegalCommand command → AreLegalTags tags
+    → AreLegalTags (tags_after (outcomes_from number command entry tags))
+outcomes-legal number command entry [] laws legal are = tt
+outcomes-legal number command entry (tag ∷ tags) laws legal are = (
+  outcome-legal (is_missed number entry) command (tag_after_events number entry.events tag) laws.heard legal (events-legal number entry.events tag laws.tags.stays are.0),
+  outcomes-legal (number + 1) command entry tags laws legal are.1,
+)
+
+first-legal : (number : ℕ) (starts : List TagValue) → AreLegalTags starts → AreLegalTags (tags_behind_from number starts [])
+first-legal number [] are = tt
+first-legal number (start ∷ starts) are = (are.0, first-legal (number + 1) starts are.1)
+
+-- a record whose tx line stands last
+record IsSentLast (start : Start) (front : List (List ℕ)) (past : List Item) (sent : Record) : Type 0 where
+  earlier : List (List ℕ)
+  tx : List ℕ
+  front_is : front ≡ earlier ++ tx ∷ []
+  sends : Sends (exchanges_in past + 1) tx sent.command
+  made : sent ≡ record_of start past sent.command
+  legal : AreLegalTags (tags_behind start past)
+
+-- an exchange that lists this, whose lines stand last
+record IsHeardLast (link : LinkValue) (front : List (List ℕ)) (listed : Listed) : Type 0 where
+  earlier : List (List ℕ)
+  tx : List ℕ
+  rx : List ℕ
+  front_is : front ≡ earlier ++ tx ∷ rx ∷ []
+  exchange : ℕ
+  rn : ℕ
+  count : ℕ
+  levels : List Bool
+  sends : Sends exchange tx (commands.Ack rn)
+  heard : rx ≡ text_of (RxLine exchange count levels)
+  received : IsReceived (table_of link.code) link.trext expects.Epc levels (Whole (replies.Epc listed.pc listed.epc))
+
+-- what is known where a trace stands behind these lines
+abbrev IsKnown : Start → List (List ℕ) → Standing → Type 0
+IsKnown start front begun = AreLegalTags (tags_behind start [])
+IsKnown start front (between past) = AreLegalTags (tags_behind start past)
+IsKnown start front (sending past sent) = IsSentLast start front past sent
+IsKnown start front (listing past listed) = AreLegalTags (tags_behind start past) × IsHeardLast start.link front listed
+IsKnown start front (telling past told) = Unit {0}
+IsKnown start front (ended past) = Unit {0}
+
+-- what is listed came whole in reply to an ACK
+record IsListed (sent : Record) (listed : Listed) (command : Command) : Type 0 where
+  rn : ℕ
+  ack : command ≡ commands.Ack rn
+  whole : reception_of expects.Epc sent.given ≡ whole_reply (replies.Epc listed.pc listed.epc)
+
+listed-whole : (sent : Record) (listed : Listed) (others : List Listed) (reception : Reception) → listed ∷ others ≡ listed_from sent reception
+    → reception ≡ whole_reply (replies.Epc listed.pc listed.epc)
+listed-whole sent listed others no_stream same = absurd (cc)
+listed-whole sent listed others (whole_reply (replies.Epc pc epc)) same =
+    let one : listed ≡ record { round = sent.round; slot = sent.slot; pc = pc; epc = epc } = cc in
+    let first : pc ≡ listed.pc = sym (ap (λ (l : Listed). l.pc) one) in
+    let second : epc ≡ listed.epc = sym (ap (λ (l : Listed). l.epc) one) in
+    ap (λ p. whole_reply (replies.Epc p epc)) first ∙ ap (λ (e : List ℕ). whole_reply (replies.Epc listed.pc e)) second
+listed-whole sent listed others (whole_reply (replies.Rn16 rn)) same = absurd (cc)
+listed-whole sent listed others (whole_reply (replies.Handle rn)) same = absurd (cc)
+listed-whole sent listed others (whole_reply (replies.Words words)) same = absurd (cc)
+listed-whole sent listed others (whole_reply replies.Header) same = absurd (cc)
+listed-whole sent listed others (whole_reply (replies.Error code)) same = absurd (cc)
+listed-whole sent listed others no_such_reply same = absurd (cc)
+
+listed-by-ack : (sent : Record) (listed : Listed) (others : List Listed) (command : Command) → listed ∷ others ≡ listed_from sent (reception_of_ack sent command)
+    → IsListed sent listed command
+listed-by-ack sent listed others (commands.Ack rn) same =
+    record { rn = rn; ack = refl; whole = listed-whole sent listed others (reception_of expects.Epc sent.given) same }
+listed-by-ack sent listed others command same = absurd (cc)
+
+-- the tags behind an exchange are legal
+behind-legal : Laws → (start : Start) (front : List (List ℕ)) (past : List Item) (sent : Record) → IsSentLast start front past sent
+    → AreLegalTags (tags_behind start (exchanged sent ∷ past))
+behind-legal laws start front past sent last =
+    subst AreLegalTags (sym (tags-exchanged start sent past))
+    (outcomes-legal 0 sent.command sent.entry (tags_behind start past) laws last.sends.frame.spells.legal last.legal)
+
+-- what is listed is received of the levels that are heard
+heard-whole : Laws → (start : Start) (front : List (List ℕ)) (past : List Item) (sent : Record) (listed : Listed) → IsSentLast start front past sent
+    → (is : IsListed sent listed sent.command)
+    → IsReceived (table_of start.link.code) start.link.trext expects.Epc (heard_levels start.link sent.given) (Whole (replies.Epc listed.pc listed.epc))
+heard-whole laws start front past sent listed last is =
+    let expected : IsGivenFor expects.Epc sent.given =
+    subst (λ (g : Given). IsGivenFor expects.Epc g) (sym (ap (λ (r : Record). r.given) last.made))
+    (given-in-expected laws.tags start sent.command expects.Epc (next_entry start past) (tags_behind start past)
+    (ap (λ (c : Command). expectation_of c) is.ack) last.legal) in
+    whole_is_heard start.link expects.Epc sent.given (replies.Epc listed.pc listed.epc) expected
+    (made-read start sent past (made-again start past sent last.made)) is.whole
+
+-- behind the rx line
+heard-known : Laws → (start : Start) (front : List (List ℕ)) (past : List Item) (sent : Record) (line : List ℕ) (all : List Listed) → IsSentLast start front past sent
+    → line ≡ text_of (rx_line start sent) → all ≡ listed_by sent → IsKnown start (front ++ line ∷ []) (behind_exchange (exchanged sent ∷ past) all)
+heard-known laws start front past sent line [] last text are = behind-legal laws start front past sent last
+heard-known laws start front past sent line (listed ∷ others) last text are =
+    let is = listed-by-ack sent listed others sent.command are in
+    let number : sent.exchange ≡ exchanges_in past + 1 = ap (λ (r : Record). r.exchange) last.made in (
+      behind-legal laws start front past sent last,
+      record {
+        earlier = last.earlier;
+        tx = last.tx;
+        rx = line;
+        front_is = ap (λ (f : List (List ℕ)). f ++ line ∷ []) last.front_is ∙ append_assoc last.earlier (last.tx ∷ []) (line ∷ []);
+        exchange = sent.exchange;
+        rn = is.rn;
+        count = length sent.replies;
+        levels = heard_levels start.link sent.given;
+        sends =
+            subst (λ n. Sends n last.tx (commands.Ack is.rn)) (sym number)
+            (subst (λ (c : Command). Sends (exchanges_in past + 1) last.tx c) is.ack last.sends);
+        heard = text;
+        received = heard-whole laws start front past sent listed last is;
+      },
+    )
+
+told-known : (start : Start) (front : List (List ℕ)) (past : List Item) (told : ℕ) (next : Option TagValue) → IsKnown start front (behind_told past told next)
+told-known start front past told None = tt
+told-known start front past told (Some tag) = tt
+
+-- what is known behind one line more
+known-next : Laws → (start : Start) (front : List (List ℕ)) (from : Standing) (line : List ℕ) (to : Standing) → IsKnown start front from → GoesOn start from line to
+    → IsKnown start (front ++ line ∷ []) to
+known-next laws start front begun line to known goes = subst (λ (s : Standing). IsKnown start (front ++ line ∷ []) s) (sym goes.leads) known
+known-next laws start front (between past) line to known (inl goes) =
+    subst (λ (s : Standing). IsKnown start (front ++ line ∷ []) s) (sym goes.leads)
+    (record { earlier = front; tx = line; front_is = refl; sends = goes.sends; made = refl; legal = known })
+known-next laws start front (between past) line to known (inr (inl goes)) = subst (λ (s : Standing). IsKnown start (front ++ line ∷ []) s) (sym goes.leads) known
+known-next laws start front (between past) line to known (inr (inr goes)) =
+    subst (λ (s : Standing). IsKnown start (front ++ line ∷ []) s) (sym goes.leads) (told-known start (front ++ line ∷ []) past 0 (next_tag start past 0))
+known-next laws start front (sending past sent) line to known goes =
+    subst (λ (s : Standing). IsKnown start (front ++ line ∷ []) s) (sym goes.leads)
+    (heard-known laws start front past sent line (listed_by sent) known goes.text refl)
+known-next laws start front (listing past listed) line to known goes = subst (λ (s : Standing). IsKnown start (front ++ line ∷ []) s) (sym goes.leads) known.0
+known-next laws start front (telling past told) line to known goes =
+    subst (λ (s : Standing). IsKnown start (front ++ line ∷ []) s) (sym goes.leads) (told-known start (front ++ line ∷ []) past told (next_tag start past told))
+known-next laws start front (ended past) line to known goes = absurd goes
+
+-- the word of the first line is another
+no-blf : (word : List ℕ) → word ≡ codes "list" → word ≡ codes "blf" → ⊥
+no-blf word is other = differ (codes "list") (codes "blf") 0 (λ same. omega arith) (sym is ∙ other)
+
+no-word : [] ≡ codes "list" → ⊥
+no-word is = cc
+
+-- a list line that may follow is what is received of the levels before it
+list-known : (start : Start) (front : List (List ℕ)) (from : Standing) (line : List ℕ) (to : Standing) → IsKnown start front from → GoesOn start from line to
+    → first_field line ≡ codes "list" → IsReceivedBefore start.link front line
+list-known start front begun line to known goes word =
+    absurd (no-blf (first_field line) word
+    (ap first_field goes.text ∙ line-word (BlfLine (blf_of start.link).0 (blf_of start.link).1) (codes "blf") _ refl (word-text 98 (codes "lf") refl)))
+list-known start front (between past) line to known (inl goes) word = absurd (list-tx (first_field line) word (tx-word line goes.sends.tx))
+list-known start front (between past) line to known (inr (inl goes)) word = absurd (list-unjudged (first_field line) word goes.unjudged)
+list-known start front (between past) line to known (inr (inr goes)) word = absurd (list-tags (first_field line) word (tells-word start past 0 line to goes))
+list-known start front (sending past sent) line to known goes word =
+    absurd (list-rx (first_field line) word (ap first_field goes.text ∙ line-word (rx_line start sent) (codes "rx") _ refl (word-text 114 (codes "x") refl)))
+list-known start front (listing past listed) line to known goes word =
+    let last = known.1 in record {
+      earlier = last.earlier;
+      tx = last.tx;
+      rx = last.rx;
+      before_is = last.front_is;
+      is = record {
+        exchange = last.exchange;
+        rn = last.rn;
+        count = last.count;
+        levels = last.levels;
+        listed = listed;
+        sends = last.sends;
+        heard = last.heard;
+        received = last.received;
+        text = goes.text;
+      };
+    }
+list-known start front (telling past told) line to known goes word = absurd (list-tags (first_field line) word (tells-word start past told line to goes))
+list-known start front (ended past) line to known goes word = absurd goes
+
+-- a line of a trace, by the lines before it and behind it
+record IsLine (lines before : List (List ℕ)) (line : List ℕ) : Type 0 where
+  behind : List (List ℕ)
+  cut : lines ++ [] ∷ [] ≡ before ++ line ∷ behind
+  word : first_field line ≡ codes "list"
+
+-- so does each list line of lines that follow one another
+lists-received : Laws → (start : Start) (front : List (List ℕ)) (from : Standing) (lines : List (List ℕ)) (to : Standing) (before : List (List ℕ)) (line : List ℕ)
+    → IsKnown start front from → Leads start from lines to → IsLine lines before line → IsReceivedBefore start.link (front ++ before) line
+lists-received laws start front from [] to [] line known leads is =
+    let none : line ≡ [] = let same = is.cut in cc in absurd (no-word (sym (ap first_field none) ∙ is.word))
+lists-received laws start front from [] to (first ∷ []) line known leads is = absurd (let same = is.cut in cc)
+lists-received laws start front from [] to (first ∷ second ∷ more) line known leads is = absurd (let same = is.cut in cc)
+lists-received laws start front from (first ∷ lines) to [] line known leads is =
+    let one : first ≡ line = let same = is.cut in cc in
+    subst (λ (f : List (List ℕ)). IsReceivedBefore start.link f line) (sym (append-nil front))
+    (list-known start front from line leads.0 known (subst (λ (l : List ℕ). GoesOn start from l leads.0) one leads.1) is.word)
+lists-received laws start front from (first ∷ lines) to (other ∷ before) line known leads is =
+    let one : first ≡ other = let same = is.cut in cc in
+    let rest : lines ++ [] ∷ [] ≡ before ++ line ∷ is.behind = let same = is.cut in cc in
+    let longer : (front ++ first ∷ []) ++ before ≡ front ++ other ∷ before =
+    append_assoc front (first ∷ []) before ∙ ap (λ (l : List ℕ). front ++ l ∷ before) one in
+    subst (λ (f : List (List ℕ)). IsReceivedBefore start.link f line) longer
+    (lists-received laws start (front ++ first ∷ []) leads.0 lines to before line (known-next laws start front from first leads.0 known leads.1) leads.2
+    (record { behind = is.behind; cut = rest; word = is.word }))
+
+-- ... and each of an audited trace
+pub audited-lists : Laws → (start : Start) (bytes : List ℕ) → AreLegalTags start.tags → IsAudited start bytes → ListsWhatIsReceived start.link bytes
+audited-lists laws start bytes legal audited = λ before line behind cut word.
+    let trace = audited.1 in
+    lists-received laws start [] begun trace.lines _ before line (first-legal 0 start.tags legal) trace.leads
+    (record { behind = behind; cut = sym trace.cut ∙ cut; word = word })

@@ -1,0 +1,16 @@
+use Rattle.std.proofs.Common.{◌≡◌, List, ◌++◌, map, take}
+use Rattle.air_world.specs.Saying.{AnswersCommand}
+use Rattle.air_world.specs.Telling.{Passes}
+use Rattle.report_lines.specs.ReportLine.{ReportLine}
+use Rattle.runs.specs.Said.{answer_line}
+use Rattle.runs.specs.laws.Replies.{AreReplies}
+use Rattle.tag_machine.specs.Exchange.{Replied}
+use Rattle.tag_population.specs.Answers.{answers_of}
+use Rattle.air_world.proofs.run.saying.tell_answers.Given as goal
+
+abbrev pub invariant-loop-place : goal.invariant-loop-place
+invariant-loop-place g l = record {
+  room : l.bits.capacity ≡ l.fn.bits.capacity;
+  told : (replies : List Replied) (before : List ReportLine) → l.answers.items ≡ answers_of replies → AreReplies (AnswersCommand l.command) replies
+      → Passes g.R.Listener.hears before l.fn.report l.report (before ++ map (answer_line l.exchange) (take l.place replies));
+}

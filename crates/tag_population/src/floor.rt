@@ -1,0 +1,210 @@
+//! The tags of a population in their seats, with those that wait for their slots.
+ghost use Rattle.std.specs.Prelude.{◌≡◌, ◌+◌, ◌<◌, ◌≤◌, ◌++◌, Some, map, length, vec_len, get_or, IfOk};
+ghost use Rattle.std.specs.Borrow.{sem};
+ghost use Rattle.air_events.specs.TagNumbers.{most_tags};
+ghost use Rattle.tag_machine.specs.Events.{tag_after_event};
+ghost use Rattle.tag_machine.specs.Exchange.{AreLegalTags, outcome_unless, reply_of};
+ghost use Rattle.tag_machine.specs.Hearing.{tag_value_of};
+ghost use Rattle.tag_machine.specs.TagValue.{IsLegalTag};
+ghost use Rattle.tag_population.specs.Answers.{answers_of};
+ghost use Rattle.tag_population.specs.Floor.{became, calling, counted_floor, no_tag, participations_of, seats_written_back, steps_back};
+ghost use Rattle.tag_population.specs.Lent.{KeepsFloor};
+ghost use Rattle.waiting_tags.specs.Waiting.{IsDue, IsNextCalled, participation_at, waits_in};
+
+use crate::answers::Answers;
+use crate::seat::Seat;
+use air_events::TagNumber;
+use bit_strings::{OutOfMemory, Session};
+use command_grammar::Command;
+use std::alloc::Global;
+use std::marker::Model;
+use std::sync::ledger::Ledger;
+use tag_machine::{AnyTag, Event, Steps};
+use waiting_tags::{Participation, Waiting};
+
+/// Tags in seats. A tag that waits for its slot isn't counted down one by one: its slot counter is the one that `waiting`
+/// says, and is written back into its seat before anything else is done to it.
+///
+/// A contract sees the tags, and how each takes part.
+#[derive(Drop)]
+pub(crate) struct Floor {
+    seats: Vec<Seat>,
+    waiting: Waiting,
+}
+
+impl Model for Floor {
+    ghost use Rattle.tag_population.specs.Floor.{AreSeated, FloorValue, tags_of};
+
+    ghost Value = { FloorValue };
+
+    ghost view = { λ a. record { tags = tags_of a.waiting a.seats.items; parts = a.waiting } };
+
+    ghost invariant = { λ a. AreSeated a.waiting a.seats.items };
+}
+
+impl Floor {
+    /// These tags, in this order, each of which takes part as its state says.
+    pub(crate) fn new(alloc: Global, tags: Vec<AnyTag>) -> Result<Floor, OutOfMemory>
+        requires few { vec_len tags ≤ most_tags }
+        ensures { IfOk result (λ floor. (floor.tags ≡ map tag_value_of tags.items) × (floor.parts ≡ participations_of floor.tags)) }
+    {
+        let seats = seats_of(alloc, tags)?;
+        let mut waiting = Waiting::new(alloc, seats.len())?;
+        settle(seats.as_slice(), &mut waiting);
+        Ok(Floor { seats, waiting })
+    }
+
+    /// How many tags there are.
+    pub(crate) fn len(&self) -> usize
+        ensures count { result ≡ length self.now.tags }
+        ensures whole { length self.now.parts ≡ length self.now.tags }
+        ensures few { length self.now.tags ≤ most_tags }
+        ensures legal { AreLegalTags self.now.tags }
+    {
+        self.seats.len()
+    }
+
+    /// The tag with this number, with its slot counter written back.
+    pub(crate) fn tag<L: Ledger>(&mut self, number: TagNumber, steps: &mut Steps<L>) -> &AnyTag
+        requires { number < length self.old.tags }
+        ensures* same { sem 𝓛 (KeepsFloor self.entry) }
+        ensures value { tag_value_of result.now ≡ get_or self.old.tags number no_tag }
+        ensures legal { IsLegalTag (tag_value_of result.now) }
+        ensures counted { steps.new ≤ steps.old + 1 }
+    {
+        write_back(self.seats.as_mut_slice(), &self.waiting, number, steps);
+        let at = number.index();
+        self.seats[at].tag()
+    }
+
+    /// Lets an event befall the tag with this number.
+    pub(crate) fn befall<L: Ledger>(
+        &mut self,
+        number: TagNumber,
+        event: Event,
+        steps: &mut Steps<L>,
+    )
+        requires { number < length self.old.tags }
+        ensures floor { self.new ≡ became self.old number (tag_after_event event (get_or self.old.tags number no_tag).state (get_or self.old.tags number no_tag).body) }
+        ensures counted { steps.new ≤ steps.old + 1 }
+    {
+        write_back(self.seats.as_mut_slice(), &self.waiting, number, steps);
+        let at = number.index();
+        let seat = &mut self.seats[at];
+        seat.befall(event);
+        let participation = seat.participation();
+        self.waiting.put(number, participation);
+    }
+
+    /// Lets the tag with this number hear a command, unless it misses it, and has its answer kept.
+    pub(crate) fn hear<L: Ledger>(
+        &mut self,
+        number: TagNumber,
+        misses: bool,
+        command: &Command,
+        answers: &mut Answers,
+        steps: &mut Steps<L>,
+    )
+        requires number { number < length self.old.tags }
+        requires room { length answers.old.items < answers.old.tags }
+        ensures floor { self.new ≡ became self.old number (outcome_unless misses command.now (get_or self.old.tags number no_tag)).tag }
+        ensures answers { answers.new ≡ record answers.old { items = answers.old.items ++ answers_of (reply_of number (outcome_unless misses command.now (get_or self.old.tags number no_tag)).answer) } }
+        ensures counted { steps.new ≤ steps.old + 1 + steps_back (participation_at self.old.parts number) }
+    {
+        write_back(self.seats.as_mut_slice(), &self.waiting, number, steps);
+        let at = number.index();
+        let seat = &mut self.seats[at];
+        seat.hear(number, misses, command, answers, steps);
+        let participation = seat.participation();
+        self.waiting.put(number, participation);
+    }
+
+    /// Calls the tag with this number to the next command.
+    pub(crate) fn call<L: Ledger>(&mut self, number: TagNumber, steps: &mut Steps<L>)
+        requires { number < length self.old.tags }
+        ensures floor { self.new ≡ calling self.old number }
+        ensures counted { steps.new ≤ steps.old + steps_back (participation_at self.old.parts number) }
+    {
+        write_back(self.seats.as_mut_slice(), &self.waiting, number, steps);
+        self.waiting.put(number, Some(Participation::Called));
+    }
+
+    /// Counts the slot counters of all tags down that wait in a session.
+    pub(crate) fn count_down(&mut self, session: Session)
+        ensures { self.new ≡ counted_floor session self.old }
+    {
+        self.waiting.count_down(session);
+    }
+
+    /// Whether a tag waits in a round of this session.
+    pub(crate) fn waits_in(&self, number: TagNumber, session: Session) -> bool
+        requires { number < length self.now.tags }
+        ensures { result ≡ waits_in session (participation_at self.now.parts number) }
+    {
+        self.waiting.waits_in(number, session)
+    }
+
+    /// A tag whose slot comes next in a session; none exactly where there is no such tag.
+    pub(crate) fn due(&self, session: Session) -> Option<TagNumber>
+        ensures { IsDue self.now.parts session result }
+    {
+        self.waiting.due(session)
+    }
+
+    /// The first tag that is called, in the order of their numbers.
+    pub(crate) fn first_called(&self) -> Option<TagNumber>
+        ensures { IsNextCalled self.now.parts 0 result }
+    {
+        self.waiting.first_called()
+    }
+
+    /// The next tag behind this one that is called.
+    pub(crate) fn called_after(&self, number: TagNumber) -> Option<TagNumber>
+        requires { number < length self.now.tags }
+        ensures { IsNextCalled self.now.parts (number + 1) result }
+    {
+        self.waiting.called_after(number)
+    }
+}
+
+/// Seats for these tags, in this order.
+fn seats_of(alloc: Global, tags: Vec<AnyTag>) -> Result<Vec<Seat>, OutOfMemory>
+    ensures items { IfOk result (λ seats. seats.items ≡ map tag_value_of tags.items) }
+    ensures legal { IfOk result (λ seats. AreLegalTags seats.items) }
+{
+    let mut seats = Vec::with_capacity(alloc, tags.len())?;
+    for tag in tags {
+        seats.push_reserved(Seat::new(tag));
+    }
+    Ok(seats)
+}
+
+/// Lets each tag take part as its state says.
+fn settle(seats: &[Seat], waiting: &mut Waiting)
+    requires whole { length waiting.old ≡ length seats.now }
+    requires few { length seats.now ≤ most_tags }
+    ensures { waiting.new ≡ participations_of seats.now }
+{
+    for at in 0..seats.len() {
+        waiting.put(TagNumber::from_index(at), seats[at].participation());
+    }
+}
+
+/// Writes the slot counter of a tag that waits back into its seat.
+#[inline(always)]
+fn write_back<L: Ledger>(
+    seats: &mut [Seat],
+    waiting: &Waiting,
+    number: TagNumber,
+    steps: &mut Steps<L>,
+)
+    requires whole { length waiting.now ≡ length seats.old }
+    requires number { number < length seats.old }
+    ensures seats { seats.new ≡ seats_written_back waiting.now number seats.old }
+    ensures counted { steps.new ≤ steps.old + steps_back (participation_at waiting.now number) }
+    ensures legal { AreLegalTags seats.old → AreLegalTags seats.new }
+{
+    if let Some(slot) = waiting.slot(number) {
+        seats[number.index()].set_slot(slot, steps);
+    }
+}

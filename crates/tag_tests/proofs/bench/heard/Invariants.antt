@@ -1,4 +1,0 @@
-use Rattle.tag_tests.proofs.bench.heard.Given as goal
-
-abbrev pub ghosts-hear_counted : goal.ghosts-hear_counted
-ghosts-hear_counted a = record { name = a.blank.name; parts = a.blank.parts }

@@ -1,4 +1,0 @@
-use Rattle.tag_tests.proofs.waiting.drawn_again.Given as goal
-
-abbrev pub ghosts-drawn_counted : goal.ghosts-drawn_counted
-ghosts-drawn_counted a = record { name = a.blank.name; parts = a.blank.parts }
