@@ -1,9 +1,10 @@
 #!/usr/bin/env python3
-"""Says of a faulty line what can be seen of it: fault.py FILE WORD 'fault LINE REASON'.
+"""Says in one line what the program didn't take, and what was wanted: fault.py FILE WORD SAID [PROGRAM].
 
-FILE is the input, WORD the first word of the program. It prints the line, its form, and what the reason means there; of `number` the first
-field that isn't of its form. A field is named only where it surely is the faulty one: the program alone decides, and names the line.
-The forms are those of docs/FORMATS.md; checks/rows holds them against each row of the tables that has a fault, and each that has none.
+FILE is the input, WORD the first word of the program, and SAID what it said: `fault LINE REASON`, or of audit `no LINE REASON`. Of a fault it tells the
+line, its form, and what the reason means there; of `number` the first field that isn't of its form. A field is named only where it surely is
+the faulty one: the program alone decides, and names the line. Of a `no` it tells what the tags and the channel account for (verdict.py); for that
+it asks PROGRAM. The forms are those of docs/FORMATS.md; checks/rows holds them against each row of the tables that has a fault, and each that has none.
 """
 
 import re
@@ -13,46 +14,44 @@ NUMBER = "0|[1-9][0-9]*"
 WORD = "[0-9A-F]{4}"
 
 
+class Field:
+    """What a field has to be: what is said of it, its pattern, how long it is at most, and the least and the most that its number is."""
+
+    def __init__(self, said, pattern, longest=None, least=None, most=None):
+        self.said, self.pattern, self.longest, self.least, self.most = said, pattern, longest, least, most
+
+    def holds(self, text):
+        is_short = self.longest is None or len(text) <= self.longest
+        return is_short and bool(re.fullmatch(self.pattern, text)) and (self.most is None or self.least <= int(text) <= self.most)
+
+
 def number(least, most):
-    return f"a number from {least:,} to {most:,}, without leading zeros", lambda it: bool(re.fullmatch(NUMBER, it)) and len(it) < 20 and least <= int(it) <= most
+    return Field(f"a number from {least:,} to {most:,}, without leading zeros", NUMBER, 19, least, most)
 
 
 def one_of(*names):
-    return " or ".join([", ".join(names[:-1]), names[-1]] if len(names) > 1 else names), lambda it: it in names
+    return Field(" or ".join([", ".join(names[:-1]), names[-1]] if len(names) > 1 else names), "|".join(names))
 
 
 def digits(kind, least, most):
     empty = ", or - for an empty list" if least == 0 else ""
     front = f"{least} to {most:,}" if least else f"at most {most:,}"
     said = f"{most if least == most else front} digits 0 and 1{empty}"
-    return said, lambda it: (least == 0 and it == "-") or bool(re.fullmatch("[01]+", it)) and max(least, 1) <= len(it) <= most
+    return Field(said, f"[01]{{{most}}}" if least == most else f"{'' if least else '-|'}[01]+", most)
 
 
 def words(least, most):
     empty = ", or - for an empty list" if least == 0 else ""
     said = f"{least} words" if least == most else f"{max(least, 1)} to {most} words"
     said = "one word" if least == most == 1 else said
-    return (
-        f"{said} of four upper-case hexadecimal digits{empty}",
-        lambda it: (least == 0 and it == "-") or bool(re.fullmatch(f"({WORD})+", it)) and max(least, 1) * 4 <= len(it) <= most * 4,
-    )
+    return Field(f"{said} of four upper-case hexadecimal digits{empty}", f"{'' if least else '-|'}(?:{WORD}){{{max(least, 1)},{most}}}")
 
 
 def matching(said, pattern):
-    return said, lambda it: bool(re.fullmatch(pattern, it))
+    return Field(said, pattern)
 
 
-def expect(it):
-    count = re.fullmatch(f"words-({NUMBER})-{WORD}", it)
-    return it in ("rn16", "epc", "handle") or bool(re.fullmatch(f"(same|any|header)-{WORD}", it)) or bool(count) and len(count[1]) < 4 and 1 <= int(count[1]) <= 255
-
-
-def rule(it):
-    step = re.fullmatch(f"float-({NUMBER})", it)
-    return it in ("fixed", "frame") or bool(step) and len(step[1]) < 20 and 100 <= int(step[1]) <= 500
-
-
-ANY = "any text", lambda it: True
+ANY = matching("any text", "[^\\n]*")
 FLAG = one_of("s1", "s2", "s3", "sl")
 LENGTH = number(0, 999_999)
 # What a field is, by its name; behind a form where it is another thing there.
@@ -60,11 +59,14 @@ FIELDS = {
     "TREXT": one_of("0", "1"),
     "LEVELS": digits("levels", 0, 132_000),
     "BITS": digits("bits", 0, 8_240),
-    "EXPECT": ("rn16, epc, handle, same-HHHH, words-N-HHHH with N from 1 to 255, any-HHHH or header-HHHH", expect),
+    "EXPECT": matching(
+        "rn16, epc, handle, same-HHHH, words-N-HHHH with N from 1 to 255, any-HHHH or header-HHHH",
+        f"rn16|epc|handle|(?:same|any|header)-{WORD}|words-(?:[1-9][0-9]?|1[0-9][0-9]|2[0-4][0-9]|25[0-5])-{WORD}",
+    ),
     "CODE": one_of("fm0", "m2", "m4", "m8"),
     "THRESHOLD": number(0, 255),
     "PER": number(1, 64),
-    "HEX": ("1 to 132,000 bytes of two hexadecimal digits", lambda it: bool(re.fullmatch("([0-9A-Fa-f]{2})+", it)) and len(it) <= 264_000),
+    "HEX": Field("1 to 132,000 bytes of two hexadecimal digits", "(?:[0-9A-Fa-f]{2})+", 264_000),
     "INTERVALS": LENGTH,
     "TEXT": ANY,
     "TARI": LENGTH,
@@ -93,7 +95,7 @@ FIELDS = {
     "SESSION": number(0, 3),
     "Q": number(0, 15),
     "C": number(100, 500),
-    "RULE": ("fixed, frame, or float- and a number from 100 to 500, without leading zeros", rule),
+    "RULE": matching("fixed, frame, or float- and a number from 100 to 500, without leading zeros", "fixed|frame|float-(?:[1-4][0-9][0-9]|500)"),
     "N": number(2, 4_096),
     "SEVERAL": one_of("break", "capture"),
     "LIMIT": number(1, 70_000),
@@ -184,7 +186,7 @@ FORMS = {
     "probe": ["probe 1", TAG, *COMMANDS, "bits BITS", "event timeout", "event off", "event on", "event expire FLAG", "end"],
     "run": ["gen2 1", LINK, TAG, *STEPS, "round SEL SESSION TARGET Q C LIMIT", *OPERATIONS, "end"],
     # (a scenario of version 2)
-    "run 2": ["gen2 2", LINK, "default SEVERAL", TAG, f"copies N {TAG.removeprefix('tag ')}", *STEPS, "round SEL SESSION TARGET Q RULE LIMIT", *OPERATIONS, "end"],
+    "run 2": ["gen2 2", LINK, "default SEVERAL", TAG, f"copies N {TAG[len('tag '):]}", *STEPS, "round SEL SESSION TARGET Q RULE LIMIT", *OPERATIONS, "end"],
 }
 REASONS = {
     "limit": "it is one tag, air line, step, operation or line of a probe too many",
@@ -225,9 +227,9 @@ def faulty_field(line, form):
         name = parts[min(at, len(parts) - 1)]
         if is_name(name):
             kind = begin.split(" ")[-1]
-            said, holds = FIELDS.get(f"{begin} {name}") or FIELDS.get(f"{kind} {name}") or FIELDS.get(f"{parts[0]} {name}") or FIELDS[name]
-            if not holds(field):
-                return name, field, said
+            wanted = FIELDS.get(f"{begin} {name}") or FIELDS.get(f"{kind} {name}") or FIELDS.get(f"{parts[0]} {name}") or FIELDS[name]
+            if not wanted.holds(field):
+                return name, field, wanted.said
     return None
 
 
@@ -306,12 +308,48 @@ def explanation(text, word, fault):
     return said
 
 
+def bytes_told(data):
+    """Gives what the bytes of a text are, where they are none of the program's: a byte order mark, another encoding, lines of Windows, a cut end."""
+    if data.startswith(b"\xef\xbb\xbf"):
+        return "the file begins with a byte order mark: sed -i '1s/^\\xef\\xbb\\xbf//' takes it out"
+    if data.startswith((b"\xff\xfe", b"\xfe\xff")):
+        return "the file is UTF-16: iconv -f UTF-16 -t UTF-8 makes UTF-8 of it"
+    if b"\r\n" in data:
+        return "lines end with CR LF, as a Windows editor writes them: tr -d '\\r' takes the CR out"
+    if data and not data.endswith(b"\n"):
+        return "the last line is cut: it has no line feed at its end"
+    return None
+
+
+def said_of(data, word, said, program):
+    """Gives the parts of the line that tells of a fault, or of a `no` of audit."""
+    text = data.decode("utf-8", errors="replace")
+    denied = re.fullmatch(r"no (\d+) (\w+)", said.strip())
+    if denied:
+        import verdict
+
+        return [verdict.explained(program, text, int(denied[1]), denied[2])] if program else []
+    parts = explanation(text, word, said)
+    marks = bytes_told(data)
+    # (the last line is cut where the fault is there; else it is another one that is to be told)
+    at_end = int(said.split(" ")[1]) >= len(text.split("\n")) if parts else False
+    if marks and parts and (at_end or "cut" not in marks):
+        parts = [it for it in parts if "carriage return" not in it and "no line feed" not in it] + [marks]
+    return parts
+
+
 def main():
-    path, word, fault = sys.argv[1:]
+    if sys.argv[1:] == ["--help"]:
+        print(__doc__.strip())
+        return
+    if len(sys.argv) not in (4, 5):
+        sys.exit("fault.py: it wants FILE, WORD and what the program said; fault.py --help says more")
+    path, word, said = sys.argv[1:4]
     with open(path, "rb") as it:
-        text = it.read().decode("utf-8", errors="replace")
-    for line in explanation(text, word, fault):
-        print(f"gen2run: {line}")
+        parts = said_of(it.read(), word, said, sys.argv[4] if len(sys.argv) > 4 else None)
+    if parts:
+        sys.stdout.reconfigure(encoding="utf-8", errors="backslashreplace")
+        print("gen2run: " + "; ".join(parts))
 
 
 if __name__ == "__main__":

@@ -3,6 +3,7 @@
 The program is not asked. A tag hears a command as `probe` spells it, and `hear` gives what it answers; `befall` takes an event.
 """
 
+import functools
 import os
 import re
 
@@ -22,7 +23,7 @@ def cells():
     rows = [[cell.strip() for cell in line.strip("|\n").split("|")] for line in part.split("\n") if line.startswith("|")]
     heads = [it.strip("`") for it in rows[0][1:]]
     assert tuple(heads) == STATES, heads
-    return {(row[0].strip("`").lower(), state): cell.replace(" (profile)", "") for row in rows[2:] for state, cell in zip(heads, row[1:])}
+    return {(row[0].strip("`").lower(), state): cell for row in rows[2:] for state, cell in zip(heads, row[1:])}
 
 
 CELLS = cells()
@@ -54,11 +55,22 @@ class Tag:
         _, kill, access, locks, epc, tid, user, words = line.split(" ")
         self.banks = {"res": words_of(kill) + words_of(access), "epc": [0, *words_of(epc)], "tid": words_of(tid), "user": words_of(user)}
         self.locks, self.words, self.drawn = locks, words_of(words), 0
-        self.flags = dict.fromkeys(FLAGS[:4], "A") | {"sl": 0}
+        # whether a choice that TAG calls profile was made since this was last set to False
+        self.by_profile = False
+        # the code and TRext of the last Query, in which its answers are sent
+        self.link = ("fm0", "0")
+        self.flags = {**dict.fromkeys(FLAGS[:4], "A"), "sl": 0}
         self.ready()
         self.store_crc()
 
     # What it holds.
+
+    def copy(self):
+        """Gives a tag that is the same, and goes on by itself."""
+        it = object.__new__(Tag)
+        it.__dict__.update(self.__dict__)
+        it.banks, it.flags = dict(self.banks), dict(self.flags)
+        return it
 
     def ready(self):
         self.state = "ready"
@@ -68,7 +80,8 @@ class Tag:
         return self.banks["epc"][2 : 2 + (self.banks["epc"][1] >> 11)]
 
     def store_crc(self):
-        self.banks["epc"][0] = crc16(bits_of([self.banks["epc"][1], *self.epc_words()]))
+        crc = crc16(bits_of([self.banks["epc"][1], *self.epc_words()]))
+        self.banks["epc"] = [crc, *self.banks["epc"][1:]]
 
     def draw(self):
         self.drawn += 1
@@ -141,6 +154,7 @@ class Tag:
 
     def select(self, target, action, bank, pointer, mask):
         bits, mask = bits_of(self.banks[bank]), "" if mask == "-" else mask
+        self.by_profile |= not mask or pointer + len(mask) > len(bits)
         matches = pointer + len(mask) <= len(bits) and bits[pointer : pointer + len(mask)] == mask
         # 'a' asserts SL or makes A, 'd' deasserts or makes B, 'i' inverts
         done = [("a", "d"), ("a", ""), ("", "d"), ("i", ""), ("d", "a"), ("d", ""), ("", "a"), ("", "i")][action][0 if matches else 1]
@@ -181,18 +195,23 @@ class Tag:
             length = 2 + (self.banks["epc"][1] >> 11)
             count = (length if bank == "epc" and pointer < length else len(words)) - pointer
         if count <= 0 or pointer + count > len(words):
+            self.by_profile = True
             return "plain error 03"
         if not all(self.may(self.field_of(bank, it), "read") for it in range(pointer, pointer + count)):
+            self.by_profile = True
             return "plain error 04"
         return f"plain words {text_of(words[pointer : pointer + count])}"
 
     def change(self, bank, pointer, words):
+        self.by_profile |= bank == "epc"
         old = self.banks[bank]
         new = old[:pointer] + words + old[pointer + len(words) :]
         if pointer + len(words) > len(old) or bank == "epc" and 2 + (new[1] >> 11) > len(old):
+            self.by_profile = True
             return "extended error 03"
         places = range(pointer, pointer + len(words))
         if bank == "epc" and 0 in places or not all(self.may(self.field_of(bank, it), "write") for it in places):
+            self.by_profile = True
             return "extended error 04"
         self.banks[bank] = new
         return "extended header"
@@ -200,7 +219,9 @@ class Tag:
     def lock(self, payload):
         bits = f"{payload:020b}"
         mask, action = bits[:10], bits[10:]
+        self.by_profile |= any("1" in mask[at : at + 2] and self.locks[at + 1] == "1" for at in range(0, 10, 2))
         if not self.banks["user"] and "1" in mask[8:]:
+            self.by_profile = True
             return "extended error 03"
         pairs = [(at, at + 1) for at in range(0, 10, 2)]
         if any(mask[perma] == "1" and action[perma] == "0" and self.locks[perma] == "1" for _, perma in pairs):
@@ -218,8 +239,10 @@ class Tag:
         both = self.half[1] << 16 | value
         if kind == "kill" and self.password("kill") == 0:
             self.half = None
+            self.by_profile = True
             return "extended error 00"
         if both != self.password(kind):
+            self.by_profile = True
             return self.back()
         self.half = None
         if kind == "access":
@@ -234,9 +257,11 @@ class Tag:
         if given[-1] != self.number:
             return None
         if self.half and name != self.half[0]:
+            self.by_profile = True
             return self.back()
         if "3" in rules:
             if self.cover is None:
+                self.by_profile = True
                 return None
             cover, self.cover = self.cover, None
         if name == "read":
@@ -246,6 +271,7 @@ class Tag:
         if name == "blockwrite":
             return self.change(given[0], given[1], given[2])
         if name == "blockerase":
+            self.by_profile = True
             return self.change(given[0], given[1], [0] * given[2])
         if name == "lock":
             return None if self.state == "open" else self.lock(given[0])
@@ -254,13 +280,13 @@ class Tag:
     # What it hears, and what befalls it.
 
     def hear(self, line):
-        name, *fields = line.split(" ")
-        given = parsed(name, fields)
-        row = {"req_rn": "req_rn", "queryrep": "queryrep"}.get(name, name)
-        cell = CELLS[row, self.state]
+        name, given = command_in(line)
+        cell = CELLS[name, self.state]
+        if name == "query" and self.state not in ("killed", "off"):
+            self.link = given[1], str(given[2])
         if name in ("queryrep", "queryadjust") and self.session is not None and given[0] != self.session:
             return None
-        if re.fullmatch(r"[1-8](, [1-8])*", cell):
+        if cell[0].isdigit():
             return self.by_rules(name, given, cell.split(", "))
         return self.move(self.case(cell, name, given), name, given)
 
@@ -268,33 +294,24 @@ class Tag:
         """Gives the moves of the first case of a cell that holds."""
         for case in cell.split("; "):
             when, _, moves = case.rpartition(": ")
-            holds = {
-                "": True,
-                "half": self.half is not None,
-                "of its session": name == "query" and given[4] == self.session,
-                "its RN16": given[-1:] == [self.number],
-                "its handle": given[-1:] == [self.number],
-            }[when]
-            if holds:
-                return moves.removeprefix("else ")
+            if self.holds(when, name, given):
+                self.by_profile |= " (profile)" in moves
+                moves = moves.replace(" (profile)", "")
+                return re.sub("^else ", "", moves)
         raise AssertionError(cell)
+
+    def holds(self, when, name, given):
+        if when == "half":
+            return self.half is not None
+        if when == "of its session":
+            return name == "query" and given[4] == self.session
+        assert when in ("", "its RN16", "its handle"), when
+        return not when or given[-1:] == [self.number]
 
     def move(self, moves, name, given):
         answer = None
         for move in moves.split(", then "):
-            answer = {
-                "STAY": self.stay,
-                "BACK": self.back,
-                "CLOSE": self.close,
-                "JOIN": lambda: self.join(given[3], given[4], given[5], given[6]),
-                "COUNT": self.count,
-                "arbitrate, slot counter 7FFFh": lambda: self.count_past(),
-                "ADJUST": lambda: self.adjust(given[1]),
-                "SELECT": lambda: self.select(*given),
-                "SEND": self.send,
-                "OPEN": self.open,
-                "COVER": self.new_cover,
-            }[move]()
+            answer = MOVES[move](self, given)
         return answer
 
     def count_past(self):
@@ -304,6 +321,7 @@ class Tag:
     def befall(self, kind, flag=None):
         cell = CELLS[kind, self.state]
         if kind == "expire":
+            self.by_profile = True
             self.expire(cell, flag)
         else:
             {"STAY": self.stay, "BACK": self.back, "OFF": self.off, "ON": self.on}[cell]()
@@ -323,6 +341,29 @@ class Tag:
                 self.flags[flag] = {"A": "A", "this flag is A": "A", "deasserted": 0, "STAY": self.flags[flag]}[named[2]]
                 return
         assert cell == "STAY", cell
+
+
+# What a move of TAG is here, of a tag that hears a command with these fields.
+MOVES = {
+    "STAY": lambda tag, given: tag.stay(),
+    "BACK": lambda tag, given: tag.back(),
+    "CLOSE": lambda tag, given: tag.close(),
+    "JOIN": lambda tag, given: tag.join(given[3], given[4], given[5], given[6]),
+    "COUNT": lambda tag, given: tag.count(),
+    "arbitrate, slot counter 7FFFh": lambda tag, given: tag.count_past(),
+    "ADJUST": lambda tag, given: tag.adjust(given[1]),
+    "SELECT": lambda tag, given: tag.select(*given),
+    "SEND": lambda tag, given: tag.send(),
+    "OPEN": lambda tag, given: tag.open(),
+    "COVER": lambda tag, given: tag.new_cover(),
+}
+
+
+@functools.lru_cache(maxsize=4096)
+def command_in(line):
+    """Gives the name and the fields of a command."""
+    name, *fields = line.split(" ")
+    return name, parsed(name, fields)
 
 
 def parsed(name, fields):

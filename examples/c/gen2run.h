@@ -39,6 +39,11 @@ enum {
 uint32_t gen2run_over_memory(const uint8_t *words, size_t words_length, const uint8_t *input, size_t input_length, uint8_t *output,
                              size_t room, size_t *written);
 
+/* The version of the library as one number: 1,000,000 for each major version, 1,000 for each minor one, and 1 for each patch. As long as the first of
+ * these stands, words and inputs that are done keep their outputs; docs/FORMATS.md says what may change. The words "--version" write the same as
+ * a text, with what the library was proved with, or that it wasn't. */
+uint32_t gen2run_version(void);
+
 #ifdef __cplusplus
 }
 #endif
