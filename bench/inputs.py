@@ -15,85 +15,44 @@ of that kind for `encode`, as long as they may be, whose output has at most SIZE
 that it answers.
 """
 
+from __future__ import annotations
+
+import os
 import random
 import sys
 
-PREAMBLE = "110100100011"
+sys.path.append(f"{os.path.dirname(os.path.dirname(os.path.abspath(__file__)))}/examples")
+from levels import crc16, fm0_lead, levels_of  # noqa: E402  (it stands in examples)
 
 
-def fm0(bits):
-    level, levels = True, []
-    for bit in bits + [1]:
-        first = not level
-        level = first if bit else not first
-        levels += [first, level]
-    return PREAMBLE + "".join("1" if x else "0" for x in levels)
+def reply(words: list[int], handle: int) -> str:
+    """The bits of the reply to a Read."""
+    bits = "0" + "".join(f"{word:016b}" for word in [*words, handle])
+    return f"{bits}{crc16(bits):016b}"
 
 
-def miller(m, bits, trext=False):
-    def half(phase):
-        return "".join("1" if (place % 2 == 0) != phase else "0" for place in range(m))
-
-    def symbol(start, middle):
-        return half(start) + half(middle)
-
-    lead = symbol(False, False) * (16 if trext else 4) + "".join(
-        symbol(bool(a), bool(b)) for a, b in [(0, 0), (0, 1), (1, 1), (1, 0), (0, 1), (1, 0)]
-    )
-    before, phase, out = 1, False, [lead]
-    for bit in bits + [1]:
-        start = phase if bit or before else not phase
-        phase = not start if bit else start
-        out.append(symbol(start, phase))
-        before = bit
-    return "".join(out)
-
-
-def crc16(bits):
-    register = 0xFFFF
-    for bit in bits:
-        top = (register >> 15) ^ bit
-        register = (register << 1) & 0xFFFF
-        if top:
-            register ^= 0x1021
-    return register ^ 0xFFFF
-
-
-def field(value, width):
-    return [(value >> place) & 1 for place in reversed(range(width))]
-
-
-def reply(words, handle):
-    bits = [0] + [bit for word in words for bit in field(word, 16)] + field(handle, 16)
-    return bits + field(crc16(bits), 16)
-
-
-def digits(bits):
-    return "".join(map(str, bits))
-
-
-def line(kind, rng):
-    def some_bits(count):
-        return [rng.randrange(2) for _ in range(count)]
+def line(kind: str, rng: random.Random) -> str:
+    def some_bits(count: int) -> str:
+        return "".join(str(rng.randrange(2)) for _ in range(count))
 
     if kind == "fm0":
-        return "fm0 0 " + fm0(some_bits(65_900))
+        return "fm0 0 " + levels_of("fm0", "0", some_bits(65_900))
     if kind in ("m2", "m4", "m8"):
-        m = int(kind[1])
-        return f"{kind} 0 " + miller(m, some_bits(132_000 // (2 * m) - 20))
+        return f"{kind} 0 " + levels_of(kind, "0", some_bits(132_000 // (2 * int(kind[1])) - 20))
     if kind == "samples":
-        groups = ["FFFFFFFF" if bit else "00000000" for bit in some_bits(33_000)]
+        groups = ["FFFFFFFF" if bit == "1" else "00000000" for bit in some_bits(33_000)]
         return "samples 128 4 " + "".join(groups)
     if kind == "reply":
-        return "reply any-A1B2 " + digits(reply([rng.randrange(65_536) for _ in range(512)], 0xA1B2))
+        return "reply any-A1B2 " + reply([rng.randrange(65_536) for _ in range(512)], 0xA1B2)
     if kind == "heard":
-        return "heard m4 0 any-A1B2 " + miller(4, reply([rng.randrange(65_536) for _ in range(512)], 0xA1B2))
+        return "heard m4 0 any-A1B2 " + levels_of("m4", "0", reply([rng.randrange(65_536) for _ in range(512)], 0xA1B2))
     if kind == "pie":
         return "pie 12500 6250 6250 25000 6250" + "".join(
-            " 12500 6250" if bit else " 6250 6250" for bit in some_bits(9_990)
+            " 12500 6250" if bit == "1" else " 6250 6250" for bit in some_bits(9_990)
         )
     if kind == "command":
-        return "command " + digits(field(0b11000001, 8) + field(0xA1B2, 16) + field(crc16(field(0b11000001, 8) + field(0xA1B2, 16)), 16))
+        bits = f"{0b11000001:08b}{0xA1B2:016b}"
+        return f"command {bits}{crc16(bits):016b}"
     if kind == "sgtin":
         return f"sgtin {sgtin(rng):024X}"
     if kind == "uri":
@@ -102,12 +61,12 @@ def line(kind, rng):
     sys.exit(f"no such kind of line: {kind}")
 
 
-def encode_line(kind, rng):
+def encode_line(kind: str, rng: random.Random) -> tuple[str, int]:
     """Gives a line for `encode`, and how many bytes its output has."""
-    bits = digits([rng.randrange(2) for _ in range(8_240)])
+    bits = "".join(str(rng.randrange(2)) for _ in range(8_240))
     if kind in ("fm0", "m2", "m4", "m8"):
         bits = bits[:8_225]
-        levels = len(PREAMBLE) + 2 * 8_226 if kind == "fm0" else (20 + 2 * 8_226) * int(kind[1])
+        levels = len(fm0_lead(0)) + 2 * 8_226 if kind == "fm0" else (20 + 2 * 8_226) * int(kind[1])
         return f"{kind} 0 {bits}", len(f"{kind} 0 ") + levels
     if kind == "pie":
         return f"pie 12500 31250 50000 6250 sync {bits}", len("pie 12500 6250 6250 25000 6250") + 10 * 8_240 + bits.count("1")
@@ -120,7 +79,7 @@ def encode_line(kind, rng):
     sys.exit(f"no such kind of line: {kind}")
 
 
-def probe(count, rng):
+def probe(count: int, rng: random.Random) -> str:
     """Lines for one tag, in rounds. It has four draw words: in each round a slot, an RN16, the handle and a cover."""
     text = ["probe 1\n", f"tag 00000000 00000000 0000000000 08001234 E2000001 {words(8, rng)} 0000A1B2C3D41111\n"]
     for number in range(count):
@@ -146,16 +105,16 @@ HEAD = "gen2 1\nlink 12500 31250 50000 6250 1 m4 0\n"
 END = "end\n"
 
 
-def words(count, rng):
+def words(count: int, rng: random.Random) -> str:
     return "".join(f"{rng.randrange(65_536):04X}" for _ in range(count))
 
 
-def tag(rng):
+def tag(rng: random.Random) -> str:
     epc = "F800" + words(31, rng)
     return f"tag 00000000 {words(2, rng)} 0000000000 {epc} {words(16, rng)} {words(512, rng)} {words(256, rng)}\n"
 
 
-def scenario(size, rng):
+def scenario(size: int, rng: random.Random) -> str:
     text = [HEAD]
     left = size - len(HEAD) - len(END)
     for _ in range(256):
@@ -167,13 +126,13 @@ def scenario(size, rng):
     return "".join(text) + END
 
 
-def long(size, rng):
+def long(size: int, rng: random.Random) -> str:
     front = "tag 00000000 00000000 0000000000 08001234 E2000001 - "
     digits = (size - len(HEAD) - len(front) - len(END) - 1) // 4 * 4
     return HEAD + front + words(1024, rng) * (digits // 4096) + "\n" + END
 
 
-def population(rng):
+def population(rng: random.Random) -> str:
     """256 tags with one User word and 64 draw words each."""
     lines = []
     for number in range(256):
@@ -182,7 +141,7 @@ def population(rng):
     return "".join(lines)
 
 
-def run(rounds, rng):
+def run(rounds: int, rng: random.Random) -> str:
     """Rounds with Q 8 that ask for A and B in turn, so that each tag takes part in each."""
     text = [f"round all 0 {'ab'[number % 2]} 8 300 1024\n" for number in range(rounds)]
     return HEAD + population(rng) + "".join(text) + END
@@ -192,25 +151,25 @@ HEAD_2 = HEAD.replace("gen2 1", "gen2 2") + "default break\n"
 MOST_TAGS = 4_096
 
 
-def many(rounds, rng):
+def many(rounds: int, rng: random.Random) -> str:
     """As many tags as version 2 has, by one line, each in a slot of its own; rounds that ask for A and B in turn."""
     text = [f"round all 0 {'ab'[number % 2]} 12 fixed 10000\n" for number in range(rounds)]
     return HEAD_2 + f"copies {MOST_TAGS} 00000000 00000000 0000000000 30003074257BF7194E4000000000 E2000000 - 0000\n" + "".join(text) + END
 
 
-def floating(rounds, rng):
+def floating(rounds: int, rng: random.Random) -> str:
     """As many tags, with words by chance, in rounds with the rule of annex D that come to 70,000 slots: each QueryAdjust is heard by all that wait."""
     tags = "".join(f"tag 00000000 00000000 0000000000 30003074257BF7194E400000{number:04X} E200{number:04X} - {words(4, rng)}\n" for number in range(MOST_TAGS))
     return HEAD_2 + tags + "round all 0 a 12 float-500 70000\n" * rounds + END
 
 
-def portals(rounds, rng):
+def portals(rounds: int, rng: random.Random) -> str:
     """As many tags, and rounds of the sessions 2 and 3 in turn, in each of which every tag is listed."""
     text = [f"round all {2 + number % 2} {'ab'[number // 2 % 2]} 12 fixed 10000\n" for number in range(rounds)]
     return many(0, rng)[: -len(END)] + "".join(text) + END
 
 
-def slots(rounds, rng):
+def slots(rounds: int, rng: random.Random) -> str:
     """Rounds that begin with Q 15 and go on to their limit. Each tag has one draw word, so that it draws the same slot each time: of half
     the tags two and two draw one of the first slots, and collide there, which keeps Q between 14 and 15; the others wait far behind these."""
     lines = []
@@ -222,24 +181,24 @@ def slots(rounds, rng):
     return HEAD + "".join(lines) + "".join(text) + END
 
 
-def few(rounds, rng):
+def few(rounds: int, rng: random.Random) -> str:
     """Such rounds of two tags, each of which draws the first slot of each frame, and collides there."""
     tags = "".join(f"tag 00000000 00000000 0000000000 0800{number:04X} E200{number:04X} - 0000\n" for number in range(2))
     return HEAD + tags + "round all 0 a 15 100 70000\n" * rounds + END
 
 
-def empty(rounds, rng):
+def empty(rounds: int, rng: random.Random) -> str:
     """Rounds of one frame of 32,768 slots, for tags with flag B, of which there is none."""
     return HEAD_2 + "tag 00000000 00000000 0000000000 08000000 E2000000 - 0000\n" + "round all 0 b 15 fixed 70000\n" * rounds + END
 
 
-def full(rounds, rng):
+def full(rounds: int, rng: random.Random) -> str:
     """Rounds of 256 tags of full banks, which ask for A and B in turn."""
     text = [f"round all 0 {'ab'[number % 2]} 8 300 1024\n" for number in range(rounds)]
     return HEAD + "".join(tag(rng) for _ in range(256)) + "".join(text) + END
 
 
-def banks(count, rng):
+def banks(count: int, rng: random.Random) -> str:
     """One round of 16 tags of full banks in Miller 8, and on each tag operations that read the whole User bank and write as many words of it as
     one command can, in turn."""
     between = ["read user 0 0", f"blockwrite user 0 {words(255, rng)}", "read user 0 0", f"blockwrite user 257 {words(255, rng)}"]
@@ -251,7 +210,7 @@ def banks(count, rng):
 PARTITIONS = [(40, 12), (37, 11), (34, 10), (30, 9), (27, 8), (24, 7), (20, 6)]
 
 
-def sgtin(rng):
+def sgtin(rng: random.Random) -> int:
     """The 96 bits of an SGTIN."""
     partition = rng.randrange(7)
     company_bits, company_digits = PARTITIONS[partition]
@@ -262,7 +221,7 @@ def sgtin(rng):
     return epc << 38 | rng.randrange(1 << 38)
 
 
-def names(size, rng):
+def names(size: int, rng: random.Random) -> str:
     lines, left = [], size
     while True:
         line = f"list {rng.randrange(1, 100)} {rng.randrange(1, 1000)} 3000 {sgtin(rng):024X}\n"
@@ -276,7 +235,7 @@ ACCESS = "5EC0DE42"
 KILL = "C0FFEE01"
 
 
-def operations(count, rng):
+def operations(count: int, rng: random.Random) -> str:
     """One round, and on each tag Access, then reads, writes and locks in turn, and Kill in the end."""
     text = [HEAD]
     for number in range(256):
@@ -303,7 +262,7 @@ def operations(count, rng):
 READS = 32
 
 
-def raw(size, rng):
+def raw(size: int, rng: random.Random) -> str:
     """Rounds in each of which one tag is listed and asked for all words of its User bank, which is short, 32 times; and for each of these reads
     a raw stream of 512 words. The tag has three draw words: in each round a slot, an RN16 and the handle."""
     tag = "tag 00000000 00000000 0000000000 08001234 E2000001 0007 0000A1B2C3D4\n"
@@ -312,7 +271,7 @@ def raw(size, rng):
     for number in range(4 * READS):
         # Before the reads of a round come its Query, ACK and Req_RN.
         exchange = number // READS * (READS + 3) + number % READS + 4
-        levels = miller(8, reply([rng.randrange(65_536) for _ in range(512)], 0xC3D4), True)
+        levels = levels_of("m8", "1", reply([rng.randrange(65_536) for _ in range(512)], 0xC3D4))
         line = f"air {exchange} raw {levels}\n"
         if len(line) > left:
             break
@@ -321,7 +280,7 @@ def raw(size, rng):
     return head + "".join(streams) + rounds + END
 
 
-def main():
+def main() -> None:
     kind, size = sys.argv[1], int(sys.argv[2])
     rng = random.Random(7)
     whole = {"scenario": scenario, "long": long, "run": run, "slots": slots, "few": few, "empty": empty, "full": full, "banks": banks, "many": many, "floating": floating, "portals": portals, "operations": operations, "raw": raw, "names": names, "probe": probe}

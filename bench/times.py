@@ -5,11 +5,13 @@ Each run reads the file INPUT, under the words, and its output is thrown away. T
 counts, and for none of them more than for another.
 """
 
+from __future__ import annotations
+
 import os
 import sys
 
 
-def milliseconds(program, words, given):
+def milliseconds(program: str, words: list[str], given: str) -> float:
     files = [(os.POSIX_SPAWN_OPEN, 0, given, os.O_RDONLY, 0), (os.POSIX_SPAWN_OPEN, 1, os.devnull, os.O_WRONLY, 0)]
     _, _, used = os.wait4(os.posix_spawn(program, [program, *words], os.environ, file_actions=files), 0)
     return (used.ru_utime + used.ru_stime) * 1000

@@ -5,7 +5,10 @@ trace`; what each tag answers is what it answers under `probe`, when it hears th
 what the channel gave is said by the scenario.
 """
 
+from __future__ import annotations
+
 import subprocess
+from typing import Iterator
 
 HEAD = """$comment intervals and levels as played; the gaps between them are drawn $end
 $timescale 1 ns $end
@@ -30,18 +33,18 @@ $end
 """
 
 
-def run(program, words, text):
+def run(program: str, words: list[str], text: str) -> list[str]:
     """Gives the lines that the program writes."""
     ran = subprocess.run([program, *words], input=text.encode(), stdout=subprocess.PIPE, check=True)
     return ran.stdout.decode().splitlines()
 
 
-def copies_of(fields):
+def copies_of(fields: list[str]) -> Iterator[list[str]]:
     """Gives the tag lines of a line `copies`."""
     count, kill, access, locks, epc, tid, user, words = fields
     length = 1 + (int(epc[:4], 16) >> 11)
 
-    def raised(text, at, by):
+    def raised(text: str, at: int, by: int) -> str:
         return text[: 4 * at] + f"{(int(text[4 * at : 4 * at + 4], 16) + by) % 65536:04X}" + text[4 * at + 4 :]
 
     for by in range(int(count)):
@@ -52,7 +55,7 @@ def copies_of(fields):
 class Scenario:
     """What a scenario says, as far as it is wanted here."""
 
-    def __init__(self, text):
+    def __init__(self, text: str) -> None:
         self.tags, self.missed, self.events, self.choices, self.steps, self.capture = [], {}, {}, {}, [], False
         for line in text.splitlines():
             fields = line.split(" ")
@@ -75,17 +78,17 @@ class Scenario:
             elif fields[0] in ("select", "nak", "round", "event"):
                 self.steps.append(fields)
 
-    def blf(self):
+    def blf(self) -> tuple[int, int]:
         return (64, 3 * self.trcal) if self.dr else (8, self.trcal)
 
 
 class Exchange:
-    def __init__(self, number, intervals, count, levels):
+    def __init__(self, number: int, intervals: list[str], count: int, levels: str) -> None:
         self.number, self.intervals, self.count, self.levels = number, intervals, count, levels
         self.command, self.answers, self.given, self.reply = "", [], "", "-"
 
 
-def commands_of(program, exchanges):
+def commands_of(program: str, exchanges: list[Exchange]) -> None:
     """Reads the command of each exchange in its intervals."""
     bits = [line.split(" ")[-1] for line in run(program, ["decode"], "".join(f"pie {' '.join(it.intervals)}\n" for it in exchanges))]
     lines = run(program, ["decode"], "".join(f"command {it}\n" for it in bits))
@@ -94,13 +97,13 @@ def commands_of(program, exchanges):
         exchange.command = line
 
 
-def happenings(scenario, trace):
+def happenings(scenario: Scenario, trace: list[str]) -> tuple[list[Exchange], list[tuple[int, list[str]]], list[tuple[int, str]]]:
     """Gives the exchanges, what befell tags between them, as pairs of the number of exchanges before and the event, and the other lines with
     their places."""
     exchanges, between, others, steps = [], [], [], iter(scenario.steps)
     step = next(steps, None)
 
-    def passed():
+    def passed() -> None:
         nonlocal step
         while step and step[0] == "event":
             between.append((len(exchanges), step[1:]))
@@ -124,7 +127,7 @@ def happenings(scenario, trace):
     return exchanges, between, others
 
 
-def answer(program, scenario, exchanges, between):
+def answer(program: str, scenario: Scenario, exchanges: list[Exchange], between: list[tuple[int, list[str]]]) -> None:
     """Lets each tag hear at the bench what it heard in the run."""
     for number, tag in enumerate(scenario.tags):
         lines, asked = ["probe 1", " ".join(tag)], {}
@@ -144,15 +147,15 @@ def answer(program, scenario, exchanges, between):
                 asked[int(fields[1])].answers.append((number, " ".join(fields[2:])))
 
 
-def event_is_of(event, number):
+def event_is_of(event: list[str], number: int) -> bool:
     return int(event[-1]) == number
 
 
-def event_line(event):
+def event_line(event: list[str]) -> str:
     return " ".join(["event", *event[:-1]])
 
 
-def give(scenario, exchange):
+def give(scenario: Scenario, exchange: Exchange) -> None:
     """Says what the channel gave."""
     choice, answers = scenario.choices.get(exchange.number), exchange.answers
     first = answers[0] if answers else None
@@ -176,7 +179,7 @@ def give(scenario, exchange):
         exchange.given = "silence"
 
 
-def played(program, text):
+def played(program: str, text: str) -> tuple[Scenario, list[Exchange], list[tuple[int, str]]]:
     """Gives the scenario of this text, its exchanges, and the other lines of its report."""
     scenario = Scenario(text)
     exchanges, between, others = happenings(scenario, run(program, ["run", "trace"], text))
@@ -187,7 +190,7 @@ def played(program, text):
     return scenario, exchanges, others
 
 
-def said(program, text):
+def said(program: str, text: str) -> str:
     """Gives what `run exchanges` has to write."""
     scenario, exchanges, others = played(program, text)
     lines = []
@@ -202,14 +205,14 @@ def said(program, text):
     return "".join(f"{line}\n" for line in lines)
 
 
-def gaps(scenario):
+def gaps(scenario: Scenario) -> tuple[int, int, int, int]:
     """Gives T1 to T4 in nanoseconds."""
     numerator, denominator = scenario.blf()
     t2 = 10 * denominator // numerator
     return max(scenario.rtcal, t2), t2, 3 * denominator // numerator, 2 * scenario.rtcal
 
 
-def times(scenario, exchanges):
+def times(scenario: Scenario, exchanges: list[Exchange]) -> Iterator[tuple[int, int, int, int]]:
     """Gives for each exchange when its frame begins and ends, when its answer begins and ends, and last when a further frame would begin."""
     numerator, denominator = scenario.blf()
     t1, t2, t3, t4 = gaps(scenario)
@@ -229,17 +232,17 @@ def times(scenario, exchanges):
     yield begin, begin, begin, begin
 
 
-def waves(program, text):
+def waves(program: str, text: str) -> Iterator[str]:
     """Gives what `run vcd` has to write, piece by piece."""
     yield HEAD
     scenario, exchanges, _ = played(program, text)
     numerator, denominator = scenario.blf()
     now, values = {"r": "1r", "t": "zt", "e": "r0 e", "n": "r0 n", "c": "s- c", "g": "s- g"}, {}
 
-    def put(time, signal, value):
+    def put(time: int, signal: str, value: str) -> None:
         values.setdefault(time, {})[signal] = value
 
-    def lines_before(end, last=None):
+    def lines_before(end: int, last: int | None = None) -> Iterator[str]:
         """Takes the values at times before the end, and gives the lines of those that change."""
         for time in sorted(it for it in values if it < end):
             new = values.pop(time)
@@ -270,6 +273,6 @@ def waves(program, text):
     yield "".join(lines_before(last + 1, last))
 
 
-def drawn(program, text):
+def drawn(program: str, text: str) -> str:
     """Gives what `run vcd` has to write."""
     return "".join(waves(program, text))

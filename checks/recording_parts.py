@@ -1,18 +1,23 @@
 """Tries the parts of tools/capture one by one, for checks/recordings."""
 
+from __future__ import annotations
+
 import os
 import struct
+from typing import Any, Callable
 
 import numpy as np
 
 from capture import codes, frames, logic, making, reading, replies, search, streams, waves
+from capture.program import Program
+from counting import Count
 
 
-def quiet(*_):
+def quiet(*_: float | str) -> None:
     """Says nothing about how far the work is."""
 
 
-def refusal(call, *given):
+def refusal(call: Callable[..., Any], *given: float | str | None) -> str:
     """Gives what a call says is wrong, or nothing."""
     try:
         call(*given)
@@ -21,7 +26,7 @@ def refusal(call, *given):
     return ""
 
 
-def try_codes(count, program, folder):
+def try_codes(count: Count, program: Program, folder: str) -> None:
     for code in codes.CODES:
         for trext in "01":
             for bits in ("-", "0", "10110", "0011010111000101"):
@@ -38,7 +43,7 @@ def try_codes(count, program, folder):
         count.check(f"{code}: a branch has what is seen with each level", seen == wanted)
 
 
-def try_reading(count, program, folder):
+def try_reading(count: Count, program: Program, folder: str) -> None:
     # Steps of 2 to the -20th, which 16 bits don't have.
     ramp = 0.25 + np.arange(1000) / 2**20
     for form, off in (("wav8", 2**-7), ("wav16", 2**-15), ("wav24", 2**-22), ("wav32", 2**-23), ("wavf", 2**-23)):
@@ -79,13 +84,13 @@ def try_reading(count, program, folder):
     count.check("three channels are told", "3 channels" in refusal(reading.samples_of, f"{folder}/three.wav", None, None))
 
 
-def lows_of(intervals, begin=100_000.0):
+def lows_of(intervals: np.ndarray | list[float], begin: float = 100_000.0) -> np.ndarray:
     """Gives the lows of a frame's intervals."""
     edges = begin + np.concatenate([[0], np.cumsum(intervals)])
     return edges.reshape(-1, 2)
 
 
-def try_frames(count, program, folder):
+def try_frames(count: Count, program: Program, folder: str) -> None:
     sent = "pie 12500 6250 6250 25000 6250 43750 6250 12500 6250 6250 6250 12500 6250"
     intervals = list(map(float, sent.split(" ")[1:]))
     query, sync = lows_of(intervals), lows_of(intervals[:5] + intervals[7:], 900_000.0)
@@ -112,7 +117,7 @@ def try_frames(count, program, folder):
     count.check("lengths on a grid of 250 ns are put back", answer.endswith(" 101") and found[0].moved <= 250, (answer, found[0].moved))
 
 
-def try_waves(count, program, folder):
+def try_waves(count: Count, program: Program, folder: str) -> None:
     intervals = [12_500.0, 6250.0, 6250.0, 25_000.0, 6250.0] + [6250.0, 6250.0, 12_500.0, 6250.0] * 30
     lows = lows_of(intervals)
     bounds = np.concatenate([[0.0], lows.reshape(-1), [1_500_000.0]])
@@ -139,7 +144,7 @@ def try_waves(count, program, folder):
     count.check("a tag in quadrature is heard", abs(float(np.ptp(turned)) - 6) < 0.1, np.ptp(turned))
 
 
-def wave_of(levels, period, start, noise, seed, height=10.0):
+def wave_of(levels: np.ndarray, period: float, start: float, noise: float, seed: int, height: float = 10.0) -> np.ndarray:
     """Gives the samples of levels behind silence, with noise and a baseline that drifts."""
     bounds = np.concatenate([[0.0], start + period * np.arange(len(levels) + 1), [start + period * (len(levels) + 40)]])
     values = np.concatenate([[-1.0], levels, [-1.0]])
@@ -148,7 +153,7 @@ def wave_of(levels, period, start, noise, seed, height=10.0):
     return wave + 8 * np.sin(times / 700) + noise * np.random.default_rng(seed).standard_normal(len(times))
 
 
-def try_streams(count, program, folder):
+def try_streams(count: Count, program: Program, folder: str) -> None:
     chance = np.random.default_rng(5)
     for code in codes.CODES:
         for trext in "01":
@@ -177,8 +182,8 @@ def try_streams(count, program, folder):
         count.same(f"of {lengths} bits the right ones are found", codes.text_of(stream.levels), codes.text_of(levels))
 
 
-def try_logic(count, program, folder):
-    def written(name, text):
+def try_logic(count: Count, program: Program, folder: str) -> None:
+    def written(name: str, text: str) -> str:
         with open(f"{folder}/{name}", "w", encoding="utf-8") as file:
             file.write(text)
         return f"{folder}/{name}"
@@ -209,7 +214,7 @@ def try_logic(count, program, folder):
         count.check(f"{os.path.basename(path)}: it is said what is wrong", wanted in said, said)
 
 
-def try_parts(count, program, folder):
+def try_parts(count: Count, program: Program, folder: str) -> None:
     """Tries each part."""
     for part in (try_codes, try_reading, try_frames, try_waves, try_streams, try_logic):
         part(count, program, folder)

@@ -4,7 +4,10 @@
 It shows no state. Each bug of BUGS is one that a maker of tags could well make; the vectors and the walks of vectors/ have to find it by answers.
 """
 
+from __future__ import annotations
+
 import sys
+from typing import Iterator
 
 BUGS = """
 select keeps the state | select inverts where it asserts | select forgets the first word | select compares one bit less | select takes a mask past the end
@@ -25,7 +28,7 @@ BUGS = [it.strip() for it in BUGS.replace("\n", " | ").split("|") if it.strip()]
 PAIRS = {"kill": 0, "access": 2, "epc": 4, "tid": 6, "user": 8}
 
 
-def crc16(words):
+def crc16(words: list[int]) -> int:
     register = 0xFFFF
     for word in words:
         register ^= word
@@ -34,16 +37,16 @@ def crc16(words):
     return register ^ 0xFFFF
 
 
-def words_of(text):
+def words_of(text: str) -> list[int]:
     return [] if text == "-" else [int(text[at : at + 4], 16) for at in range(0, len(text), 4)]
 
 
-def text_of(words):
+def text_of(words: list[int]) -> str:
     return "".join(f"{it:04X}" for it in words) or "-"
 
 
 class SmallTag:
-    def __init__(self, line, bug=None):
+    def __init__(self, line: str, bug: str | None = None) -> None:
         _, kill, access, self.locks, epc, tid, user, words = line.split(" ")
         self.bug = bug
         self.memory = {"res": words_of(kill + access), "epc": [0] + words_of(epc), "tid": words_of(tid), "user": words_of(user)}
@@ -52,34 +55,34 @@ class SmallTag:
         self.go("ready")
         self.power()
 
-    def go(self, state, **numbers):
+    def go(self, state: str, **numbers: int) -> None:
         self.state = state
         self.session, self.q, self.slot, self.number, self.cover, self.half = (numbers.get(it) for it in ("session", "q", "slot", "number", "cover", "half"))
 
-    def power(self):
+    def power(self) -> None:
         bank = self.memory["epc"]
         bank[0] = crc16(bank[1 : 2 + (bank[1] >> 11)])
 
-    def draw(self):
+    def draw(self) -> int:
         self.at = (self.at + 1) % len(self.words)
         return self.words[self.at]
 
-    def wait(self, slot=0):
+    def wait(self, slot: int = 0) -> None:
         self.go("arbitrate", session=self.session, q=self.q, slot=slot)
 
-    def close(self):
+    def close(self) -> None:
         name = "s1" if self.bug == "closing inverts s1" else f"s{self.session}"
         self.flag[name] = "b" if self.flag[name] == "a" or self.bug == "closing makes B" else "a"
         self.go("ready")
 
-    def enter(self, session, q):
+    def enter(self, session: int, q: int) -> str:
         slot = self.draw() % 2 ** (min(q, 14) if self.bug == "slot of 14 bits" else q)
         if slot:
             return self.go("arbitrate", session=session, q=q, slot=slot)
         self.go("reply", session=session, q=q, number=self.draw())
         return f"plain rn16 {self.number:04X}"
 
-    def hear(self, line):
+    def hear(self, line: str) -> str | None:
         name, *given = line.split(" ")
         if self.state == "killed" and self.bug == "killed tags answer" and name == "query":
             self.go("ready")
@@ -87,7 +90,7 @@ class SmallTag:
             return None
         return getattr(self, name, self.access_command)(*given) if name not in ACCESS else self.access_command(name, *given)
 
-    def select(self, target, action, bank, pointer, mask):
+    def select(self, target: str, action: str, bank: str, pointer: str, mask: str) -> None:
         if self.half and self.state in ("open", "secured"):
             return self.wait()
         pointer, action, mask = int(pointer), int(action), "" if mask == "-" else mask
@@ -124,7 +127,7 @@ class SmallTag:
             self.go("ready")
         return None
 
-    def query(self, dr, code, trext, sel, session, target, q):
+    def query(self, dr: str, code: str, trext: str, sel: str, session: str, target: str, q: str) -> str:
         session, q = int(session), int(q)
         in_round = self.state in ("acknowledged", "open", "secured") or self.state == "reply" and self.bug == "query closes in reply"
         if in_round and (session == self.session or self.bug == "query closes another session's round") and self.bug != "query doesn't close":
@@ -140,7 +143,7 @@ class SmallTag:
             return self.enter(session, q)
         return self.go("ready")
 
-    def queryrep(self, session):
+    def queryrep(self, session: str) -> str | None:
         if int(session) != self.session and self.bug != "queryrep of any session" or self.session is None:
             return None
         if self.state == "arbitrate":
@@ -155,7 +158,7 @@ class SmallTag:
             return self.wait()
         return None if self.bug == "queryrep doesn't close" else self.close()
 
-    def queryadjust(self, session, updn):
+    def queryadjust(self, session: str, updn: str) -> str | None:
         if int(session) != self.session and self.bug != "queryadjust of any session" or self.session is None:
             return None
         if self.state in ("arbitrate", "reply"):
@@ -168,7 +171,7 @@ class SmallTag:
             return self.enter(self.session, q)
         return self.wait() if self.half else self.close()
 
-    def ack(self, number):
+    def ack(self, number: str) -> str | None:
         if self.state in ("ready", "arbitrate"):
             return None
         right = int(number, 16) == self.number or self.bug == "ack of any number"
@@ -182,12 +185,12 @@ class SmallTag:
         sent = bank[2:] if self.bug == "ack sends the whole bank" else bank[2 : 2 + (bank[1] >> 11)]
         return f"plain epc {bank[1]:04X} {text_of(sent)}"
 
-    def nak(self):
+    def nak(self) -> None:
         if self.state in ("ready", "arbitrate") or self.bug == "nak does nothing in open" and self.state == "open":
             return self.wait() if self.bug == "nak from ready" and self.state == "arbitrate" else None
         return self.wait()
 
-    def req_rn(self, number):
+    def req_rn(self, number: str) -> str | None:
         right = self.number == int(number, 16)
         if self.state == "reply" and not (self.bug == "req_rn from reply" and right):
             return self.wait()
@@ -205,7 +208,7 @@ class SmallTag:
         self.go("open" if any(password) else "secured", session=self.session, q=self.q, number=handle)
         return f"plain handle {handle:04X}"
 
-    def access_command(self, name, *given):
+    def access_command(self, name: str, *given: str) -> str | None:
         right = self.number == int(given[-1], 16)
         if self.state in ("ready", "arbitrate"):
             return None
@@ -237,7 +240,7 @@ class SmallTag:
             return self.do_lock(f"{int(given[0], 16):020b}")
         return self.password(name, value)
 
-    def password(self, name, value):
+    def password(self, name: str, value: int) -> str:
         if self.half is None:
             self.half = (name, value)
             return f"plain handle {self.number:04X}"
@@ -254,14 +257,14 @@ class SmallTag:
         self.state, self.half = "secured", None
         return f"plain handle {self.number:04X}"
 
-    def allowed(self, bank, place):
+    def allowed(self, bank: str, place: int) -> bool:
         field = ("kill" if place < 2 else "access") if bank == "res" else bank
         pair = self.locks[PAIRS[field] : PAIRS[field] + 2]
         if pair == "01" and self.bug == "pair 01 is closed" or pair == "10" and self.bug == "pair 10 is open":
             return pair == "10"
         return pair in ("00", "01") or pair == "10" and self.state == "secured"
 
-    def do_read(self, bank, pointer, count):
+    def do_read(self, bank: str, pointer: str, count: str) -> str:
         pointer, count, words = int(pointer), int(count), self.memory[bank]
         if self.bug == "read pointer of 7 bits":
             pointer &= 127
@@ -276,7 +279,7 @@ class SmallTag:
             return "plain error 04"
         return f"plain words {text_of(words[pointer : pointer + count])}"
 
-    def change(self, bank, pointer, words):
+    def change(self, bank: str, pointer: int, words: list[int]) -> str:
         old = self.memory[bank]
         end = pointer + len(words)
         new = old[:pointer] + words + old[end:]
@@ -293,7 +296,7 @@ class SmallTag:
             self.power()
         return "extended header"
 
-    def do_lock(self, bits):
+    def do_lock(self, bits: str) -> str:
         mask, action = bits[:10], bits[10:]
         if self.state == "open" and self.bug != "lock works in open":
             return None
@@ -310,7 +313,7 @@ class SmallTag:
         self.locks = "".join(new)
         return "extended header"
 
-    def befall(self, kind, flag=None):
+    def befall(self, kind: str, flag: str | None = None) -> None:
         if kind == "timeout":
             left = ["reply", "acknowledged", *(["open"] if self.bug == "timeout in open" else [])]
             if self.state in left and not (self.bug == "timeout does nothing in acknowledged" and self.state == "acknowledged"):
@@ -340,7 +343,7 @@ class SmallTag:
 ACCESS = ("read", "write", "kill", "lock", "access", "blockwrite", "blockerase")
 
 
-def command_of(bits):
+def command_of(bits: str) -> str | None:
     """Gives the command that bits spell, of those that the vectors and walks have."""
     if bits == "11000000":
         return "nak"
@@ -349,7 +352,7 @@ def command_of(bits):
     return f"ack {int(bits[2:], 2):04X}" if len(bits) == 18 and bits[:2] == "01" else None
 
 
-def answers(lines, bug=None):
+def answers(lines: list[str], bug: str | None = None) -> Iterator[str]:
     """Gives the answers to the lines from `probe 1` to `end`, one after another."""
     tag = SmallTag(lines[1], bug)
     for number, line in enumerate(lines[2:-1], 3):

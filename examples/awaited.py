@@ -1,7 +1,9 @@
 """What a reply to a command is, for the helpers of this folder. It is not proved."""
 
+from __future__ import annotations
 
-def awaited(command, trext, kills):
+
+def awaited(command: str, trext: str, kills: int) -> tuple[str, str]:
     """Gives EXPECT of a command, as `heard` lines have it, and TRext of its reply; `kills` is which Kill it is since the last ACK."""
     kind, *fields = command.split(" ")
     if kind == "ack":

@@ -1,4 +1,6 @@
-"""Levels of replies and check numbers, for the helpers of this folder and for vectors/. It is not proved."""
+"""Levels of replies and check numbers, for the helpers of this folder, for vectors/ and for bench/. It is not proved."""
+
+from __future__ import annotations
 
 
 def check_number(bits: str, width: int, polynomial: int, preset: int) -> int:
@@ -12,8 +14,22 @@ def check_number(bits: str, width: int, polynomial: int, preset: int) -> int:
     return register
 
 
+def crc5(bits: str) -> int:
+    return check_number(bits, 5, 0b01001, 0b01001)
+
+
+def crc16(bits: str) -> int:
+    """Annex F: preset FFFFh, the polynomial 1021h, complemented."""
+    return check_number(bits, 16, 0x1021, 0xFFFF) ^ 0xFFFF
+
+
+def fm0_lead(trext: int) -> str:
+    """Gives the pilot, where there is one, and the preamble of FM0."""
+    return "10" * 12 * trext + "110100100011"
+
+
 def fm0_levels(trext: int, bits: str) -> str:
-    levels = "10" * 12 * trext + "110100100011"
+    levels = fm0_lead(trext)
     for bit in bits + "1":
         first = "10"[int(levels[-1])]
         levels += first + (first if bit == "1" else "10"[int(first)])
@@ -23,7 +39,7 @@ def fm0_levels(trext: int, bits: str) -> str:
 def miller_levels(cycles: int, trext: int, bits: str) -> str:
     levels, phase, before = "", 0, "0"
 
-    def half():
+    def half() -> str:
         return ("01" if phase else "10") * (cycles // 2)
 
     # The pilot, and the first zero behind it, go on in one phase.

@@ -1,10 +1,12 @@
 """Reads recordings, for the helpers of this folder. It is not proved."""
 
+from __future__ import annotations
+
 import sys
 import wave
 
 
-def recording(path):
+def recording(path: str) -> tuple[bytes, int | None]:
     """Gives the samples of a file as numbers from 0 to 255, and its sample rate or none."""
     try:
         with wave.open(path) as file:

@@ -7,9 +7,10 @@ the faulty one: the program alone decides, and names the line. Of a `no` it tell
 it asks PROGRAM. The forms are those of docs/FORMATS.md; checks/rows holds them against each row of the tables that has a fault, and each that has none.
 """
 
+from __future__ import annotations
+
 import re
 import sys
-
 NUMBER = "0|[1-9][0-9]*"
 WORD = "[0-9A-F]{4}"
 
@@ -17,37 +18,37 @@ WORD = "[0-9A-F]{4}"
 class Field:
     """What a field has to be: what is said of it, its pattern, how long it is at most, and the least and the most that its number is."""
 
-    def __init__(self, said, pattern, longest=None, least=None, most=None):
+    def __init__(self, said: str, pattern: str, longest: int | None = None, least: int | None = None, most: int | None = None) -> None:
         self.said, self.pattern, self.longest, self.least, self.most = said, pattern, longest, least, most
 
-    def holds(self, text):
+    def holds(self, text: str) -> bool:
         is_short = self.longest is None or len(text) <= self.longest
         return is_short and bool(re.fullmatch(self.pattern, text)) and (self.most is None or self.least <= int(text) <= self.most)
 
 
-def number(least, most):
+def number(least: int, most: int) -> Field:
     return Field(f"a number from {least:,} to {most:,}, without leading zeros", NUMBER, 19, least, most)
 
 
-def one_of(*names):
+def one_of(*names: str) -> Field:
     return Field(" or ".join([", ".join(names[:-1]), names[-1]] if len(names) > 1 else names), "|".join(names))
 
 
-def digits(kind, least, most):
+def digits(kind: str, least: int, most: int) -> Field:
     empty = ", or - for an empty list" if least == 0 else ""
     front = f"{least} to {most:,}" if least else f"at most {most:,}"
     said = f"{most if least == most else front} digits 0 and 1{empty}"
     return Field(said, f"[01]{{{most}}}" if least == most else f"{'' if least else '-|'}[01]+", most)
 
 
-def words(least, most):
+def words(least: int, most: int) -> Field:
     empty = ", or - for an empty list" if least == 0 else ""
     said = f"{least} words" if least == most else f"{max(least, 1)} to {most} words"
     said = "one word" if least == most == 1 else said
     return Field(f"{said} of four upper-case hexadecimal digits{empty}", f"{'' if least else '-|'}(?:{WORD}){{{max(least, 1)},{most}}}")
 
 
-def matching(said, pattern):
+def matching(said: str, pattern: str) -> Field:
     return Field(said, pattern)
 
 
@@ -204,11 +205,11 @@ REASONS = {
 }
 
 
-def is_name(part):
+def is_name(part: str) -> bool:
     return part.isupper()
 
 
-def forms_of(line, word):
+def forms_of(line: str, word: str) -> list[str]:
     """Gives the forms that the line may be meant for, by its first field, and by its kind where it has one."""
     fields = line.split(" ")
     found = [it.split(" ") for it in FORMS.get(word, []) if it.split(" ")[0] == fields[0]]
@@ -219,7 +220,7 @@ def forms_of(line, word):
     return [" ".join(it) for it in found]
 
 
-def faulty_field(line, form):
+def faulty_field(line: str, form: str) -> tuple[str, str, str] | None:
     """Gives the name of the first field that isn't of its form, with the field and what it has to be, or None."""
     parts, fields = form.split(" "), line.split(" ")
     begin = " ".join(it for it in parts if not is_name(it))
@@ -233,28 +234,28 @@ def faulty_field(line, form):
     return None
 
 
-def shown(text, most=160):
+def shown(text: str, most: int = 160) -> str:
     """Gives a text as a terminal may show it, and the front of a long one."""
     front = "".join(it if it.isprintable() else repr(it)[1:-1] for it in text[:most])
     return front if len(text) <= most else f"{front}.. ({len(text):,} characters)"
 
 
-def counted(fields):
+def counted(fields: int) -> str:
     return "1 field" if fields == 1 else f"{fields} fields"
 
 
-def spelled(form):
+def spelled(form: str) -> str:
     return form + " .." if form == "pie INTERVALS" else form
 
 
-def forms_for(text, word):
+def forms_for(text: str, word: str) -> str:
     """Gives what the forms of a text are kept by: scenarios have two versions."""
     if word not in ("run", "upgrade", "audit", "portals"):
         return word
     return "run 2" if text.startswith("gen2 2\n") else "run"
 
 
-def explanation(text, word, fault):
+def explanation(text: str, word: str, fault: str) -> list[str]:
     """Gives the lines that tell of a fault in a text, or none where the fault is not one."""
     word = forms_for(text, word)
     found = re.fullmatch(r"fault (\d+) (\w+)", fault.strip())
@@ -308,7 +309,7 @@ def explanation(text, word, fault):
     return said
 
 
-def bytes_told(data):
+def bytes_told(data: bytes) -> str | None:
     """Gives what the bytes of a text are, where they are none of the program's: a byte order mark, another encoding, lines of Windows, a cut end."""
     if data.startswith(b"\xef\xbb\xbf"):
         return "the file begins with a byte order mark: sed -i '1s/^\\xef\\xbb\\xbf//' takes it out"
@@ -321,7 +322,7 @@ def bytes_told(data):
     return None
 
 
-def said_of(data, word, said, program):
+def said_of(data: bytes, word: str, said: str, program: str) -> list[str]:
     """Gives the parts of the line that tells of a fault, or of a `no` of audit."""
     text = data.decode("utf-8", errors="replace")
     denied = re.fullmatch(r"no (\d+) (\w+)", said.strip())
@@ -338,7 +339,7 @@ def said_of(data, word, said, program):
     return parts
 
 
-def main():
+def main() -> None:
     if sys.argv[1:] == ["--help"]:
         print(__doc__.strip())
         return

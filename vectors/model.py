@@ -3,11 +3,17 @@
 The program is not asked. A tag hears a command as `probe` spells it, and `hear` gives what it answers; `befall` takes an event.
 """
 
+from __future__ import annotations
+
 import functools
 import os
 import re
+import sys
 
 TOP = os.path.dirname(os.path.dirname(os.path.abspath(__file__)))
+sys.path.append(f"{TOP}/examples")
+from levels import crc16  # noqa: E402  (it stands in examples)
+
 STATES = ("ready", "arbitrate", "reply", "acknowledged", "open", "secured", "killed", "off")
 BANKS = ("res", "epc", "tid", "user")
 FLAGS = ("s0", "s1", "s2", "s3", "sl")
@@ -16,7 +22,7 @@ ACCESS = ("read", "write", "kill", "lock", "access", "blockwrite", "blockerase")
 PAIRS = {"kill": 0, "access": 2, "epc": 4, "tid": 6, "user": 8}
 
 
-def cells():
+def cells() -> dict[tuple[str, str], str]:
     """Gives the table 'Each command and event in each state' of docs/TAG.md: the text of a cell by command and state."""
     with open(f"{TOP}/docs/TAG.md", encoding="utf-8") as it:
         part = it.read().split("## Each command and event in each state")[1].split("\n## ")[0]
@@ -29,29 +35,20 @@ def cells():
 CELLS = cells()
 
 
-def words_of(field):
+def words_of(field: str) -> list[int]:
     return [] if field == "-" else [int(field[at : at + 4], 16) for at in range(0, len(field), 4)]
 
 
-def text_of(words):
+def text_of(words: list[int]) -> str:
     return "".join(f"{word:04X}" for word in words) or "-"
 
 
-def bits_of(words):
+def bits_of(words: list[int]) -> str:
     return "".join(f"{word:016b}" for word in words)
 
 
-def crc16(bits):
-    """Annex F: preset FFFFh, the polynomial 1021h, complemented."""
-    register = 0xFFFF
-    for bit in bits:
-        top = register >> 15 ^ int(bit)
-        register = register << 1 & 0xFFFF ^ (0x1021 if top else 0)
-    return register ^ 0xFFFF
-
-
 class Tag:
-    def __init__(self, line):
+    def __init__(self, line: str) -> None:
         _, kill, access, locks, epc, tid, user, words = line.split(" ")
         self.banks = {"res": words_of(kill) + words_of(access), "epc": [0, *words_of(epc)], "tid": words_of(tid), "user": words_of(user)}
         self.locks, self.words, self.drawn = locks, words_of(words), 0
@@ -65,35 +62,35 @@ class Tag:
 
     # What it holds.
 
-    def copy(self):
+    def copy(self) -> Tag:
         """Gives a tag that is the same, and goes on by itself."""
         it = object.__new__(Tag)
         it.__dict__.update(self.__dict__)
         it.banks, it.flags = dict(self.banks), dict(self.flags)
         return it
 
-    def ready(self):
+    def ready(self) -> None:
         self.state = "ready"
         self.session = self.q = self.slot = self.number = self.cover = self.half = None
 
-    def epc_words(self):
+    def epc_words(self) -> list[int]:
         return self.banks["epc"][2 : 2 + (self.banks["epc"][1] >> 11)]
 
-    def store_crc(self):
+    def store_crc(self) -> None:
         crc = crc16(bits_of([self.banks["epc"][1], *self.epc_words()]))
         self.banks["epc"] = [crc, *self.banks["epc"][1:]]
 
-    def draw(self):
+    def draw(self) -> int:
         self.drawn += 1
         return self.words[(self.drawn - 1) % len(self.words)]
 
-    def password(self, kind):
+    def password(self, kind: str) -> int:
         upper, lower = self.banks["res"][0:2] if kind == "kill" else self.banks["res"][2:4]
         return upper << 16 | lower
 
     # Its lines.
 
-    def state_line(self):
+    def state_line(self) -> str:
         flags = "".join(self.flags[it] for it in FLAGS[:4]) + str(self.flags["sl"])
         numbers = {
             "arbitrate": lambda: [str(self.slot)],
@@ -105,54 +102,54 @@ class Tag:
             return f"{self.state} {flags}"
         return " ".join([self.state, flags, str(self.session), str(self.q), *numbers.get(self.state, held)()])
 
-    def tag_line(self):
+    def tag_line(self) -> str:
         flags = self.state_line().split(" ")[1]
         return " ".join([self.state, flags, self.locks, *(text_of(self.banks[it]) for it in BANKS)])
 
     # The moves of TAG.
 
-    def stay(self):
+    def stay(self) -> None:
         return None
 
-    def back(self):
+    def back(self) -> None:
         session, q = self.session, self.q
         self.ready()
         self.state, self.session, self.q, self.slot = "arbitrate", session, q, 0
 
-    def close(self):
+    def close(self) -> None:
         name = f"s{self.session}"
         self.flags[name] = "B" if self.flags[name] == "A" else "A"
         self.ready()
 
-    def enter(self, session, q):
+    def enter(self, session: int, q: int) -> str | None:
         self.ready()
         self.session, self.q = session, q
         self.slot = self.draw() % 2**q
         return self.reply_now() if self.slot == 0 else self.wait()
 
-    def reply_now(self):
+    def reply_now(self) -> str:
         self.state, self.slot, self.number = "reply", None, self.draw()
         return f"plain rn16 {self.number:04X}"
 
-    def wait(self):
+    def wait(self) -> None:
         self.state = "arbitrate"
 
-    def join(self, sel, session, target, q):
+    def join(self, sel: str, session: int, target: str, q: int) -> str | None:
         allowed = {"00": True, "01": True, "10": self.flags["sl"] == 0, "11": self.flags["sl"] == 1}[sel]
         if allowed and self.flags[f"s{session}"] == target.upper():
             return self.enter(session, q)
         self.ready()
         return None
 
-    def count(self):
+    def count(self) -> str | None:
         self.slot = self.slot - 1 if self.slot else 0x7FFF
         return self.reply_now() if self.slot == 0 else None
 
-    def adjust(self, updn):
+    def adjust(self, updn: str) -> str | None:
         q = {"up": min(self.q + 1, 15), "same": self.q, "down": max(self.q - 1, 0)}[updn]
         return self.enter(self.session, q)
 
-    def select(self, target, action, bank, pointer, mask):
+    def select(self, target: str, action: int, bank: str, pointer: int, mask: str) -> None:
         bits, mask = bits_of(self.banks[bank]), "" if mask == "-" else mask
         self.by_profile |= not mask or pointer + len(mask) > len(bits)
         matches = pointer + len(mask) <= len(bits) and bits[pointer : pointer + len(mask)] == mask
@@ -165,31 +162,31 @@ class Tag:
             self.flags[target] = {"a": "A", "d": "B", "i": "AB"[old == "A"], "": old}[done]
         self.ready()
 
-    def send(self):
+    def send(self) -> str:
         self.state = "acknowledged" if self.state == "reply" else self.state
         return f"plain epc {self.banks['epc'][1]:04X} {text_of(self.epc_words())}"
 
-    def open(self):
+    def open(self) -> str:
         self.number = self.draw()
         self.state = "open" if self.password("access") else "secured"
         return f"plain handle {self.number:04X}"
 
-    def new_cover(self):
+    def new_cover(self) -> str:
         self.cover = self.draw()
         return f"plain handle {self.cover:04X}"
 
     # The rules of open and secured.
 
-    def may(self, field, use):
+    def may(self, field: str, use: str) -> bool:
         pair = self.locks[PAIRS[field] : PAIRS[field] + 2]
         if use == "read" and field not in ("kill", "access"):
             return True
         return {"00": True, "01": True, "10": self.state == "secured", "11": False}[pair]
 
-    def field_of(self, bank, place):
+    def field_of(self, bank: str, place: int) -> str:
         return ("kill" if place < 2 else "access") if bank == "res" else bank
 
-    def read(self, bank, pointer, count):
+    def read(self, bank: str, pointer: int, count: int) -> str:
         words = self.banks[bank]
         if count == 0:
             length = 2 + (self.banks["epc"][1] >> 11)
@@ -202,7 +199,7 @@ class Tag:
             return "plain error 04"
         return f"plain words {text_of(words[pointer : pointer + count])}"
 
-    def change(self, bank, pointer, words):
+    def change(self, bank: str, pointer: int, words: list[int]) -> str:
         self.by_profile |= bank == "epc"
         old = self.banks[bank]
         new = old[:pointer] + words + old[pointer + len(words) :]
@@ -216,7 +213,7 @@ class Tag:
         self.banks[bank] = new
         return "extended header"
 
-    def lock(self, payload):
+    def lock(self, payload: int) -> str:
         bits = f"{payload:020b}"
         mask, action = bits[:10], bits[10:]
         self.by_profile |= any("1" in mask[at : at + 2] and self.locks[at + 1] == "1" for at in range(0, 10, 2))
@@ -231,7 +228,7 @@ class Tag:
         self.locks = "".join(new)
         return "extended header"
 
-    def half_of(self, kind, value):
+    def half_of(self, kind: str, value: int) -> str | None:
         """Rules 6 to 8: a half of a password comes, without its cover."""
         if self.half is None:
             self.half = (kind, value)
@@ -252,7 +249,7 @@ class Tag:
         self.state = "killed"
         return "extended header"
 
-    def by_rules(self, name, given, rules):
+    def by_rules(self, name: str, given: list[int | str | list[int]], rules: list[str]) -> str | None:
         """The rules that the cell names, in order. The last field of a command is the tag's number."""
         if given[-1] != self.number:
             return None
@@ -279,7 +276,7 @@ class Tag:
 
     # What it hears, and what befalls it.
 
-    def hear(self, line):
+    def hear(self, line: str) -> str | None:
         name, given = command_in(line)
         cell = CELLS[name, self.state]
         if name == "query" and self.state not in ("killed", "off"):
@@ -290,7 +287,7 @@ class Tag:
             return self.by_rules(name, given, cell.split(", "))
         return self.move(self.case(cell, name, given), name, given)
 
-    def case(self, cell, name, given):
+    def case(self, cell: str, name: str, given: list[int | str | list[int]]) -> str:
         """Gives the moves of the first case of a cell that holds."""
         for case in cell.split("; "):
             when, _, moves = case.rpartition(": ")
@@ -300,7 +297,7 @@ class Tag:
                 return re.sub("^else ", "", moves)
         raise AssertionError(cell)
 
-    def holds(self, when, name, given):
+    def holds(self, when: str, name: str, given: list[int | str | list[int]]) -> bool:
         if when == "half":
             return self.half is not None
         if when == "of its session":
@@ -308,17 +305,17 @@ class Tag:
         assert when in ("", "its RN16", "its handle"), when
         return not when or given[-1:] == [self.number]
 
-    def move(self, moves, name, given):
+    def move(self, moves: str, name: str, given: list[int | str | list[int]]) -> str | None:
         answer = None
         for move in moves.split(", then "):
             answer = MOVES[move](self, given)
         return answer
 
-    def count_past(self):
+    def count_past(self) -> None:
         self.back()
         self.slot = 0x7FFF
 
-    def befall(self, kind, flag=None):
+    def befall(self, kind: str, flag: str | None = None) -> None:
         cell = CELLS[kind, self.state]
         if kind == "expire":
             self.by_profile = True
@@ -326,15 +323,15 @@ class Tag:
         else:
             {"STAY": self.stay, "BACK": self.back, "OFF": self.off, "ON": self.on}[cell]()
 
-    def off(self):
+    def off(self) -> None:
         self.ready()
         self.state, self.flags["s0"] = "off", "A"
 
-    def on(self):
+    def on(self) -> None:
         self.ready()
         self.store_crc()
 
-    def expire(self, cell, flag):
+    def expire(self, cell: str, flag: str) -> None:
         for case in cell.split("; "):
             named = re.fullmatch(r"(?:of )?([S0-9L, ]+)(?:: | is )(.*)", case)
             if named and flag.upper() in named[1].split(", "):
@@ -360,13 +357,13 @@ MOVES = {
 
 
 @functools.lru_cache(maxsize=4096)
-def command_in(line):
+def command_in(line: str) -> tuple[str, list[int | str | list[int]]]:
     """Gives the name and the fields of a command."""
     name, *fields = line.split(" ")
     return name, parsed(name, fields)
 
 
-def parsed(name, fields):
+def parsed(name: str, fields: list[str]) -> list[int | str | list[int]]:
     """Gives the fields of a command as numbers, words and names."""
     word, words, number, same = lambda it: int(it, 16), words_of, int, str
     kinds = {
@@ -389,7 +386,7 @@ def parsed(name, fields):
     return [kind(field) for kind, field in zip(kinds, fields)]
 
 
-def command_of(bits):
+def command_of(bits: str) -> str | None:
     """Gives the command that bits spell, of those that are tried here (6.3.2.11): a NAK, a QueryRep, or an ACK."""
     if bits == "11000000":
         return "nak"
@@ -400,7 +397,7 @@ def command_of(bits):
     return None
 
 
-def done(tag, line):
+def done(tag: Tag, line: str) -> list[str]:
     """Does to the tag what a line says, and gives the lines that tell of its answer."""
     name, _, rest = line.partition(" ")
     if name == "event":
@@ -410,7 +407,7 @@ def done(tag, line):
     return [command and tag.hear(command) or "-"]
 
 
-def standing(tag_line, lines):
+def standing(tag_line: str, lines: list[str]) -> Tag:
     """Gives the tag behind these lines."""
     tag = Tag(tag_line)
     for line in lines:
@@ -418,7 +415,7 @@ def standing(tag_line, lines):
     return tag
 
 
-def played(tag_line, lines):
+def played(tag_line: str, lines: list[str]) -> list[str]:
     """Gives what `probe` has to write for a tag and what is done to it."""
     tag, written = Tag(tag_line), []
     for number, line in enumerate(lines, 3):

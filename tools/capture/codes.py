@@ -10,6 +10,8 @@ from dataclasses import dataclass
 
 import numpy as np
 
+from levels import fm0_lead
+
 CODES = ("fm0", "m2", "m4", "m8")
 # A level is seen together with the one behind it and the two before it.
 REACH_BEHIND, REACH_BEFORE = 1, 2
@@ -51,7 +53,7 @@ def symbol(code: str, state: tuple[int, int], bit: int) -> list[int]:
 def lead(code: str, trext: str) -> np.ndarray:
     """Gives the levels before the first bit: the pilot, where there is one, and the preamble."""
     if code == "fm0":
-        return levels_of(("10" * 12 if trext == "1" else "") + "110100100011")
+        return levels_of(fm0_lead(int(trext)))
     levels = [1, -1] * cycles(code) * (16 if trext == "1" else 4)
     # No phase turns between the subcarrier alone and the 0 behind it.
     state = (levels[-1], 1)

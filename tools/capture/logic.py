@@ -146,7 +146,7 @@ def from_sigrok(path: str, rate: float | None, reader: str | None, tag: str | No
     if shutil.which("sigrok-cli") is None:
         raise Trouble(f"{path} is a sigrok session, which sigrok-cli converts: it isn't installed")
     with tempfile.TemporaryDirectory(prefix="explain-capture-") as folder:
-        ran = subprocess.run(["sigrok-cli", "-i", path, "-O", "vcd", "-o", f"{folder}/it.vcd"], stderr=subprocess.PIPE, universal_newlines=True)
+        ran = subprocess.run(["sigrok-cli", "-i", path, "-O", "vcd", "-o", f"{folder}/it.vcd"], stderr=subprocess.PIPE, encoding="utf-8")
         if ran.returncode or not os.path.exists(f"{folder}/it.vcd"):
             raise Trouble(f"{path} isn't read by sigrok-cli: {ran.stderr.strip()[:200]}")
         return from_vcd(f"{folder}/it.vcd", rate, reader, tag)

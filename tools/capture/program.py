@@ -33,7 +33,7 @@ class Program:
     def ask(self, lines: list[str]) -> list[str]:
         given = "".join(f"{it}\n" for it in lines)
         try:
-            ran = subprocess.run([self.path, "decode"], input=given, stdout=subprocess.PIPE, stderr=subprocess.PIPE, universal_newlines=True)
+            ran = subprocess.run([self.path, "decode"], input=given, stdout=subprocess.PIPE, stderr=subprocess.PIPE, encoding="utf-8")
         except OSError as error:
             raise Trouble(f"{self.path} can't be run: {error.strerror}") from None
         answers = ran.stdout.splitlines()
