@@ -1,24 +1,31 @@
 // Answers calls of the page's modules in node, for checks/page: each line of the standard input is an object, and so is each line of the output.
 //
 // answer.mjs PAGE [BITS]: of a page, or of its module for so many bits of memory alone. {words, input} gives {status, output}, both in base64;
-// {text, word, fault} gives what fault.js explains, and {word, lines} what meanings.js says of each line.
+// {text, word, fault} gives what fault.js explains of a text, {bytes, word, fault} what it explains of bytes, and {word, lines} what meanings.js says of
+// each line; {text, verdict} gives what verdict.js explains of what audit wrote; {room} says whether there is memory for so many bytes.
 import { readFileSync } from "node:fs";
 import { createInterface } from "node:readline";
-import { explanation } from "./fault.js";
+import { explanation, explanationOfBytes } from "./fault.js";
 import { meaning } from "./meanings.js";
-import { Program } from "./program.js";
+import { Program, compiled } from "./program.js";
+import { Text } from "./text.js";
+import { explainedVerdict } from "./verdict.js";
 
 const page = readFileSync(process.argv[2], "utf-8");
 const data = JSON.parse(/<script type="application\/json" id="data">(.*?)<\/script>/s.exec(page)[1]);
 const modules = Object.entries(data.modules).filter(([bits]) => !process.argv[3] || bits === process.argv[3]);
-const program = await Program.of(modules.map(([, it]) => Buffer.from(it, "base64")));
+const program = new Program(await compiled(modules.map(([, it]) => Buffer.from(it, "base64"))));
 
-for await (const line of createInterface({ input: process.stdin })) {
-  const asked = JSON.parse(line);
-  if (asked.fault) console.log(JSON.stringify(explanation(data.fault, asked.text, asked.word, asked.fault) ?? {}));
-  else if (asked.lines) console.log(JSON.stringify(asked.lines.map((it) => meaning(asked.word, it))));
-  else {
-    const { status, output } = program.call(asked.words, Buffer.from(asked.input, "base64"));
-    console.log(JSON.stringify({ status, output: Buffer.from(output).toString("base64") }));
-  }
+const ask = async (words, lines) => new Text(program.call(words, Buffer.from(lines.map((it) => `${it}\n`).join(""))).output).lines();
+
+function answerOf(asked) {
+  if (asked.bytes !== undefined) return explanationOfBytes(data.fault, Buffer.from(asked.bytes, "base64"), asked.word, asked.fault) ?? {};
+  if (asked.fault) return explanation(data.fault, asked.text, asked.word, asked.fault) ?? {};
+  if (asked.lines) return asked.lines.map((it) => meaning(asked.word, it));
+  if (asked.verdict) return explainedVerdict(ask, asked.text, asked.verdict);
+  if (asked.room) return program.instance.exports.malloc(BigInt(asked.room)) !== 0n;
+  const { status, output } = program.call(asked.words, Buffer.from(asked.input, "base64"));
+  return { status, output: Buffer.from(output).toString("base64") };
 }
+
+for await (const line of createInterface({ input: process.stdin })) console.log(JSON.stringify(await answerOf(JSON.parse(line))));

@@ -35,3 +35,14 @@ export const doorOf = (word) => DOORS.find((it) => it.words.includes(word)) ?? D
 
 // The word whose examples a word has: the modes of a run have those of `run`.
 export const exampleWord = (word) => (word.startsWith("run ") || word === "upgrade" ? "run" : word);
+
+const OF_DECODE = /^(?:fm0|m2|m4|m8|pie|command|reply|heard|samples|sgtin|uri) /;
+
+// Gives the word that a file is for, by how it begins: a scenario with a trace behind it is one for audit, and a text that tells nothing stays with the word
+// that was chosen.
+export function wordOfFile(text, chosen) {
+  if (text.startsWith("gen2 ")) return /\nend\n./.test(text) ? "audit" : exampleWord(chosen) === "run" || chosen === "portals" ? chosen : "run";
+  if (text.startsWith("probe 1\n")) return "probe";
+  if (/^(?:list|round|seen) \d/.test(text)) return "names";
+  return OF_DECODE.test(text) && chosen !== "encode" ? "decode" : chosen;
+}

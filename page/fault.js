@@ -112,3 +112,24 @@ function saidOfWord(tables, word, number, first, forms) {
   if (word === "probe" && first === "command") return "a command stands here without the word command, as in: ack A1B2";
   return `a line begins with one of: ${(word === "probe" ? begins.slice(2) : begins).join(" ")}`;
 }
+
+// Says what the bytes of a text are, where they are none of the program's: a byte order mark, another encoding, lines of Windows, a cut end.
+function bytesTold(bytes) {
+  const begins = (...wanted) => wanted.every((it, at) => bytes[at] === it);
+  if (begins(0xef, 0xbb, 0xbf)) return "the file begins with a byte order mark: sed -i '1s/^\\xef\\xbb\\xbf//' takes it out";
+  if (begins(0xff, 0xfe) || begins(0xfe, 0xff)) return "the file is UTF-16: iconv -f UTF-16 -t UTF-8 makes UTF-8 of it";
+  for (let at = bytes.indexOf(13); at >= 0; at = bytes.indexOf(13, at + 1)) {
+    if (bytes[at + 1] === 10) return "lines end with CR LF, as a Windows editor writes them: tr -d '\\r' takes the CR out";
+  }
+  return bytes.length && bytes.at(-1) !== 10 ? "the last line is cut: it has no line feed at its end" : undefined;
+}
+
+// Gives what explanation gives of a text, with what is to be said of its bytes.
+export function explanationOfBytes(tables, bytes, word, fault) {
+  const text = new TextDecoder("utf-8", { ignoreBOM: true }).decode(bytes);
+  const told = explanation(tables, text, word, fault);
+  const marks = bytesTold(bytes);
+  // (the last line is cut where the fault is there; else it is another one that is to be told)
+  if (!told || !marks || (marks.includes("cut") && told.number < text.split("\n").length)) return told;
+  return { ...told, said: [...told.said.filter((it) => !it.includes("carriage return") && !it.includes("no line feed")), marks] };
+}

@@ -48,7 +48,9 @@ static size_t more(size_t length) {
         place = ((size_t)&__heap_base + HEADER - 1) / HEADER * HEADER, end = __builtin_wasm_memory_size(0) * (size_t)PAGE;
     if (end - place < length) {
         size_t pages = (length - (end - place) + PAGE - 1) / PAGE;
-        if (__builtin_wasm_memory_grow(0, pages) == (size_t)-1)
+        /* (what it gives where it can't grow isn't -1 any more in a module that is lowered to 32 bits: so its size is looked at) */
+        __builtin_wasm_memory_grow(0, pages);
+        if (__builtin_wasm_memory_size(0) * (size_t)PAGE - end < pages * PAGE)
             return 0;
         end += pages * PAGE;
     }

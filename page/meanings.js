@@ -1,4 +1,5 @@
 // What a line that the program writes says, in words. docs/FORMATS.md has the lines with their limits.
+import { DUMP, SCENARIO, lineOfObject } from "./forms.js";
 
 const BANKS = { res: "Reserved", epc: "EPC", tid: "TID", user: "User" };
 const STATES = {
@@ -123,7 +124,8 @@ function saidOfResult(result) {
 // Gives what a line says that the program wrote for these words, or an empty text.
 export function meaning(word, line) {
   if (line.startsWith("fault ")) return FAULT;
-  const first = word.split(" ")[0];
-  const kinds = { decode: DECODED, probe: PROBED, run: word === "run json" || word === "run vcd" ? [] : REPORT, ...OTHERS }[first] ?? [];
-  return found(kinds, line) ?? "";
+  if (word === "run json") return found(REPORT, lineOfObject(line)) ?? "";
+  const kinds = { decode: DECODED, probe: PROBED, run: REPORT, "run vcd": DUMP, ...OTHERS };
+  if (word === "upgrade") return found([...SCENARIO, ...COMMANDS], line) ?? "";
+  return found(kinds[word] ?? kinds[word.split(" ")[0]] ?? [], line) ?? "";
 }

@@ -1,16 +1,29 @@
-// What the page's worker does: its first message has the modules, and each other one is a call.
+// What the page's worker does: its first message has the module, and each other one is a call. `wants` is what else is to be found in the output.
 import { Program } from "./program.js";
+import { firstsOf, slotsOf } from "./slots.js";
+import { Text } from "./text.js";
 
 let program;
 
-onmessage = async ({ data }) => {
+function answerOf({ words, input, wants }) {
+  const begun = performance.now();
+  const { status, output } = program.call(words, input);
+  const milliseconds = performance.now() - begun;
+  const text = new Text(output);
+  const answer = { status, output, starts: text.starts, milliseconds };
+  if (wants?.firsts) answer.firsts = firstsOf(text, wants.firsts);
+  if (wants?.slots) answer.slots = slotsOf(text);
+  return answer;
+}
+
+onmessage = ({ data }) => {
+  if (data.module) {
+    program = new Program(data.module);
+    return;
+  }
   try {
-    program ??= Program.of(data.modules);
-    const ready = await program;
-    if (data.modules) return;
-    const begun = performance.now();
-    const { status, output } = ready.call(data.words, data.input);
-    postMessage({ status, output, milliseconds: performance.now() - begun }, [output.buffer]);
+    const answer = answerOf(data);
+    postMessage(answer, [answer.output.buffer, answer.starts.buffer]);
   } catch (error) {
     postMessage({ error: String(error) });
   }
