@@ -49,7 +49,7 @@ class OfPage:
         command = ["node", *options_for(bits), f"{TOP}/page/answer.mjs", path, bits]
         self.node = subprocess.Popen(command, stdin=subprocess.PIPE, stdout=subprocess.PIPE) if self.is_there() else None
 
-    def ask(self, **what: str) -> dict[str, Any]:
+    def ask(self, **what: object) -> dict[str, Any]:
         self.node.stdin.write(json.dumps(what).encode() + b"\n")
         self.node.stdin.flush()
         return json.loads(self.node.stdout.readline())

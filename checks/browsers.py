@@ -1,5 +1,7 @@
 """Browsers for checks/page, each with one page: Chromium by the protocol of its developer tools over two pipes, and Firefox by Marionette over a socket."""
 
+from __future__ import annotations
+
 import base64
 import json
 import os
@@ -7,6 +9,7 @@ import shutil
 import socket
 import subprocess
 import time
+from typing import Any
 
 # How long a browser may take for one thing, in seconds.
 PATIENCE = 120
@@ -15,7 +18,7 @@ PATIENCE = 120
 class Browser:
     """What both can do: `value` gives the value of an expression in the page, of a promise its value, and `go` opens an address."""
 
-    def await_value(self, script, wanted=True):
+    def await_value(self, script: str, wanted: object = True) -> bool:
         """Waits until an expression has a value, and gives whether it came to have it."""
         end = time.monotonic() + PATIENCE
         while time.monotonic() < end:
@@ -24,13 +27,13 @@ class Browser:
             time.sleep(0.05)
         return False
 
-    def open(self, url, is_open):
+    def open(self, url: str, is_open: str) -> bool:
         """Opens an address anew, and waits for what says that it is open."""
         self.go("about:blank")
         self.go(url)
         return self.await_value(is_open)
 
-    def picture(self, path, width, height, scheme):
+    def picture(self, path: str, width: int, height: int, scheme: str) -> None:
         """Leaves a picture of the page with this size, in light or dark."""
         self.look(width, height, scheme)
         time.sleep(0.5)
@@ -41,7 +44,7 @@ class Browser:
 class Chromium(Browser):
     name, program = "chromium", shutil.which("chromium")
 
-    def __init__(self, folder):
+    def __init__(self, folder: str) -> None:
         asked, self.to = os.pipe()
         self.of, told = os.pipe()
         options = ["--headless=new", "--no-sandbox", "--disable-gpu", "--disable-dev-shm-usage", "--remote-debugging-pipe", f"--user-data-dir={folder}/chromium"]
@@ -54,7 +57,7 @@ class Chromium(Browser):
         self.session = self.ask("Target.attachToTarget", targetId=target, flatten=True)["sessionId"]
         self.ask("Page.enable")
 
-    def ask(self, method, **params):
+    def ask(self, method: str, **params: object) -> dict[str, Any]:
         self.number += 1
         session = {"sessionId": self.session} if self.session else {}
         os.write(self.to, json.dumps({"id": self.number, "method": method, "params": params, **session}).encode() + b"\0")
@@ -71,31 +74,31 @@ class Chromium(Browser):
                     raise ValueError(f"{method}: {answer['error']}")
                 return answer["result"]
 
-    def value(self, script):
+    def value(self, script: str) -> Any:
         result = self.ask("Runtime.evaluate", expression=script, awaitPromise=True, returnByValue=True)
         return result["result"].get("value", result.get("exceptionDetails"))
 
-    def go(self, url):
+    def go(self, url: str) -> None:
         self.ask("Page.navigate", url=url)
 
-    def press(self, key):
+    def press(self, key: str) -> None:
         """Presses a key, as `Tab`."""
         for kind in ("rawKeyDown", "keyUp"):
             self.ask("Input.dispatchKeyEvent", type=kind, key=key, code=key, windowsVirtualKeyCode={"Tab": 9}.get(key, 0))
 
-    def names(self):
+    def names(self) -> list[tuple[str, str]]:
         """Gives the role and the name of each thing in the page that a screen reader tells of."""
         nodes = self.ask("Accessibility.getFullAXTree")["nodes"]
         return [(it["role"]["value"], it.get("name", {}).get("value", "")) for it in nodes if not it.get("ignored")]
 
-    def look(self, width, height, scheme):
+    def look(self, width: int, height: int, scheme: str) -> None:
         self.ask("Emulation.setDeviceMetricsOverride", width=width, height=height, deviceScaleFactor=1, mobile=False)
         self.ask("Emulation.setEmulatedMedia", features=[{"name": "prefers-color-scheme", "value": scheme}])
 
-    def seen(self):
+    def seen(self) -> str:
         return self.ask("Page.captureScreenshot")["data"]
 
-    def end(self):
+    def end(self) -> None:
         self.process.terminate()
         self.process.wait()
 
@@ -103,7 +106,7 @@ class Chromium(Browser):
 class Firefox(Browser):
     name, program = "firefox", shutil.which("firefox-esr") or shutil.which("firefox")
 
-    def __init__(self, folder):
+    def __init__(self, folder: str) -> None:
         profile = f"{folder}/firefox"
         os.makedirs(profile)
         with open(f"{profile}/user.js", "w", encoding="utf-8") as it:
@@ -117,7 +120,7 @@ class Firefox(Browser):
         self.ask("WebDriver:NewSession")
         self.ask("WebDriver:SetTimeouts", script=1000 * PATIENCE, pageLoad=1000 * PATIENCE)
 
-    def connected(self, path):
+    def connected(self, path: str) -> socket.socket:
         """Gives a connection to the port that Firefox names in a file once it listens."""
         end = time.monotonic() + PATIENCE
         while time.monotonic() < end and self.process.poll() is None:
@@ -129,7 +132,7 @@ class Firefox(Browser):
             time.sleep(0.1)
         raise EOFError("firefox doesn't listen")
 
-    def read(self):
+    def read(self) -> Any:
         """Gives what Firefox says next: a length in digits, a colon, and so many bytes."""
         while True:
             length, colon, rest = self.left.partition(b":")
@@ -141,7 +144,7 @@ class Firefox(Browser):
                 raise EOFError("firefox ended")
             self.left += part
 
-    def ask(self, method, **params):
+    def ask(self, method: str, **params: object) -> dict[str, Any]:
         self.number += 1
         said = json.dumps([0, self.number, method, params]).encode()
         self.socket.sendall(b"%d:%s" % (len(said), said))
@@ -150,14 +153,14 @@ class Firefox(Browser):
             raise ValueError(f"{method}: {error}")
         return result
 
-    def value(self, script):
+    def value(self, script: str) -> Any:
         text = f"const done = arguments[0]; Promise.resolve().then(() => eval({json.dumps(script)})).then(done, (error) => done(String(error)))"
         return self.ask("WebDriver:ExecuteAsyncScript", script=text, args=[], newSandbox=False)["value"]
 
-    def go(self, url):
+    def go(self, url: str) -> None:
         self.ask("WebDriver:Navigate", url=url)
 
-    def look(self, width, height, scheme):
+    def look(self, width: int, height: int, scheme: str) -> None:
         self.ask("Marionette:SetContext", value="chrome")
         # (a window is at least 500 pixels wide, and what it shows may be less)
         narrow = f"{width}px" if width < 500 else "none"
@@ -169,10 +172,10 @@ class Firefox(Browser):
         self.ask("Marionette:SetContext", value="content")
         self.ask("WebDriver:SetWindowRect", width=width, height=height)
 
-    def seen(self):
+    def seen(self) -> str:
         return self.ask("WebDriver:TakeScreenshot", full=False, hash=False)["value"]
 
-    def end(self):
+    def end(self) -> None:
         self.socket.close()
         self.process.terminate()
         self.process.wait()

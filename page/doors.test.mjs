@@ -6,6 +6,8 @@ test("each word has its door, and modes of a run have its examples", () => {
   for (const door of DOORS) for (const word of door.words) assert.equal(doorOf(word), door);
   assert.equal(exampleWord("run vcd"), "run");
   assert.equal(exampleWord("probe"), "probe");
+  assert.equal(exampleWord("probe json"), "probe");
+  assert.equal(exampleWord("run exchanges json"), "run");
 });
 
 test("a file is for the word that its text begins with", () => {
@@ -16,5 +18,7 @@ test("a file is for the word that its text begins with", () => {
   assert.equal(wordOfFile("list 1 1 3000 00\n", "run"), "names");
   assert.equal(wordOfFile("fm0 0 1\n", "run"), "decode");
   assert.equal(wordOfFile("command nak\n", "encode"), "encode");
+  assert.equal(wordOfFile("fm0 0 1\n", "decode json"), "decode json");
+  assert.equal(wordOfFile("gen2 1\nlink\nend\nblf 8/1\n", "audit json"), "audit json");
   assert.equal(wordOfFile("", "audit"), "audit");
 });

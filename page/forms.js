@@ -75,3 +75,11 @@ export function lineOfObject(text) {
   const fields = FIELDS[object.kind].map((it) => (object[it] === "" ? (it === "value" ? undefined : "-") : object[it]));
   return [object.kind, ...fields.filter((it) => it !== undefined)].join(" ");
 }
+
+// Gives the line of another word that an object stands for: its members are the fields of the line in their order, and the URI of an EPC.
+export function lineOfMembers(text) {
+  const { kind, line, ...members } = JSON.parse(text);
+  const isField = ([key, it]) => (key === "uri" ? kind === "name" : key !== "value" || it !== "");
+  const fields = Object.entries(members).filter(isField).map(([, it]) => (it === "" ? "-" : it));
+  return [kind, line, ...fields].filter((it) => it !== undefined).join(" ");
+}

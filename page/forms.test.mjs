@@ -1,6 +1,6 @@
 import assert from "node:assert/strict";
 import { test } from "node:test";
-import { lineOfObject } from "./forms.js";
+import { lineOfMembers, lineOfObject } from "./forms.js";
 import { meaning } from "./meanings.js";
 
 test("an object stands for a line of a report", () => {
@@ -8,6 +8,17 @@ test("an object stands for a line of a report", () => {
   assert.equal(lineOfObject('{"index":1,"kind":"op","result":"ok","round":1,"slot":1,"value":""}'), "op 1 1 1 ok");
   assert.equal(lineOfObject('{"count":1,"epc":"","kind":"seen","pc":"0000"}'), "seen 1 0000 -");
   assert.equal(lineOfObject('{"kind":"done"}'), "done");
+});
+
+test("an object of another word stands for its line, and is explained as that is", () => {
+  assert.equal(lineOfMembers('{"line":3,"kind":"answer","preamble":""}'), "answer 3 -");
+  assert.equal(lineOfMembers('{"kind":"seen","count":1,"pc":"3000","epc":"3074257BF7194E4000001A85","uri":"urn:epc:tag:sgtin-96:3.0614141.812345.6789"}'), "seen 1 3000 3074257BF7194E4000001A85");
+  assert.equal(lineOfMembers('{"kind":"op","round":1,"slot":2,"index":1,"result":"ok","value":""}'), "op 1 2 1 ok");
+  assert.match(meaning("decode json", '{"kind":"name","uri":"urn:epc:tag:sgtin-96:3.0614141.812345.6789"}'), /SGTIN-96/);
+  assert.match(meaning("probe json", '{"line":3,"kind":"state","state":"ready","flags":"AAAA0"}'), /behind line 3 the tag is in ready/);
+  assert.match(meaning("audit json", '{"line":3,"kind":"no","reason":"levels"}'), /line 3/);
+  assert.match(meaning("run exchanges json", '{"kind":"exchange","exchange":2,"command":"ack","rn":"A1B2"}'), /exchange 2: an ACK/);
+  assert.match(meaning("run exchanges json", "fault 1 version"), /faulty/);
 });
 
 test("a dump and a scenario have their meanings", () => {

@@ -1,5 +1,5 @@
 // What a line that the program writes says, in words. docs/FORMATS.md has the lines with their limits.
-import { DUMP, SCENARIO, lineOfObject } from "./forms.js";
+import { DUMP, SCENARIO, lineOfMembers, lineOfObject } from "./forms.js";
 
 const BANKS = { res: "Reserved", epc: "EPC", tid: "TID", user: "User" };
 const STATES = {
@@ -125,6 +125,7 @@ function saidOfResult(result) {
 export function meaning(word, line) {
   if (line.startsWith("fault ")) return FAULT;
   if (word === "run json") return found(REPORT, lineOfObject(line)) ?? "";
+  if (word.endsWith(" json")) return meaning(word.replace(/ json$/, ""), lineOfMembers(line));
   const kinds = { decode: DECODED, probe: PROBED, run: REPORT, "run vcd": DUMP, ...OTHERS };
   if (word === "upgrade") return found([...SCENARIO, ...COMMANDS], line) ?? "";
   return found(kinds[word] ?? kinds[word.split(" ")[0]] ?? [], line) ?? "";

@@ -116,7 +116,7 @@ def _lines(words: str, lines: Union[Text, Iterable[str]]) -> List[str]:
 
 
 def run(scenario: Text, report: str = "") -> str:
-    """Plays a scenario, and gives its report: plain, or as `report` says `trace`, `json`, `exchanges` or `vcd`."""
+    """Plays a scenario, and gives its report: plain, or as `report` says `trace`, `json`, `exchanges`, `exchanges json` or `vcd`."""
     return _answer(f"run {report}" if report else "run", _whole(scenario))
 
 

@@ -9,11 +9,12 @@ use Rattle.std.proofs.lemmas.List.Sums.{AllPass-from_list_all}
 use Rattle.std.proofs.lemmas.Str.{IsUtf8-from_ascii, IsUtf8-string_bytes}
 use Rattle.std.proofs.lemmas.Str.Ascii.{IsAscii-from_all}
 use Rattle.gen2_library.specs.Called.{HasUnreadableWord}
+use Rattle.line_objects.specs.declared.rows.LineSet.TheVariants as sets
 use Rattle.report_lines.specs.declared.mode.Mode.TheVariants.{Plain, Trace, Json, Exchanges, Vcd}
 use Rattle.text_fields.specs.Lines.{fields_of}
 use Rattle.top_call.specs.Form.{AskFor, IsForm, texts, words_of}
 use Rattle.top_call.specs.declared.forms.Form.{Form}
-use Rattle.top_call.specs.declared.forms.Form.TheVariants.{Decode, Encode, Run, Upgrade, Portals, Names, Probe, Audit, Gen}
+use Rattle.top_call.specs.declared.forms.Form.TheVariants.{Decode, Encode, Run, Upgrade, Portals, Names, Probe, Audit, Objects, Gen, Help, Version}
 
 decimal-readable : (n : ℕ) → n < 2 ^ 64 → IsUtf8 (decimal n)
 decimal-readable n small = IsUtf8-from_ascii (decimal n) (IsAscii-decimal n small)
@@ -33,6 +34,9 @@ one-readable word is = All-cons IsUtf8 word [] is (All-nil IsUtf8)
 run-readable : (mode : List ℕ) → IsUtf8 mode → All IsUtf8 (codes "run" ∷ mode ∷ [])
 run-readable mode is = All-cons IsUtf8 (codes "run") (mode ∷ []) (plain-readable (codes "run") refl) (one-readable mode is)
 
+json-readable : (word : List ℕ) → IsUtf8 word → All IsUtf8 (word ∷ codes "json" ∷ [])
+json-readable word is = All-cons IsUtf8 word (codes "json" ∷ []) is (one-readable (codes "json") (plain-readable (codes "json") refl))
+
 words-readable : (form : Form) → IsForm form → All IsUtf8 (words_of form)
 words-readable Decode is = one-readable (codes "decode") (plain-readable (codes "decode") refl)
 words-readable Encode is = one-readable (codes "encode") (plain-readable (codes "encode") refl)
@@ -46,6 +50,13 @@ words-readable Portals is = one-readable (codes "portals") (plain-readable (code
 words-readable Names is = one-readable (codes "names") (plain-readable (codes "names") refl)
 words-readable Probe is = one-readable (codes "probe") (plain-readable (codes "probe") refl)
 words-readable Audit is = one-readable (codes "audit") (plain-readable (codes "audit") refl)
+words-readable (Objects sets.Decode) is = json-readable (codes "decode") (plain-readable (codes "decode") refl)
+words-readable (Objects sets.Probe) is = json-readable (codes "probe") (plain-readable (codes "probe") refl)
+words-readable (Objects sets.Audit) is = json-readable (codes "audit") (plain-readable (codes "audit") refl)
+words-readable (Objects sets.Exchanges) is =
+    All-cons IsUtf8 (codes "run") (codes "exchanges" ∷ codes "json" ∷ []) (plain-readable (codes "run") refl) (json-readable (codes "exchanges") (plain-readable (codes "exchanges") refl))
+words-readable Help is = one-readable (codes "--help") (plain-readable (codes "--help") refl)
+words-readable Version is = one-readable (codes "--version") (plain-readable (codes "--version") refl)
 words-readable (Gen seed tags) is =
     All-cons IsUtf8 (codes "gen") (decimal seed ∷ decimal tags ∷ []) (plain-readable (codes "gen") refl)
     (All-cons IsUtf8 (decimal seed) (decimal tags ∷ []) (decimal-readable seed is.0)

@@ -10,3 +10,4 @@ pub mod Waits
 pub mod ToldForms
 pub mod SummaryLines
 pub mod AuditTexts
+pub mod ObjectEnds

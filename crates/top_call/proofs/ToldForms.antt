@@ -5,28 +5,29 @@ use Rattle.std.specs.Str.{bytes_eq}
 use Rattle.std.specs.Fmt.{decimal}
 use Rattle.std.specs.Str.Parse.{digits_value}
 use Rattle.std.proofs.lemmas.Str.Parse.{numerals_by_value, tells_digits}
+use Rattle.line_objects.specs.declared.rows.LineSet.TheVariants as sets
 use Rattle.report_lines.specs.declared.mode.Mode.TheVariants.{Plain, Trace, Json, Exchanges, Vcd}
 use Rattle.top_call.specs.Form.{words_of, IsForm, AskFor}
 use Rattle.top_call.specs.declared.forms.Form.{Form}
-use Rattle.top_call.specs.declared.forms.Form.TheVariants.{Decode, Encode, Run, Upgrade, Portals, Names, Probe, Audit, Gen, Help, Version}
+use Rattle.top_call.specs.declared.forms.Form.TheVariants.{Decode, Encode, Run, Upgrade, Portals, Names, Probe, Audit, Objects, Gen, Help, Version}
 
 -- the form that words spell, where they spell one
 form_spelled : List (List ℕ) → Form
 form_spelled words =
-    if bytes_eq (get_or words 0 []) (codes "decode") then Decode
+    if bytes_eq (get_or words 0 []) (codes "decode") then (if length words == 1 then Decode else Objects sets.Decode)
     else if bytes_eq (get_or words 0 []) (codes "encode") then Encode
     else if bytes_eq (get_or words 0 []) (codes "upgrade") then Upgrade
     else if bytes_eq (get_or words 0 []) (codes "portals") then Portals
     else if bytes_eq (get_or words 0 []) (codes "names") then Names
-    else if bytes_eq (get_or words 0 []) (codes "probe") then Probe
-    else if bytes_eq (get_or words 0 []) (codes "audit") then Audit
+    else if bytes_eq (get_or words 0 []) (codes "probe") then (if length words == 1 then Probe else Objects sets.Probe)
+    else if bytes_eq (get_or words 0 []) (codes "audit") then (if length words == 1 then Audit else Objects sets.Audit)
     else if bytes_eq (get_or words 0 []) (codes "--help") then Help
     else if bytes_eq (get_or words 0 []) (codes "--version") then Version
     else if bytes_eq (get_or words 0 []) (codes "gen") then Gen (digits_value 10 (get_or words 1 [])) (digits_value 10 (get_or words 2 []))
     else if length words == 1 then Run Plain
     else if bytes_eq (get_or words 1 []) (codes "trace") then Run Trace
     else if bytes_eq (get_or words 1 []) (codes "json") then Run Json
-    else if bytes_eq (get_or words 1 []) (codes "exchanges") then Run Exchanges
+    else if bytes_eq (get_or words 1 []) (codes "exchanges") then (if length words == 2 then Run Exchanges else Objects sets.Exchanges)
     else Run Vcd
 
 value_of : (n : ℕ) → n < 2 ^ 64 → digits_value 10 (decimal n) ≡ n
@@ -49,6 +50,10 @@ spelled_back Portals fits = refl
 spelled_back Names fits = refl
 spelled_back Probe fits = refl
 spelled_back Audit fits = refl
+spelled_back (Objects sets.Decode) fits = refl
+spelled_back (Objects sets.Probe) fits = refl
+spelled_back (Objects sets.Audit) fits = refl
+spelled_back (Objects sets.Exchanges) fits = refl
 spelled_back Help fits = refl
 spelled_back Version fits = refl
 spelled_back (Gen seed tags) fits = same_made _ _ seed tags (value_of seed fits.0) (value_of tags (omega (arith, fits.1)))

@@ -8,4 +8,5 @@ pub mod Probed
 pub mod Generated
 pub mod OwnTexts
 pub mod Upgraded
+pub mod Objects
 pub mod Compared

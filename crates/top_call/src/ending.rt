@@ -11,7 +11,7 @@ use std::alloc::AllocError;
 pub(crate) const MOST_INPUT_BYTES: u32 = 16_777_216;
 
 /// What was written whole.
-#[derive(Clone, Copy, Debug, PartialEq, Eq)]
+#[derive(Clone, Copy)]
 pub enum Wrote {
     /// The text of an input that the grammar allows.
     Text,
@@ -20,7 +20,7 @@ pub enum Wrote {
 }
 
 /// Why the defined text was not written whole.
-#[derive(Clone, Copy, Debug, PartialEq, Eq)]
+#[derive(Clone, Copy)]
 pub enum WriteEnd {
     /// A write failed.
     Fault,

@@ -7,6 +7,7 @@ ghost use Rattle.made_scenario.specs.Made.{most_made_tags};
 
 use air_world::Mode;
 use itoa::Buffer;
+use line_objects::LineSet;
 use made_scenario::MOST_MADE_TAGS;
 use text_fields::number;
 
@@ -29,6 +30,8 @@ pub enum Form {
     Names,
     /// The word `audit`: say whether the trace behind the scenario of the input is one of it, and else which line can't be.
     Audit,
+    /// The word `decode`, `probe` or `audit`, or the words `run exchanges`, and `json` behind them: the same, each line as a JSON object.
+    Objects(LineSet),
     /// The word `--help`: write which words there are. Nothing is read.
     Help,
     /// The word `--version`: write the version, and what the program was proved with. Nothing is read.
@@ -48,6 +51,13 @@ fn is_word(word: &str, name: &str) -> bool
     ensures { IsTrue result ↔ (word.now ≡ name.now) }
 {
     word == name
+}
+
+/// Whether three words are `run exchanges json`.
+fn are_exchange_objects(word: &str, mode: &str, form: &str) -> bool
+    ensures { IsTrue result ↔ (word.now ∷ mode.now ∷ form.now ∷ [] ≡ codes "run" ∷ codes "exchanges" ∷ codes "json" ∷ []) }
+{
+    is_word(word, "run") && is_word(mode, "exchanges") && is_word(form, "json")
 }
 
 /// The seed that a word spells in decimal digits, without a sign and without leading zeros; none exactly
@@ -105,6 +115,18 @@ pub fn form_of(words: &[String]) -> Option<Form>
         }
         [word, mode] if is_word(word.as_str(), "run") && is_word(mode.as_str(), "vcd") => {
             Some(Form::Run(Mode::Vcd))
+        }
+        [word, form] if is_word(word.as_str(), "decode") && is_word(form.as_str(), "json") => {
+            Some(Form::Objects(LineSet::Decode))
+        }
+        [word, form] if is_word(word.as_str(), "probe") && is_word(form.as_str(), "json") => {
+            Some(Form::Objects(LineSet::Probe))
+        }
+        [word, form] if is_word(word.as_str(), "audit") && is_word(form.as_str(), "json") => {
+            Some(Form::Objects(LineSet::Audit))
+        }
+        [word, mode, form] if are_exchange_objects(word.as_str(), mode.as_str(), form.as_str()) => {
+            Some(Form::Objects(LineSet::Exchanges))
         }
         [word, seed, tags] if is_word(word.as_str(), "gen") => {
             made_form(seed.as_str(), tags.as_str())

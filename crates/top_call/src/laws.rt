@@ -11,6 +11,7 @@ use crate::words::decode::decode_is_lawful;
 use crate::words::encode::encode_is_lawful;
 use crate::words::generate::gen_is_lawful;
 use crate::words::names::names_are_lawful;
+use crate::words::objects::objects_are_lawful;
 use crate::words::own_texts::own_texts_are_lawful;
 use crate::words::portals::portals_are_lawful;
 use crate::words::probe::probe_is_lawful;
@@ -34,6 +35,7 @@ pub fn jobs_are_lawful()
     names_are_lawful();
     probe_is_lawful();
     audit_is_lawful();
+    objects_are_lawful();
     gen_is_lawful();
     own_texts_are_lawful();
 }

@@ -19,6 +19,7 @@ pub use words::decode::decode_is_lawful;
 pub use words::encode::encode_is_lawful;
 pub use words::generate::gen_is_lawful;
 pub use words::names::{names_are_lawful, names_inputs_have_a_text};
+pub use words::objects::objects_are_lawful;
 pub use words::own_texts::own_texts_are_lawful;
 pub use words::portals::{portals_are_lawful, portals_inputs_have_a_text};
 pub use words::probe::probe_is_lawful;

@@ -13,7 +13,7 @@ use crate::forms::{Form, form_of};
 use crate::laws::jobs_are_lawful;
 use crate::status::Status;
 use crate::words::{
-    audit, decode, encode, generate, names, own_texts, portals, probe, run, upgrade,
+    audit, decode, encode, generate, names, objects, own_texts, portals, probe, run, upgrade,
 };
 use air_io::{Sink, Source, SureSink, SureSource};
 use program_texts::{help_text, version_text};
@@ -169,6 +169,7 @@ fn write_answer<I: Source, O: Sink>(
         Form::Names => names::answer(alloc, input, output),
         Form::Probe => probe::answer(alloc, input, output),
         Form::Audit => audit::answer(alloc, input, output),
+        Form::Objects(set) => objects::answer(alloc, set, input, output),
         Form::Gen { seed, tags } => generate::answer(alloc, seed, tags, input, output),
         Form::Help => own_texts::answer(help_text().as_bytes(), input, output),
         Form::Version => own_texts::answer(version_text().as_bytes(), input, output),

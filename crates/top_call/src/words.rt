@@ -5,6 +5,7 @@ pub mod decode;
 pub mod encode;
 pub mod generate;
 pub mod names;
+pub mod objects;
 pub mod own_texts;
 mod page;
 pub mod portals;

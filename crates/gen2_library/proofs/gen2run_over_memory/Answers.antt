@@ -190,8 +190,7 @@ returns-clause-longer c form asks few text defined many =
 
 pub returns-clause-passes_limit : goal.returns-clause-passes_limit
 returns-clause-passes_limit c form asks reads many =
-    let over = c.run_over-status.ensures.passes_limit form (asked c form asks) reads (subst (λ input. input_limit < length input) (sym (same-input c)) many) in
-    (
+    let over = c.run_over-status.ensures.passes_limit form (asked c form asks) reads (subst (λ input. input_limit < length input) (sym (same-input c)) many) in (
       elim over.0 [
         | inl long ↦ inl (numbered c TooLong (empty-kept (call_of c) (leaves c) over.1 TooLong long (λ is. cc)))
         | inr memory ↦ inr (numbered c OutOfMemory (empty-kept (call_of c) (leaves c) over.1 OutOfMemory memory (λ is. cc)))

@@ -1,0 +1,19 @@
+-- Members of an object, as names with their values.
+use Rattle.std.specs.Prelude.{List, map}
+use Rattle.serde_json.specs.Data.{Data}
+use Rattle.line_objects.specs.Objects.{Pair}
+use Rattle.line_objects.specs.Values.{number_value, text_value}
+use Rattle.line_objects.specs.declared.members.Member.{Member}
+use Rattle.line_objects.specs.declared.members.Value.{Value}
+use Rattle.line_objects.specs.declared.members.Value.TheVariants as values
+
+abbrev pub value_of : Value → Data
+value_of (values.Number number) = number_value number
+value_of (values.Text text) = text_value text.now
+value_of (values.Uri uri) = text_value uri
+
+abbrev pub pair_of : Member → Pair
+pair_of member = (member.name.now, value_of member.value)
+
+abbrev pub pairs_of : List Member → List Pair
+pairs_of members = map pair_of members

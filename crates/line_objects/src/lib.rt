@@ -1,0 +1,17 @@
+//! Lines as objects: what the lines of an answer say, each as a JSON object whose members are named as the fields of the line (the
+//! objects are profile).
+#![tactic(auto)]
+
+mod keys;
+mod laws;
+mod members;
+mod objects;
+mod plain_text;
+mod reading;
+mod rows;
+mod values;
+
+pub use laws::{fields_are_told, texts_have_objects};
+pub use objects::objects_of;
+pub use plain_text::PlainText;
+pub use rows::LineSet;

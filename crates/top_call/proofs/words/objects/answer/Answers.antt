@@ -1,0 +1,34 @@
+-- By how the word itself ends.
+use Rattle.std.proofs.Common.{◌≡◌, ap, refl, sym, subst}
+use Rattle.line_objects.specs.PlainText.{PlainValue}
+use Rattle.top_call.specs.words.Objects.{plain_job}
+use Rattle.top_call.proofs.ObjectEnds.{bad_tells, done_tells, other_tells, unkept_tells}
+use Rattle.top_call.proofs.words.objects.answer.Goals as goal
+
+pub returns-in-Done : goal.returns-in-Done
+returns-in-Done g c =
+    let job = plain_job c.args.set in
+    let tells = rw c.in-Done.is at c.answer_plain.ensures in
+    rw c.status_of.ensures
+    (done_tells c.args.set job _ _ (c.answer_plain.new.output ≡ c.new-plain.result) _ c.new-plain.result.written c.answer_plain.new.output.written _ _ c.write_objects.result
+    (ap (λ (kept : PlainValue). kept.written) c.new-plain.ensures) tells
+    (λ bytes named. c.write_objects.ensures bytes (subst (job.writes bytes) (sym c.as_slice.ensures) named)))
+
+pub returns-in-BadInput : goal.returns-in-BadInput
+returns-in-BadInput g c =
+    let job = plain_job c.args.set in
+    let tells = rw c.in-BadInput.is at c.answer_plain.ensures in
+    rw c.status_of-in-BadInput.ensures
+    (bad_tells c.args.set job _ _ (c.answer_plain.new.output ≡ c.new-plain.result) _ c.new-plain.result.written c.answer_plain.new.output.written _ _ c.write_fault.result
+    (ap (λ (kept : PlainValue). kept.written) c.new-plain.ensures) tells
+    (λ bytes named. c.write_fault.ensures c.args.set bytes (subst (job.refuses bytes) (sym c.as_slice-in-BadInput.ensures) named)))
+
+pub returns-in-WriteFault : goal.returns-in-WriteFault
+returns-in-WriteFault g c =
+    unkept_tells c.args.set (plain_job c.args.set) _ _ _ (c.answer_plain.new.output ≡ c.new-plain.result) (c.args.output.now ≡ c.args.output.now)
+    (rw c.in-WriteFault.is at c.answer_plain.ensures) refl refl
+
+pub returns : goal.returns
+returns g c =
+    other_tells c.args.set (plain_job c.args.set) _ _ _ (c.answer_plain.new.output ≡ c.new-plain.result) _ c.answer_plain.result c.answer_plain.ensures c.in_default.not-Done
+    c.in_default.not-BadInput c.in_default.not-WriteFault refl refl refl
