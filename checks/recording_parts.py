@@ -153,6 +153,11 @@ def wave_of(levels: np.ndarray, period: float, start: float, noise: float, seed:
     return wave + 8 * np.sin(times / 700) + noise * np.random.default_rng(seed).standard_normal(len(times))
 
 
+def begun(wave: np.ndarray, found: list[search.Begin], code: str, trext: str, noise: float, lengths: list[int]) -> replies.Begun:
+    """Gives what begins in a wave of a sample a nanosecond, behind a frame that ends at 0."""
+    return replies.Begun(0.0, 0.0, 1e9, wave, found, code, trext, noise, lengths)
+
+
 def try_streams(count: Count, program: Program, folder: str) -> None:
     chance = np.random.default_rng(5)
     for code in codes.CODES:
@@ -162,14 +167,14 @@ def try_streams(count: Count, program: Program, folder: str) -> None:
             wave = wave_of(levels, 4.9, 130.3, 1.5, 3)
             found = search.begins(wave, code, trext, 4.7, 90, 170)[0]
             count.check(f"{code} {trext}: its begin is found", abs(found.start - 130.3) < 1.5 and abs(found.period - 4.9) < 0.1, found)
-            stream = replies.followed(wave, [found], 1, code, trext, 1.5, [32])
+            stream = replies.followed([begun(wave, [found], code, trext, 1.5, [32])])[0]
             count.check(f"{code} {trext}: its levels are found", codes.text_of(stream.printed) == codes.text_of(levels))
             count.check(f"{code} {trext}: its clock is followed", abs(stream.clock.period - 4.9) < 0.01 and not len(stream.against), stream.clock)
             broken = levels.copy()
             place = len(codes.lead(code, trext)) + 9
             broken[place] *= -1
             wave = wave_of(broken, 4.9, 130.3, 1.5, 4)
-            stream = replies.followed(wave, search.begins(wave, code, trext, 4.7, 90, 170)[:1], 1, code, trext, 1.5, [32])
+            stream = replies.followed([begun(wave, search.begins(wave, code, trext, 4.7, 90, 170)[:1], code, trext, 1.5, [32])])[0]
             count.same(f"{code} {trext}: a broken level stays broken", codes.text_of(stream.printed), codes.text_of(broken))
             # (in FM0 another stream may be as near, of which the level behind is broken)
             told = stream.against.tolist(), stream.broken.tolist()
@@ -178,8 +183,43 @@ def try_streams(count: Count, program: Program, folder: str) -> None:
         levels = codes.encode("fm0", "0", "10" * 24)
         levels = codes.encode("fm0", "0", ("10" * 24)[:wanted])
         wave = wave_of(levels, 4.69, 130.0, 1.0, 7)
-        stream = replies.followed(wave, search.begins(wave, "fm0", "0", 4.69, 90, 170)[:1], 1, "fm0", "0", 1.0, lengths)
+        stream = replies.followed([begun(wave, search.begins(wave, "fm0", "0", 4.69, 90, 170)[:1], "fm0", "0", 1.0, lengths)])[0]
         count.same(f"of {lengths} bits the right ones are found", codes.text_of(stream.levels), codes.text_of(levels))
+
+
+def try_side_by_side(count: Count, program: Program, folder: str) -> None:
+    """Follows streams of many lengths together, some of which may begin at several places, and one by one."""
+    chance = np.random.default_rng(9)
+    every = []
+    for size in (16, 128, 33, 32, 64, 16, 500):
+        bits = "".join(map(str, chance.integers(0, 2, size)))
+        wave = wave_of(codes.encode("m2", "0", bits), 4.9, 130.3, 2.5, size)
+        every.append(begun(wave, search.begins(wave, "m2", "0", 4.7, 90, 170), "m2", "0", 2.5, sorted({size, 32, 41})))
+    # In the last one there is no room for the reply that is awaited.
+    every.append(begun(every[0].wave, every[0].found, "m2", "0", 2.5, [2000]))
+    together, alone = replies.followed(every), [replies.followed([it])[0] for it in every]
+    count.check("a stream for which there is no room is none", together[-1] is None and alone[-1] is None)
+    for it, one, other in zip(every, together, alone):
+        if one is None or other is None:
+            continue
+        count.same(f"of {it.lengths} bits: side by side the same levels are found as alone", codes.text_of(one.printed), codes.text_of(other.printed))
+        count.check(f"of {it.lengths} bits: the same clock", abs(one.clock.period - other.clock.period) < 1e-9 and abs(one.spread - other.spread) < 1e-9)
+
+
+def try_correlation(count: Count, program: Program, folder: str) -> None:
+    wave = np.random.default_rng(2).standard_normal(700)
+    bank = search.bank_of("fm0", "0", search.grid_of(4.7))
+    length = len(bank.matrix)
+    sums = np.array([wave[at : at + length] @ bank.matrix for at in range(len(wave) - length + 1)])
+    size = search.transform_size(len(wave))
+    spectra = search.spectra_of("fm0", "0", search.grid_of(4.7), size)
+    for at_a_time in (1 << 12, search.AT_A_TIME):
+        kept, search.AT_A_TIME = search.AT_A_TIME, at_a_time
+        greatest = search.correlations(wave, spectra, size, len(sums))
+        search.AT_A_TIME = kept
+        count.check(f"{at_a_time} places at a time: the correlations", np.allclose(np.abs(sums).max(axis=1), greatest))
+    sizes = [search.transform_size(it) for it in range(1, 2000)]
+    count.check("a transform has room, and at most a third more", all(it <= size and 3 * size <= 4 * it + 12 for it, size in enumerate(sizes, 1)), sizes[:20])
 
 
 def try_logic(count: Count, program: Program, folder: str) -> None:
@@ -216,5 +256,5 @@ def try_logic(count: Count, program: Program, folder: str) -> None:
 
 def try_parts(count: Count, program: Program, folder: str) -> None:
     """Tries each part."""
-    for part in (try_codes, try_reading, try_frames, try_waves, try_streams, try_logic):
+    for part in (try_codes, try_reading, try_frames, try_waves, try_correlation, try_streams, try_side_by_side, try_logic):
         part(count, program, folder)

@@ -8,7 +8,7 @@ line for the levels that came back. The parts, in the order in which a recording
     frames      finds frames among the lows, and puts their lengths back onto the frame's own Tari, RTcal and TRcal
     codes       FM0 and Miller: leads, symbols, and which symbol may follow which
     search      finds where a stream begins, by correlation with its lead at many clocks
-    streams     follows the clock through a stream, and decides its levels by the trellis of its code
+    streams     follows the clocks through streams, many side by side, and decides their levels by the trellis of their code
     explain     puts it together, and prints a line for each frame
 
 `making` makes recordings of runs, `possible` computes what a receiver that knows clock and amplitude could reach, and `table` measures.

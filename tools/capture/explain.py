@@ -27,6 +27,10 @@ decided against their integral, and by how much lengths of the frame were moved 
 noise accounts for stands in the reply as it came, so that `decode` refuses it."""
 
 
+# Replies of so many samples are followed side by side.
+AT_A_TIME = 1 << 20
+
+
 @dataclass
 class Exchange:
     """A frame and what came back."""
@@ -38,6 +42,7 @@ class Exchange:
     bits: str = ""
     command: str = ""
     expect: str = ""
+    trext: str = ""
     asked: replies.Link | None = None
     heard: replies.Heard | None = None
     line: str = ""
@@ -69,9 +74,19 @@ def explained(waves: Waves, program: Program, link: replies.Link | None, progres
     frames.put_back(found, 1e9 / waves.rate)
     exchanges = [Exchange(it, "pie " + " ".join(map(str, it.intervals))) for it in found]
     read_frames(exchanges, program)
+    await_replies(exchanges, link)
+    listen(exchanges, waves, progress)
+    heard = [it for it in exchanges if it.heard]
+    for exchange, reply in zip(heard, program.decode([it.line for it in heard])):
+        exchange.reply = reply
+    look_for_echoes(exchanges)
+    return exchanges, strays
+
+
+def await_replies(exchanges: list[Exchange], link: replies.Link | None) -> None:
+    """Gives each exchange what is awaited behind it, or why nothing is. `link` is what a Query before the first one said, where that is known."""
     kills = 0
-    for number, exchange in enumerate(exchanges):
-        progress("listening for replies", number / len(exchanges))
+    for exchange in exchanges:
         words = exchange.command.split(" ")
         if words[0] == "query" and exchange.lead == "preamble":
             divide = 64 / 3 if words[1] == "1" else 8
@@ -79,21 +94,39 @@ def explained(waves: Waves, program: Program, link: replies.Link | None, progres
         exchange.asked = link
         kills = 0 if words[0] == "ack" else kills + (words[0] == "kill")
         exchange.why = why_no_answer(exchange)
+        if not exchange.why:
+            exchange.expect, exchange.trext = awaited(exchange.command, link.trext, kills)
+
+
+def listen(exchanges: list[Exchange], waves: Waves, progress: Terminal) -> None:
+    """Gives each exchange behind which a reply is awaited what came back, or why nothing did."""
+    begun: list[tuple[Exchange, replies.Begun]] = []
+    samples = 0
+    for number, exchange in enumerate(exchanges):
+        progress("listening for replies", number / len(exchanges))
         if exchange.why:
             continue
         until = exchanges[number + 1].frame.begin if number + 1 < len(exchanges) else waves.end
-        exchange.expect, trext = awaited(exchange.command, link.trext, kills)
-        answer = replies.listen(waves, link, exchange.expect, trext, exchange.lengths[1], exchange.frame.end, until)
+        answer = replies.listen(waves, exchange.asked, exchange.expect, exchange.trext, exchange.lengths[1], exchange.frame.end, until)
+        if isinstance(answer, str):
+            exchange.why = answer
+            continue
+        begun.append((exchange, answer))
+        samples += len(answer.wave)
+        if samples > AT_A_TIME:
+            hear(begun)
+            begun, samples = [], 0
+    hear(begun)
+
+
+def hear(begun: list[tuple[Exchange, replies.Begun]]) -> None:
+    """Gives exchanges what came back in them."""
+    for (exchange, it), answer in zip(begun, replies.heard([it for _, it in begun])):
         if isinstance(answer, str):
             exchange.why = answer
         else:
             exchange.heard = answer
-            exchange.line = f"heard {link.code} {trext} {exchange.expect} {codes.text_of(answer.stream.printed)}"
-    heard = [it for it in exchanges if it.heard]
-    for exchange, reply in zip(heard, program.decode([it.line for it in heard])):
-        exchange.reply = reply
-    look_for_echoes(exchanges)
-    return exchanges, strays
+            exchange.line = f"heard {it.code} {it.trext} {exchange.expect} {codes.text_of(answer.stream.printed)}"
 
 
 def read_frames(exchanges: list[Exchange], program: Program) -> None:

@@ -153,13 +153,14 @@ def put_back_one(frame: Frame, own: Own, part: float, grid: float) -> None:
     one = rtcal - tari
     trcal = own.trcal and round(within("TRcal", own.trcal, int(np.ceil(1.1 * rtcal)), 3 * rtcal, part))
     low = round(own.low)
-    intervals = [round(within("the delimiter", float(frame.measured[0]), 11_875, 13_125, part))]
-    for at, (pair, wanted) in enumerate(zip(own.pairs, own.wanted)):
-        length = (tari if at == 0 else rtcal if at == 1 else trcal) if at < 2 or at == 2 and trcal else tari if wanted == own.tari else one
-        if abs(pair - wanted) > part * wanted + 2 * grid:
-            frame.remarks.append(f"pair {at} behind the delimiter has {pair / 1000:.3f} us, which is none of the frame's own lengths")
-            intervals += [round(float(it)) for it in frame.measured[1 + 2 * at : 3 + 2 * at]]
-        else:
-            intervals += [length - low, low]
-    frame.intervals = intervals
-    frame.moved = float(np.max(np.abs(np.array(intervals) - frame.measured)))
+    delimiter = round(within("the delimiter", float(frame.measured[0]), 11_875, 13_125, part))
+    lengths = np.where(own.wanted == own.tari, tari, one)
+    head = [tari, rtcal] + ([trcal] if trcal else [])
+    lengths[: len(head)] = head
+    pairs = np.stack([lengths - low, np.full(len(lengths), low)], axis=1)
+    is_own = np.abs(own.pairs - own.wanted) <= part * own.wanted + 2 * grid
+    for at in np.flatnonzero(~is_own).tolist():
+        frame.remarks.append(f"pair {at} behind the delimiter has {own.pairs[at] / 1000:.3f} us, which is none of the frame's own lengths")
+    measured = np.rint(frame.measured[1:]).astype(int).reshape(-1, 2)
+    frame.intervals = [delimiter, *np.where(is_own[:, None], pairs, measured).reshape(-1).tolist()]
+    frame.moved = float(np.max(np.abs(np.array(frame.intervals) - frame.measured)))

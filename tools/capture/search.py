@@ -1,4 +1,4 @@
-"""Finds where a stream begins, by correlation with its lead at many clocks."""
+"""Finds where a stream begins, by correlation with its lead at many clocks, which is a product of spectra."""
 
 from __future__ import annotations
 
@@ -19,6 +19,8 @@ BEND = 24
 SILENT = 8
 # How long an edge may take, in levels: each length is tried.
 EDGES = (0.0, 1.5)
+# So many places are correlated with templates at a time.
+AT_A_TIME = 1 << 18
 
 
 @dataclass(frozen=True)
@@ -65,12 +67,12 @@ def template(levels: np.ndarray, period: float, edge: float, before: float, leng
     return wave
 
 
-def bank(code: str, trext: str, nominal: float) -> Bank:
-    """Gives the templates for levels of about `nominal` samples."""
-    return bank_of(code, trext, round(float(np.log(nominal)) / GRID))
+def grid_of(nominal: float) -> int:
+    """Gives the power of the grid whose templates serve for levels of about `nominal` samples."""
+    return round(float(np.log(nominal)) / GRID)
 
 
-@functools.lru_cache(maxsize=32)
+@functools.lru_cache(maxsize=8)
 def bank_of(code: str, trext: str, step_of_nominal: int) -> Bank:
     nominal = float(np.exp(GRID * step_of_nominal))
     levels = codes.lead(code, trext)
@@ -93,7 +95,7 @@ def bank_of(code: str, trext: str, step_of_nominal: int) -> Bank:
         part = wave[inside]
         part = part - bends @ np.linalg.lstsq(bends, part, rcond=None)[0]
         norm = np.sqrt(np.sum(part**2))
-        column = np.zeros(length, dtype=np.float32)
+        column = np.zeros(length)
         column[inside] = part / norm
         columns.append(column)
         heights.append(1 / norm)
@@ -101,23 +103,50 @@ def bank_of(code: str, trext: str, step_of_nominal: int) -> Bank:
     return Bank(np.stack(columns, axis=1), before, every[:, 2], every[:, 1], every[:, 0], np.array(heights))
 
 
+def transform_size(least: int) -> int:
+    """Gives a number of samples, at least so many, whose transform is quick."""
+    power = 1 << max(0, (least - 1).bit_length() - 3)
+    return next(it * power for it in (5, 6, 8) if it * power >= least)
+
+
+@functools.lru_cache(maxsize=8)
+def spectra_of(code: str, trext: str, step_of_nominal: int, size: int) -> np.ndarray:
+    """Gives the spectra of templates among so many samples, a row for each, so that a product with them is a correlation."""
+    matrix = bank_of(code, trext, step_of_nominal).matrix
+    return np.conj(np.fft.rfft(matrix.T, size, axis=1))
+
+
+def correlations(wave: np.ndarray, spectra: np.ndarray, size: int, places: int) -> np.ndarray:
+    """Gives for each place of a wave the greatest correlation with a template, without its sign."""
+    spectrum, greatest = np.fft.rfft(wave, size), np.zeros(places)
+    at_a_time = max(1, AT_A_TIME // size)
+    for first in range(0, len(spectra), at_a_time):
+        part = np.fft.irfft(spectra[first : first + at_a_time] * spectrum, size, axis=1)[:, :places]
+        np.maximum(greatest, np.abs(part).max(axis=0), out=greatest)
+    return greatest
+
+
 def begins(wave: np.ndarray, code: str, trext: str, nominal: float, first: float, last: float, most: int = 4) -> list[Begin]:
     """Gives the places from `first` to `last` where a stream most likely begins in a wave, the likeliest first."""
-    has = bank(code, trext, nominal)
+    grid = grid_of(nominal)
+    has = bank_of(code, trext, grid)
     length = len(has.matrix)
     skip = max(0, int(first) - has.before)
     wave = wave[skip : max(int(last), has.before + 1) + length - has.before]
     if len(wave) < length:
         wave = np.concatenate([wave, np.full(length - len(wave), wave[-1] if len(wave) else 0.0)])
-    windows = np.lib.stride_tricks.sliding_window_view(np.ascontiguousarray(wave, dtype=np.float32), length)
+    size = transform_size(len(wave))
+    sizes = correlations(wave, spectra_of(code, trext, grid, size), size, len(wave) - length + 1)
     found: list[Begin] = []
-    scores = np.ascontiguousarray(windows) @ has.matrix
-    sizes = np.abs(scores)
     for _ in range(most):
-        at, column = np.unravel_index(np.argmax(sizes), sizes.shape)
-        score = float(scores[at, column])
-        period = float(has.periods[column])
-        found.append(Begin(float(skip + at + has.before) + float(has.shifts[column]), period, score * float(has.heights[column]), float(has.edges[column]), abs(score)))
+        at = int(np.argmax(sizes))
+        if found and not sizes[at]:
+            break
+        scores = wave[at : at + length] @ has.matrix
+        column = int(np.argmax(np.abs(scores)))
+        score, period = float(scores[column]), float(has.periods[column])
+        start = float(skip + at + has.before) + float(has.shifts[column])
+        found.append(Begin(start, period, score * float(has.heights[column]), float(has.edges[column]), abs(score)))
         near = int(np.ceil(0.7 * period))
         sizes[max(0, at - near) : at + near + 1] = 0
     return found

@@ -9,8 +9,8 @@ import numpy as np
 from .logic import Capture
 from .reading import Source, Trouble
 
-# So many samples are looked at at a time.
-BLOCK = 1 << 20
+# So many samples are looked at at a time, and so many are kept of those behind the frame that was listened to last.
+BLOCK, KEPT = 1 << 20, 1 << 16
 # Over so many seconds the wave is smoothed where the depth of a low is sought, and where its edges are.
 DEPTH_OVER, EDGE_OVER = 8e-6, 1e-6
 # How far from an edge the wave is at its carrier or its low.
@@ -37,12 +37,13 @@ class Waves(Protocol):
         """Gives the tag's wave between two times: the time of its first sample, and the samples."""
 
 
-def smoothed(samples: np.ndarray, width: int) -> np.ndarray:
-    """Gives the mean of `width` samples from each one on, as far as there are so many."""
+def smoothed(samples: np.ndarray, width: int, step: int = 1) -> np.ndarray:
+    """Gives the mean of `width` samples from each `step`th one on, as far as there are so many."""
     if width <= 1:
-        return samples
-    total = np.concatenate([np.zeros(1, dtype=np.result_type(samples, np.float64)), np.cumsum(samples, dtype=np.result_type(samples, np.float64))])
-    return (total[width:] - total[:-width]) / width
+        return samples[::step]
+    total = np.zeros(len(samples) + 1, dtype=np.result_type(samples, np.float64))
+    np.cumsum(samples, dtype=total.dtype, out=total[1:])
+    return (total[width::step] - total[:-width:step]) / width
 
 
 class Analogue:
@@ -54,6 +55,8 @@ class Analogue:
         # The carrier, and the way from it to a low.
         self.carrier: complex = 0
         self.down: complex = 0
+        # Samples that were read last, and where they begin.
+        self.kept, self.kept_from = source.read(0, 0), 0
 
     def blocks(self, width: int) -> "list[tuple[int, int]]":
         """Gives the parts in which the samples are looked at: each begins so far before the end of the last that none is lost by smoothing."""
@@ -67,7 +70,7 @@ class Analogue:
             part = self.source.read(first, size)
             few = part[:: max(1, len(part) // 4096)]
             middles.append(np.median(few.real) + 1j * np.median(few.imag) if self.source.is_complex else float(np.median(few)))
-            smooth = smoothed(part, width)[:: max(1, width // 8)]
+            smooth = smoothed(part, width, max(1, width // 8))
             away = np.abs(smooth - middles[-1])
             ends.append(smooth[int(np.argmax(away))])
             progress("looking for the carrier", (first + size) / self.source.count)
@@ -115,7 +118,9 @@ class Analogue:
 
     def tag(self, first: float, last: float) -> tuple[float, np.ndarray]:
         begin, end = max(0, int(np.ceil(first * self.rate / 1e9))), min(self.source.count, int(last * self.rate / 1e9))
-        part = self.source.read(begin, max(0, end - begin))
+        if not self.kept_from <= begin <= end <= self.kept_from + len(self.kept):
+            self.kept, self.kept_from = self.source.read(begin, max(0, min(max(end - begin, KEPT), self.source.count - begin))), begin
+        part = self.kept[begin - self.kept_from : max(begin, end) - self.kept_from]
         return begin * 1e9 / self.rate, turned(part) if self.source.is_complex else part
 
 
