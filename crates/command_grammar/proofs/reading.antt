@@ -14,6 +14,5 @@ pub mod NamedFields
 pub mod NumberFields
 pub mod Readers
 pub mod Resuming
-pub mod ShortCommands
 pub mod WholeReading
 pub mod WordFields

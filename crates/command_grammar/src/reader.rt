@@ -4,9 +4,9 @@ mod access;
 mod check;
 mod codes;
 mod decoding;
+mod field_steps;
 mod fields;
 mod framer;
-mod short;
 mod stage;
 mod state;
 

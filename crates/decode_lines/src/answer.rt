@@ -1,7 +1,7 @@
 //! The answer to a decode line.
-ghost use Rattle.std.specs.Prelude.{◌≡◌, ◌≢◌, ◌≤◌, ◌++◌, length, IfOk, IfErr, OnOk};
+ghost use Rattle.std.specs.Prelude.{◌≡◌, ◌≢◌, ◌≤◌, length, IfOk, IfErr, OnOk};
 ghost use Rattle.std.specs.String.{string_bytes};
-ghost use Rattle.decode_lines.specs.Answer.{AddsAnswer, AnswersBehind, AnswersLine, answer_line, streamed, sliced, replied, heard, framed, commanded, named, worded, with_left};
+ghost use Rattle.decode_lines.specs.Answer.{AddsAnswer, AnswersBehind, AnswersLine};
 ghost use Rattle.text_fields.specs.Lines.{fields_of};
 ghost use Rattle.decode_lines.specs.Request.{AreFaulty, IsFaultyRequest, IsWithinLimits, most_intervals, most_levels};
 ghost use Rattle.decode_lines.specs.declared.request.Request.{Request};
@@ -11,6 +11,10 @@ ghost use Rattle.epc_sgtin.specs.Epc.{IsSgtin};
 ghost use Rattle.epc_sgtin.specs.Uri.{IsUriOf};
 ghost use Rattle.epc_sgtin.specs.UriFaults.{RefusesUri};
 
+use crate::answer_lines::{
+    push_commanded, push_framed, push_named, push_outcome, push_received, push_replied,
+    push_slicing, push_worded,
+};
 use crate::raw_field::RawField;
 use crate::request::{
     MOST_INTERVALS, MOST_LEVELS, MOST_SAMPLES, MOST_WORDS, Request, RequestKind, kind_of_line,
@@ -20,18 +24,15 @@ use crate::stream_lines::read_stream;
 use bit_strings::{Bits, Code, Levels, OutOfMemory};
 use checked_lines::FaultReason;
 use command_grammar::{Command, CommandRefusal, decode_command_to};
-use command_text::{push_command, push_command_refusal};
-use epc_sgtin::{EpcFault, Sgtin, UriFault};
-use line_codes::{LineRefusal, decode_levels};
-use pie_line::{FrameKind, Intervals, PieRefusal, decode_frame};
-use pie_text::{Numbers, push_frame, push_pie_refusal};
-use reply_grammar::{Expect, Received, Reply, ReplyRefusal, decode_reply};
-use reply_text::{push_reply, push_reply_refusal};
+use epc_sgtin::{Sgtin, UriFault};
+use line_codes::decode_levels;
+use pie_line::{Intervals, decode_frame};
+use pie_text::Numbers;
+use reply_grammar::{Expect, Received, decode_reply};
 use reply_wire::receive;
-use sample_slicer::{SliceRefusal, slice_levels};
-use sgtin_text::{push_epc_fault, push_name, push_sgtin_words, push_uri_fault};
+use sample_slicer::slice_levels;
 use std::alloc::Global;
-use text_fields::{Digits, Fields, HexBytes, Words, push_bits, push_number};
+use text_fields::{Digits, Fields, HexBytes, Words};
 
 /// Room for the intervals, and for what an answer needs, of the longest line, taken once for all lines.
 #[derive(Drop)]
@@ -325,130 +326,4 @@ fn words_of_uri(uri: &[u8]) -> Result<[u16; 6], UriFault>
 {
     let sgtin = Sgtin::read_uri(uri)?;
     Ok(sgtin.encode())
-}
-
-/// Adds what a line decoder answered, as a line.
-fn push_outcome(
-    text: &mut String,
-    outcome: Result<(), LineRefusal>,
-    bits: &Bits,
-) -> Result<(), OutOfMemory>
-    ensures { OnOk result (string_bytes text.new ≡ string_bytes text.old ++ answer_line (streamed (with_left (λ done. bits.now.items) outcome))) }
-{
-    match outcome {
-        Ok(()) => {
-            text.push_str("bits ")?;
-            push_bits(text, bits.as_slice())?;
-        }
-        Err(LineRefusal::Invalid(place)) => {
-            text.push_str("invalid ")?;
-            push_number(text, place)?;
-        }
-        Err(LineRefusal::Unfinished(count)) => {
-            text.push_str("unfinished ")?;
-            push_number(text, count)?;
-        }
-    }
-    text.push_str("\n")
-}
-
-/// Adds what the slicer answered, as a line.
-fn push_slicing(
-    text: &mut String,
-    outcome: Result<(), SliceRefusal>,
-    levels: &Levels,
-) -> Result<(), OutOfMemory>
-    ensures { OnOk result (string_bytes text.new ≡ string_bytes text.old ++ answer_line (sliced (with_left (λ done. levels.now.items) outcome))) }
-{
-    match outcome {
-        Ok(()) => {
-            text.push_str("levels ")?;
-            push_bits(text, levels.as_slice())?;
-        }
-        Err(SliceRefusal::Mixed(place)) => {
-            text.push_str("mixed ")?;
-            push_number(text, place)?;
-        }
-        Err(SliceRefusal::Rest(place)) => {
-            text.push_str("rest ")?;
-            push_number(text, place)?;
-        }
-    }
-    text.push_str("\n")
-}
-
-/// Adds what the reply grammar answered, as a line.
-fn push_replied(text: &mut String, outcome: &Result<Reply, ReplyRefusal>) -> Result<(), OutOfMemory>
-    ensures { OnOk result (string_bytes text.new ≡ string_bytes text.old ++ answer_line (replied outcome.now)) }
-{
-    match outcome {
-        Ok(reply) => push_reply(text, reply)?,
-        Err(refusal) => push_reply_refusal(text, *refusal)?,
-    }
-    text.push_str("\n")
-}
-
-/// Adds what was received, as a line.
-fn push_received(text: &mut String, received: &Received) -> Result<(), OutOfMemory>
-    ensures { OnOk result (string_bytes text.new ≡ string_bytes text.old ++ answer_line (heard received.now)) }
-{
-    match received {
-        Received::Whole(reply) => push_reply(text, reply)?,
-        Received::Refused(place) => {
-            text.push_str("refused ")?;
-            push_number(text, *place)?;
-        }
-    }
-    text.push_str("\n")
-}
-
-/// Adds what the decoder of frames answered, as a line.
-fn push_framed(
-    text: &mut String,
-    outcome: &Result<FrameKind, PieRefusal>,
-    bits: &Bits,
-) -> Result<(), OutOfMemory>
-    ensures { OnOk result (string_bytes text.new ≡ string_bytes text.old ++ answer_line (framed (with_left (λ kind. (kind, bits.now.items)) outcome.now))) }
-{
-    match outcome {
-        Ok(kind) => push_frame(text, kind, bits)?,
-        Err(refusal) => push_pie_refusal(text, *refusal)?,
-    }
-    text.push_str("\n")
-}
-
-/// Adds what the decoder of commands answered, as a line.
-fn push_commanded(
-    text: &mut String,
-    outcome: &Result<Command, CommandRefusal>,
-) -> Result<(), OutOfMemory>
-    ensures { OnOk result (string_bytes text.new ≡ string_bytes text.old ++ answer_line (commanded outcome.now)) }
-{
-    match outcome {
-        Ok(command) => push_command(text, command)?,
-        Err(refusal) => push_command_refusal(text, *refusal)?,
-    }
-    text.push_str("\n")
-}
-
-/// Adds what words carry, as a line.
-fn push_named(text: &mut String, outcome: &Result<Sgtin, EpcFault>) -> Result<(), OutOfMemory>
-    ensures { OnOk result (string_bytes text.new ≡ string_bytes text.old ++ answer_line (named outcome.now)) }
-{
-    match outcome {
-        Ok(sgtin) => push_name(text, sgtin)?,
-        Err(fault) => push_epc_fault(text, *fault)?,
-    }
-    text.push_str("\n")
-}
-
-/// Adds what a URI names, as a line.
-fn push_worded(text: &mut String, outcome: &Result<[u16; 6], UriFault>) -> Result<(), OutOfMemory>
-    ensures { OnOk result (string_bytes text.new ≡ string_bytes text.old ++ answer_line (worded outcome.now)) }
-{
-    match outcome {
-        Ok(words) => push_sgtin_words(text, words)?,
-        Err(fault) => push_uri_fault(text, *fault)?,
-    }
-    text.push_str("\n")
 }

@@ -3,6 +3,7 @@
 #![tactic(auto)]
 
 mod answer;
+mod answer_lines;
 mod laws;
 mod lines;
 mod raw_field;

@@ -1,16 +1,12 @@
 pub mod Bounds
 pub mod Completions
-pub mod DataPairs
 pub mod Decisions
 pub mod DecoderStandsFor
 pub mod Decoding
 pub mod FrameAnswers
-pub mod GoneOver
-pub mod Headers
 pub mod Leads
 pub mod OneAnswer
 pub mod SymbolLanes
 pub mod Symbols
-pub mod TakenSymbols
-pub mod VectorLanes
+pub mod TakenSymbol
 pub mod Writing

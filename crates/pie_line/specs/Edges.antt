@@ -1,5 +1,5 @@
 -- What a decoder that takes one interval at a time knows of the intervals it was given (profile).
-use Rattle.std.specs.Prelude.{◌≡◌, ℕ, Bool, Result, Err, List, [], ◌∷◌, ◌++◌, length, IsOk, MatchResult}
+use Rattle.std.specs.Prelude.{◌≡◌, ◌≤◌, ℕ, Bool, Result, Err, List, [], ◌∷◌, ◌++◌, length, take, IsOk, MatchResult}
 use Rattle.pie_line.specs.declared.frame.FrameKind.{FrameKind}
 use Rattle.pie_line.specs.declared.frame.PieRefusal.{PieRefusal}
 use Rattle.pie_line.specs.declared.frame_state.FrameState.{FrameState}
@@ -28,6 +28,13 @@ abbrev pub EdgesStandFor : EdgesValue → List Bool → List ℕ → Type 0
 EdgesStandFor edges bits intervals = MatchResult edges.standing
     (λ place. (edges.count ≡ length intervals) × LeadsToState place bits intervals)
     (λ refusal. (place : ℕ) × IsFrameRefusedAt refusal intervals place)
+
+-- the decoder was given the intervals before this place, and has read these bits from them
+pub record HasReadTo (edges : EdgesValue) (bits : List Bool) (intervals : List ℕ) (at : ℕ) : Type 0 where
+  pub within : at ≤ length intervals
+  pub stands : EdgesStandFor edges bits (take at intervals)
+  pub counted : edges.count ≤ at
+  pub read : length bits ≤ at
 
 -- the answer to the last of these intervals, with the decoder after it and the bits that were read before it
 abbrev pub IsEdgesAnswer : Edge → EdgesValue → List Bool → List ℕ → Type 0

@@ -3,6 +3,7 @@ ghost use Rattle.std.specs.Prelude.{◌≡◌, ◌≤◌, Bool, List, [], All, I
 ghost use Rattle.pie_line.specs.Pie.{IsFrame, longest_interval};
 ghost use Rattle.pie_line.specs.declared.frame.FrameKind.{FrameKind};
 ghost use Rattle.pie_line.specs.Refusal.{RefusesFrame};
+ghost use Rattle.pie_line.specs.Edges.{HasReadTo};
 ghost use Rattle.bit_strings.specs.BitString.{most_counted};
 
 use crate::edges::{Edge, Edges};
@@ -46,18 +47,37 @@ fn decode_intervals(intervals: &[u32], out: &mut Bits) -> Result<FrameKind, PieR
     ensures capacity { out.new.capacity ≡ out.old.capacity }
 {
     let mut edges = Edges::new();
-    // Each frame but that of a Query begins with a frame-sync.
-    let behind_sync = edges.take_frame_sync(intervals, out);
-    let left = edges.take_symbols(behind_sync, out);
-    let mut rest = left;
-    while let [interval, behind @ ..] = rest {
-        match edges.push(*interval) {
+    let mut at = 0;
+    while at < intervals.len() {
+        match edges.push(intervals[at]) {
             Edge::More => {}
             Edge::Bit(bit) => out.push_reserved(bit),
             Edge::Refused(refusal) => return Err(refusal),
         }
-        // Most intervals are those of data symbols, which are taken a pair at a time.
-        rest = edges.take_symbols(behind, out);
+        at = take_symbols(&mut edges, intervals, at + 1, out);
     }
     edges.finish()
+}
+
+/// Gives a decoder the data symbols that stand from a place on, one by one, as most intervals are those of data symbols.
+/// Gives the place behind them.
+#[inline(always)]
+fn take_symbols(edges: &mut Edges, intervals: &[u32], from: usize, out: &mut Bits) -> usize
+    requires given { HasReadTo edges.old out.old.items intervals.now from }
+    requires room { length intervals.now ≤ out.old.capacity }
+    requires each { All (λ interval. interval ≤ longest_interval) intervals.now }
+    requires count { length intervals.now ≤ most_counted }
+    ensures given { HasReadTo edges.new out.new.items intervals.now result }
+    ensures further { from ≤ result }
+    ensures capacity { out.new.capacity ≡ out.old.capacity }
+{
+    let mut at = from;
+    while at + 1 < intervals.len() {
+        let Some(bit) = edges.push_symbol(intervals[at], intervals[at + 1]) else {
+            return at;
+        };
+        out.push_reserved(bit);
+        at += 2;
+    }
+    at
 }

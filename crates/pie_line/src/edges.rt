@@ -1,15 +1,12 @@
 //! A decoder that takes one interval at a time.
-ghost use Rattle.std.specs.Prelude.{◌≡◌, ◌+◌, ◌<◌, ◌≤◌, ℕ, IsTrue, Bool, List, [], ◌∷◌, ◌++◌, All, MatchResult, Ok, Err, IfSome, IfNone, length};
+ghost use Rattle.std.specs.Prelude.{◌≡◌, ◌+◌, ◌<◌, ◌≤◌, ℕ, Bool, List, [], ◌∷◌, ◌++◌, MatchResult, Ok, Err, IfSome, IfNone};
 ghost use Rattle.pie_line.specs.Refusal.{refusal_at};
 ghost use Rattle.bit_strings.specs.BitString.{most_counted};
-ghost use Rattle.pie_line.specs.Link.{IsTari, IsRtCal};
-ghost use Rattle.pie_line.specs.Pie.{IsDelimiter, longest_interval};
+ghost use Rattle.pie_line.specs.Pie.{longest_interval};
 
 use crate::frame_state::FrameState;
-use crate::ranges::{bit_of_sum, is_delimiter, is_rtcal, is_tari};
-use crate::symbol_pairs::{bit_of_symbol, push_symbols};
+use crate::ranges::bit_of_symbol;
 use crate::{FrameKind, PieRefusal};
-use bit_strings::Bits;
 use std::marker::Model;
 
 /// What an interval brought.
@@ -62,33 +59,6 @@ fn refusal_of(place: u32, interval: u32) -> PieRefusal
     }
 }
 
-/// Whether these intervals are a delimiter, a data-0 and RTcal, with which each frame begins (6.3.1.2.8).
-#[inline]
-fn begins_frame(
-    delimiter: u32,
-    zero_high: u32,
-    zero_low: u32,
-    rtcal_high: u32,
-    rtcal_low: u32,
-) -> bool
-    requires zero { (zero_high ≤ longest_interval) × (zero_low ≤ longest_interval) }
-    requires rtcal { (rtcal_high ≤ longest_interval) × (rtcal_low ≤ longest_interval) }
-    ensures delimiter { IsTrue result → IsDelimiter delimiter }
-    ensures lasts { IsTrue result → (1 ≤ zero_high) × (1 ≤ zero_low) × (1 ≤ rtcal_high) × (1 ≤ rtcal_low) }
-    ensures tari { IsTrue result → IsTari (zero_high + zero_low) }
-    ensures rtcal { IsTrue result → IsRtCal (zero_high + zero_low) (rtcal_high + rtcal_low) }
-{
-    let tari = zero_high + zero_low;
-    let rtcal = rtcal_high + rtcal_low;
-    zero_high > 0
-        && zero_low > 0
-        && rtcal_high > 0
-        && rtcal_low > 0
-        && is_delimiter(delimiter)
-        && is_tari(tari)
-        && is_rtcal(tari, rtcal)
-}
-
 impl Edges {
     ghost use Rattle.pie_line.specs.Pie.{IsFrame};
     ghost use Rattle.pie_line.specs.Refusal.{RefusesFrame, IsFrameRefusedAt};
@@ -96,7 +66,7 @@ impl Edges {
     ghost use Rattle.pie_line.specs.declared.frame.PieRefusal.{PieRefusal};
     ghost use Rattle.pie_line.specs.declared.edges.Edge.TheVariants.{Refused};
     ghost use Rattle.pie_line.specs.Edges.{EdgesValue, EdgesStandFor, IsEdgesAnswer};
-    ghost use Rattle.pie_line.specs.DataSymbols.{IsBeforeSymbol, GoesOver};
+    ghost use Rattle.pie_line.specs.DataSymbols.{IsBeforeSymbol};
 
     /// A decoder that was given no interval.
     #[inline(always)]
@@ -161,69 +131,6 @@ impl Edges {
         let bit = bit_of_symbol(kind.rtcal(), high, low)?;
         self.count += 2;
         Some(bit)
-    }
-
-    /// Takes a whole frame-sync (6.3.1.2.8) and the data symbol behind it at once, where the decoder was given
-    /// nothing and the intervals begin with these, and adds the bit to those that were read before. Else it takes
-    /// nothing. Gives the intervals that are left.
-    pub(crate) fn take_frame_sync<'a>(&mut self, intervals: &'a [u32], out: &mut Bits) -> &'a [u32]
-        requires room { length out.old.items + length intervals.now ≤ out.old.capacity }
-        requires each { All (λ interval. interval ≤ longest_interval) intervals.now }
-        requires count { self.old.count + length intervals.now ≤ most_counted }
-        ensures taken { GoesOver self.old self.new out.old.items out.new.items intervals.now result.now }
-        ensures each { All (λ interval. interval ≤ longest_interval) result.now }
-        ensures capacity { out.new.capacity ≡ out.old.capacity }
-    {
-        let Ok(FrameState::Delimiter) = self.standing else {
-            return intervals;
-        };
-        let [
-            delimiter,
-            zero_high,
-            zero_low,
-            rtcal_high,
-            rtcal_low,
-            high,
-            low,
-            rest @ ..,
-        ] = intervals
-        else {
-            return intervals;
-        };
-        if !begins_frame(*delimiter, *zero_high, *zero_low, *rtcal_high, *rtcal_low) {
-            return intervals;
-        }
-        let tari = *zero_high + *zero_low;
-        let rtcal = *rtcal_high + *rtcal_low;
-        let sum = *high + *low;
-        // A longer pair is TRcal.
-        if *high == 0 || *low == 0 || rtcal < sum {
-            return intervals;
-        }
-        let kind = FrameKind::FrameSync { tari, rtcal };
-        self.standing = Ok(FrameState::High { kind });
-        self.count += 7;
-        out.push_reserved(bit_of_sum(rtcal, sum));
-        rest
-    }
-
-    /// Takes the data symbols with which the intervals begin, where the decoder stands before a data symbol,
-    /// and adds their bits to those that were read before. Gives the intervals that are left.
-    #[inline(always)]
-    pub(crate) fn take_symbols<'a>(&mut self, intervals: &'a [u32], out: &mut Bits) -> &'a [u32]
-        requires room { length out.old.items + length intervals.now ≤ out.old.capacity }
-        requires each { All (λ interval. interval ≤ longest_interval) intervals.now }
-        requires count { self.old.count + length intervals.now ≤ most_counted }
-        ensures taken { GoesOver self.old self.new out.old.items out.new.items intervals.now result.now }
-        ensures each { All (λ interval. interval ≤ longest_interval) result.now }
-        ensures capacity { out.new.capacity ≡ out.old.capacity }
-    {
-        let Ok(FrameState::High { kind }) = self.standing else {
-            return intervals;
-        };
-        let rest = push_symbols(kind, intervals, out);
-        self.count += (intervals.len() - rest.len()) as u32;
-        rest
     }
 
     /// The kind of the frame that the intervals are, or why they are none.

@@ -12,7 +12,6 @@ mod laws;
 mod link;
 mod ranges;
 mod sender;
-mod symbol_pairs;
 
 pub use bit_strings::Code;
 pub use decoder::decode_frame;

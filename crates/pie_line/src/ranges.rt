@@ -1,7 +1,8 @@
-//! Tests of the ranges of durations, all in nanoseconds.
-ghost use Rattle.std.specs.Prelude.{◌≡◌, ◌↔◌, ◌*◌, ◌≤◌, ℕ, nat_le, IsTrue};
+//! Tests of the ranges of durations, all in nanoseconds, and the bits that durations stand for.
+ghost use Rattle.std.specs.Prelude.{◌≡◌, ◌↔◌, ◌+◌, ◌*◌, ◌≤◌, ℕ, nat_le, IsTrue, IfSome, IfNone};
 ghost use Rattle.pie_line.specs.Link.{IsTari, IsRtCal, IsTrCal, IsPw};
-ghost use Rattle.pie_line.specs.Pie.{IsDelimiter, bit_of};
+ghost use Rattle.pie_line.specs.Pie.{IsDelimiter, bit_of, longest_interval};
+ghost use Rattle.pie_line.specs.DataSymbols.{IsDataSymbol};
 
 /// The longest Tari.
 pub const TARI_MOST: u32 = 25_000;
@@ -59,6 +60,22 @@ pub fn pivot_of(rtcal: u32) -> u32
 pub fn bit_of_sum(rtcal: u32, sum: u32) -> bool
     ensures { result ≡ bit_of rtcal sum }
 {
-    // The pivot is the same for all symbols of a frame: a loop over them computes it once.
     pivot_of(rtcal) <= sum
+}
+
+/// The bit of the data symbol that has this high and this low; none exactly where they make no data symbol (6.3.1.2.3).
+#[inline(always)]
+pub fn bit_of_symbol(rtcal: u32, high: u32, low: u32) -> Option<bool>
+    requires rtcal { rtcal ≤ 75000 }
+    requires high { high ≤ longest_interval }
+    requires low { low ≤ longest_interval }
+    ensures bit { IfSome result (λ bit. bit ≡ bit_of rtcal (high + low)) }
+    ensures symbol { IfSome result (λ _. IsDataSymbol rtcal high low) }
+    ensures none { IfNone result (¬ IsDataSymbol rtcal high low) }
+{
+    let sum = high + low;
+    if high == 0 || low == 0 || 4 * rtcal < sum {
+        return None;
+    }
+    Some(bit_of_sum(rtcal, sum))
 }

@@ -6,7 +6,6 @@ ghost use Rattle.command_grammar.specs.declared.commands.Command.{Command};
 use crate::commands::Command;
 use crate::reader::access::decode_access_to;
 use crate::reader::framer::Framer;
-use crate::reader::short::decode_short_to;
 use crate::refusal::CommandRefusal;
 
 /// Puts in place of another answer the command that these bits are, or why they are none. Nothing is copied, as an answer
@@ -15,9 +14,6 @@ pub fn decode_command_to(bits: &[bool], answer: &mut Result<Command, CommandRefu
     ensures answer { IsFinishAnswer answer.new bits.now }
     ensures only { (command : Command) → SpellsCommand command bits.now → answer.new ≡ Ok command }
 {
-    if decode_short_to(bits, answer) {
-        return;
-    }
     if decode_access_to(bits, answer) {
         return;
     }

@@ -1,12 +1,13 @@
-use Rattle.std.proofs.Common.{◌≡◌, length}
-use Rattle.pie_line.proofs.Decoding.{IsDecoding}
+use Rattle.std.proofs.Common.{◌≡◌, ◌-◌, length}
+use Rattle.pie_line.specs.Edges.{HasReadTo}
 use Rattle.pie_line.proofs.decoder.decode_intervals.Given as goal
 
-abbrev pub invariant-loop-rest : goal.invariant-loop-rest
-invariant-loop-rest l = record {
-  decoding : IsDecoding l.edges l.out.items l.intervals l.rest;
+-- the decoder was given the intervals so far, and their bits were read
+abbrev pub invariant-loop-at : goal.invariant-loop-at
+invariant-loop-at l = record {
+  given : HasReadTo l.edges l.out.items l.intervals l.at;
   capacity : l.out.capacity ≡ l.fn.out.capacity;
 }
 
-abbrev pub decreases-loop-rest : goal.decreases-loop-rest
-decreases-loop-rest l = length l.rest
+abbrev pub decreases-loop-at : goal.decreases-loop-at
+decreases-loop-at l = length l.intervals - l.at

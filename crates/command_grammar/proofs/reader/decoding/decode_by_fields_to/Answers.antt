@@ -1,6 +1,5 @@
-use Rattle.std.proofs.Common.{◌≡◌, Bool, List, false, arith, ap, sym, subst, take, length}
+use Rattle.std.proofs.Common.{◌≡◌, Bool, List, false, arith, sym, subst, take}
 use Rattle.std.proofs.lemmas.List.{take_all, take_more}
-use Rattle.command_grammar.specs.Commands.{IsFinishAnswer}
 use Rattle.command_grammar.specs.reading.Framing.{FramerStandsFor}
 use Rattle.command_grammar.proofs.reader.decoding.decode_by_fields_to.Goals as goal
 

@@ -1,6 +1,6 @@
 -- The decoder takes a symbol more.
 use Rattle.std.proofs.Common.{rules}
-use Rattle.pie_line.proofs.GoneOver.{stands_symbol}
+use Rattle.pie_line.proofs.TakenSymbol.{stands_symbol}
 use Rattle.pie_line.proofs.edges.Edges.push_symbol.Goals as goal
 
 pub returns-clause-bit : goal.returns-clause-bit

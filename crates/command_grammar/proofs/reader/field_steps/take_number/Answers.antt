@@ -1,6 +1,6 @@
 use Rattle.std.proofs.Common.{◌-◌, ◌∙◌, arith}
 use Rattle.command_grammar.proofs.reading.FieldStages.{some_mask, length_words, first_word, next_words}
-use Rattle.command_grammar.proofs.reader.stage.take_number.Goals as goal
+use Rattle.command_grammar.proofs.reader.field_steps.take_number.Goals as goal
 
 pub returns-else-value-eq0-2-clause-reads : goal.returns-else-value-eq0-2-clause-reads
 returns-else-value-eq0-2-clause-reads c = λ rest. rw c.in-MaskLength.is (some_mask c.args.value (c.args.value - 1) (record c.args.fields.now { mask = c.new-fields.result }) rest (omega (arith, c.if-value-eq0-2.false)) c.new-fields.ensures)

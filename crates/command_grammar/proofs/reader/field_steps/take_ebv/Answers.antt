@@ -3,7 +3,7 @@ use Rattle.bit_strings.specs.Ebv.{IsCutEbv}
 use Rattle.bit_strings.specs.laws.Ebv.{below-ebv}
 use Rattle.command_grammar.proofs.reading.FieldStages.{ebv_run, ebv_whole, ebv_stops}
 use Rattle.command_grammar.proofs.reading.EbvFronts.{no_ebv_behind}
-use Rattle.command_grammar.proofs.reader.stage.take_ebv.Goals as goal
+use Rattle.command_grammar.proofs.reader.field_steps.take_ebv.Goals as goal
 
 pub returns-in-More-clause-reads : goal.returns-in-More-clause-reads
 returns-in-More-clause-reads c = λ rest.

@@ -1,0 +1,189 @@
+//! What comes of a bit of each kind of field, and of the number that the bits of a field are.
+ghost use Rattle.std.specs.Prelude.{◌≡◌, ◌+◌, ◌≤◌, ◌<◌, ◌^◌, ◌∷◌, List, Bool, length};
+ghost use Rattle.command_grammar.specs.reading.FieldStages.{stage_from, next_from, pair_from, triple_from, bit_from, number_then, words_then};
+ghost use Rattle.command_grammar.specs.reading.FieldRanges.{IsSoundNumber, IsSoundNext, width_of};
+ghost use Rattle.command_grammar.specs.declared.reader.fields.Fields.{Fields};
+ghost use Rattle.command_grammar.specs.declared.reader.stage.Stage.TheVariants as stages;
+
+use crate::choices::{
+    BANK_VALUES, M_VALUES, MASK_BANK_VALUES, SEL_VALUES, query_target, select_target, updn,
+};
+use crate::reader::fields::{
+    Fields, action_of, count_of, payload_of, pointer_of, q_of, session_of,
+};
+use crate::reader::stage::{
+    BitField, Next, NumberField, NumberFront, PairField, Stage, TripleField, TripleFront,
+};
+use crate::refusal::Reason;
+use bit_strings::{EbvFront, EbvStep};
+use command_fields::{BlockWords, Mask};
+
+/// A field of one bit.
+pub(crate) fn take_bit(field: BitField, bit: bool, fields: &mut Fields) -> Next
+    ensures reads { (rest : List Bool) → bit_from field fields.old (bit ∷ rest) ≡ next_from result fields.new rest }
+    ensures sound { IsSoundNext result fields.new }
+{
+    match field {
+        BitField::Dr => fields.dr = bit,
+        BitField::TRext => fields.trext = bit,
+        BitField::QueryTarget => fields.query_target = query_target(bit),
+    }
+    Next::Done
+}
+
+/// A bit of a field of two, behind the first one if that was read.
+pub(crate) fn take_pair(
+    field: PairField,
+    first: Option<bool>,
+    bit: bool,
+    fields: &mut Fields,
+) -> Next
+    ensures reads { (rest : List Bool) → pair_from field first fields.old (bit ∷ rest) ≡ next_from result fields.new rest }
+    ensures sound { IsSoundNext result fields.new }
+{
+    let Some(first) = first else {
+        return Next::Stay(Stage::Pair(field, Some(bit)));
+    };
+    // The number that the two bits are.
+    let number = 2 * usize::from(first) + usize::from(bit);
+    match field {
+        PairField::M => fields.m = M_VALUES[number],
+        PairField::Sel => fields.sel = SEL_VALUES[number],
+        PairField::Bank => fields.bank = BANK_VALUES[number],
+        PairField::MaskBank => match MASK_BANK_VALUES[number] {
+            Some(bank) => fields.mask_bank = bank,
+            None => return Next::Refused(Reason::Bank),
+        },
+    }
+    Next::Done
+}
+
+/// A bit of a field of three.
+pub(crate) fn take_triple(
+    field: TripleField,
+    front: TripleFront,
+    bit: bool,
+    fields: &mut Fields,
+) -> Next
+    ensures reads { (rest : List Bool) → triple_from field front fields.old (bit ∷ rest) ≡ next_from result fields.new rest }
+    ensures sound { IsSoundNext result fields.new }
+{
+    match (field, front, bit) {
+        (_, TripleFront::Nothing, _) => Next::Stay(Stage::Triple(field, TripleFront::One(bit))),
+        (TripleField::UpDn, TripleFront::One(true), false) => Next::Refused(Reason::UpDn),
+        (TripleField::SelectTarget, TripleFront::One(true), true) => Next::Refused(Reason::Target),
+        (_, TripleFront::One(first), _) => Next::Stay(Stage::Triple(
+            field,
+            TripleFront::Two(first, bit),
+        )),
+        (TripleField::UpDn, TripleFront::Two(first, second), _) => match updn(first, second, bit) {
+            Some(updn) => {
+                fields.updn = updn;
+                Next::Done
+            }
+            None => Next::Refused(Reason::UpDn),
+        },
+        (TripleField::SelectTarget, TripleFront::Two(first, second), _) => match select_target(
+            first, second, bit,
+        ) {
+            Some(target) => {
+                fields.select_target = target;
+                Next::Done
+            }
+            None => Next::Refused(Reason::Target),
+        },
+    }
+}
+
+/// The whole number of a field.
+pub(crate) fn take_number(field: NumberField, value: u32, fields: &mut Fields) -> Next
+    requires small { value < 2 ^ width_of field }
+    requires sound { IsSoundNumber field fields.old }
+    ensures reads { (rest : List Bool) → number_then field value fields.old rest ≡ next_from result fields.new rest }
+    ensures sound { IsSoundNext result fields.new }
+{
+    match field {
+        NumberField::Session => {
+            fields.session = session_of(value);
+            Next::Done
+        }
+        NumberField::Q => {
+            fields.q = q_of(value);
+            Next::Done
+        }
+        NumberField::Action => {
+            fields.action = action_of(value);
+            Next::Done
+        }
+        NumberField::Count => {
+            fields.count = value as u8;
+            Next::Done
+        }
+        NumberField::WordCount => {
+            if value == 0 {
+                return Next::Refused(Reason::Count);
+            }
+            fields.word_count = count_of(value);
+            Next::Done
+        }
+        NumberField::Covered => {
+            fields.covered = value as u16;
+            Next::Done
+        }
+        NumberField::Payload => {
+            fields.payload = payload_of(value);
+            Next::Done
+        }
+        NumberField::Rn => {
+            fields.rn = value as u16;
+            Next::Done
+        }
+        NumberField::MaskLength => {
+            fields.mask = Mask::new();
+            if value == 0 {
+                return Next::Done;
+            }
+            Next::Stay(Stage::Mask(value - 1))
+        }
+        NumberField::WordsLength => {
+            if value == 0 {
+                return Next::Refused(Reason::Count);
+            }
+            Next::Stay(Stage::Number(NumberField::FirstWord(value - 1), NumberFront::of(16)))
+        }
+        NumberField::FirstWord(left) => {
+            fields.words = BlockWords::first(value as u16);
+            next_word(left)
+        }
+        NumberField::Word(left) => {
+            fields.words.push_reserved(value as u16);
+            next_word(left)
+        }
+    }
+}
+
+/// What follows a word of a block, where so many others follow.
+fn next_word(left: u32) -> Next
+    ensures reads { (fields : Fields) (rest : List Bool) → words_then left fields rest ≡ next_from result fields rest }
+    ensures sound { (fields : Fields) → length fields.words + left ≤ 255 → IsSoundNext result fields }
+{
+    if left == 0 {
+        return Next::Done;
+    }
+    Next::Stay(Stage::Number(NumberField::Word(left - 1), NumberFront::of(16)))
+}
+
+/// A bit of an extensible bit vector, behind those read.
+pub(crate) fn take_ebv(front: EbvFront, bit: bool, fields: &mut Fields) -> Next
+    ensures reads { (rest : List Bool) → stage_from (stages.Ebv front) fields.old (bit ∷ rest) ≡ next_from result fields.new rest }
+    ensures sound { IsSoundNext result fields.new }
+{
+    match front.take(bit) {
+        EbvStep::More(more) => Next::Stay(Stage::Ebv(more)),
+        EbvStep::Value(number) => {
+            fields.pointer = pointer_of(number);
+            Next::Done
+        }
+        EbvStep::NotShortest | EbvStep::TooLong => Next::Refused(Reason::Ebv),
+    }
+}

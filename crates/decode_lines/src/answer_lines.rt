@@ -1,0 +1,152 @@
+//! What was read of a line, as the line that answers it.
+ghost use Rattle.std.specs.Prelude.{◌≡◌, ◌++◌, OnOk};
+ghost use Rattle.std.specs.String.{string_bytes};
+ghost use Rattle.decode_lines.specs.Answer.{answer_line, streamed, sliced, replied, heard, framed, commanded, named, worded, with_left};
+
+use bit_strings::{Bits, Levels, OutOfMemory};
+use command_grammar::{Command, CommandRefusal};
+use command_text::{push_command, push_command_refusal};
+use epc_sgtin::{EpcFault, Sgtin, UriFault};
+use line_codes::LineRefusal;
+use pie_line::{FrameKind, PieRefusal};
+use pie_text::{push_frame, push_pie_refusal};
+use reply_grammar::{Received, Reply, ReplyRefusal};
+use reply_text::{push_reply, push_reply_refusal};
+use sample_slicer::SliceRefusal;
+use sgtin_text::{push_epc_fault, push_name, push_sgtin_words, push_uri_fault};
+use text_fields::{push_bits, push_number};
+
+/// Adds what a line decoder answered, as a line.
+pub(crate) fn push_outcome(
+    text: &mut String,
+    outcome: Result<(), LineRefusal>,
+    bits: &Bits,
+) -> Result<(), OutOfMemory>
+    ensures { OnOk result (string_bytes text.new ≡ string_bytes text.old ++ answer_line (streamed (with_left (λ done. bits.now.items) outcome))) }
+{
+    match outcome {
+        Ok(()) => {
+            text.push_str("bits ")?;
+            push_bits(text, bits.as_slice())?;
+        }
+        Err(LineRefusal::Invalid(place)) => {
+            text.push_str("invalid ")?;
+            push_number(text, place)?;
+        }
+        Err(LineRefusal::Unfinished(count)) => {
+            text.push_str("unfinished ")?;
+            push_number(text, count)?;
+        }
+    }
+    text.push_str("\n")
+}
+
+/// Adds what the slicer answered, as a line.
+pub(crate) fn push_slicing(
+    text: &mut String,
+    outcome: Result<(), SliceRefusal>,
+    levels: &Levels,
+) -> Result<(), OutOfMemory>
+    ensures { OnOk result (string_bytes text.new ≡ string_bytes text.old ++ answer_line (sliced (with_left (λ done. levels.now.items) outcome))) }
+{
+    match outcome {
+        Ok(()) => {
+            text.push_str("levels ")?;
+            push_bits(text, levels.as_slice())?;
+        }
+        Err(SliceRefusal::Mixed(place)) => {
+            text.push_str("mixed ")?;
+            push_number(text, place)?;
+        }
+        Err(SliceRefusal::Rest(place)) => {
+            text.push_str("rest ")?;
+            push_number(text, place)?;
+        }
+    }
+    text.push_str("\n")
+}
+
+/// Adds what the reply grammar answered, as a line.
+pub(crate) fn push_replied(
+    text: &mut String,
+    outcome: &Result<Reply, ReplyRefusal>,
+) -> Result<(), OutOfMemory>
+    ensures { OnOk result (string_bytes text.new ≡ string_bytes text.old ++ answer_line (replied outcome.now)) }
+{
+    match outcome {
+        Ok(reply) => push_reply(text, reply)?,
+        Err(refusal) => push_reply_refusal(text, *refusal)?,
+    }
+    text.push_str("\n")
+}
+
+/// Adds what was received, as a line.
+pub(crate) fn push_received(text: &mut String, received: &Received) -> Result<(), OutOfMemory>
+    ensures { OnOk result (string_bytes text.new ≡ string_bytes text.old ++ answer_line (heard received.now)) }
+{
+    match received {
+        Received::Whole(reply) => push_reply(text, reply)?,
+        Received::Refused(place) => {
+            text.push_str("refused ")?;
+            push_number(text, *place)?;
+        }
+    }
+    text.push_str("\n")
+}
+
+/// Adds what the decoder of frames answered, as a line.
+pub(crate) fn push_framed(
+    text: &mut String,
+    outcome: &Result<FrameKind, PieRefusal>,
+    bits: &Bits,
+) -> Result<(), OutOfMemory>
+    ensures { OnOk result (string_bytes text.new ≡ string_bytes text.old ++ answer_line (framed (with_left (λ kind. (kind, bits.now.items)) outcome.now))) }
+{
+    match outcome {
+        Ok(kind) => push_frame(text, kind, bits)?,
+        Err(refusal) => push_pie_refusal(text, *refusal)?,
+    }
+    text.push_str("\n")
+}
+
+/// Adds what the decoder of commands answered, as a line.
+pub(crate) fn push_commanded(
+    text: &mut String,
+    outcome: &Result<Command, CommandRefusal>,
+) -> Result<(), OutOfMemory>
+    ensures { OnOk result (string_bytes text.new ≡ string_bytes text.old ++ answer_line (commanded outcome.now)) }
+{
+    match outcome {
+        Ok(command) => push_command(text, command)?,
+        Err(refusal) => push_command_refusal(text, *refusal)?,
+    }
+    text.push_str("\n")
+}
+
+/// Adds what words carry, as a line.
+pub(crate) fn push_named(
+    text: &mut String,
+    outcome: &Result<Sgtin, EpcFault>,
+) -> Result<(), OutOfMemory>
+    ensures { OnOk result (string_bytes text.new ≡ string_bytes text.old ++ answer_line (named outcome.now)) }
+{
+    match outcome {
+        Ok(sgtin) => push_name(text, sgtin)?,
+        Err(fault) => push_epc_fault(text, *fault)?,
+    }
+    text.push_str("\n")
+}
+
+/// Adds what a URI names, as a line.
+pub(crate) fn push_worded(
+    text: &mut String,
+    outcome: &Result<[u16; 6], UriFault>,
+) -> Result<(), OutOfMemory>
+    ensures { OnOk result (string_bytes text.new ≡ string_bytes text.old ++ answer_line (worded outcome.now)) }
+{
+    match outcome {
+        Ok(words) => push_sgtin_words(text, words)?,
+        Err(fault) => push_uri_fault(text, *fault)?,
+    }
+    text.push_str("\n")
+}
