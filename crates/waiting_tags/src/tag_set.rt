@@ -58,6 +58,10 @@ impl TagSet {
         ensures there { bit_of self.new number ≡ 0 }
         ensures others { (other : ℕ) → other ≢ number → bit_of self.new other ≡ bit_of self.old other }
     {
+        // Most often it is not in the set: a tag that only waits is removed at each command that all hear.
+        if !self.contains(number) {
+            return;
+        }
         let number = number.index();
         let at = number / WORD;
         let word = self.words[at] & !(1 << (number % WORD));

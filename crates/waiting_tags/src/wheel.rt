@@ -79,6 +79,7 @@ impl Wheel {
     }
 
     /// Lets a tag stand on a place, and nowhere else.
+    #[inline(always)]
     pub(crate) fn put(&mut self, number: TagNumber, place: usize)
         requires number { number < length self.old }
         requires place { place < most_places }
@@ -96,6 +97,7 @@ impl Wheel {
     }
 
     /// Lets a tag stand nowhere.
+    #[inline(always)]
     pub(crate) fn take(&mut self, number: TagNumber)
         requires { number < length self.old }
         ensures { self.new ≡ slice_set self.old number None }
