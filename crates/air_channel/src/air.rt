@@ -94,8 +94,8 @@ impl Air {
     }
 
     /// Sends a command, and says of whom the channel gives a reply. The entry's events happen first. Then each tag that doesn't
-    /// miss the command hears what it reads from the frame. A QueryRep takes at most two steps for each tag that answers it,
-    /// was beyond arbitrate before it, or missed it, and none for any other.
+    /// miss the command hears what it reads from the frame. A QueryRep where no event befalls takes at most two steps for each
+    /// tag that answers it, was beyond arbitrate before it, or missed it, and none for any other.
     pub fn exchange<L: Ledger>(
         &mut self,
         command: &Command,

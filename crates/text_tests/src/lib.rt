@@ -1,21 +1,7 @@
-//! Tests of the public calls of texts: frames, commands, replies and names as texts, and scenarios with their lines. Faulty
-//! scenarios stand as rows in rows/scenario.
+//! Tests of what no row shows of texts: scenarios that are written again, and those of a seed, and the parts of trade item numbers.
+//! Lines, frames, commands, replies and names stand as rows in rows/decode, rows/encode and rows/scenario.
 #![tactic(auto)]
 
-#[cfg(test)]
-mod commands;
-#[cfg(test)]
-mod entries;
-#[cfg(test)]
-mod fault_lines;
-#[cfg(test)]
-mod frames;
-#[cfg(test)]
-mod lines;
-#[cfg(test)]
-mod names;
-#[cfg(test)]
-mod replies;
 #[cfg(test)]
 mod round_trips;
 #[cfg(test)]

@@ -38,7 +38,7 @@ objects_lawful one_text set job lawful = record {
   allowed = λ bytes text writes. lawful.allowed bytes writes.plain writes.named;
   not_refused = lawful.not_refused;
   unread = lawful.unread;
-  kept = λ bytes text writes. record { plain = writes.plain; named = lawful.kept bytes writes.plain writes.named; objects = writes.objects };
+  kept = λ bytes text writes. record { plain = writes.plain; named = (writes.named, lawful.kept bytes writes.plain writes.named); objects = writes.objects };
 }
 
 plain_lawful : IsLawful decode_job → IsLawful probe_job → IsLawful audit_job → ((mode : Mode) → IsLawful (run_job mode)) → (set : LineSet) → IsLawful (plain_job set)

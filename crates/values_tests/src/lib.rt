@@ -1,4 +1,4 @@
-//! Tests of the public calls of values: bits, bytes in and out, check numbers and fields of texts.
+//! Tests of what no row shows of values: bits, check numbers, and bytes in and out where calls fail. Fields of texts stand in every row.
 #![tactic(auto)]
 
 #[cfg(test)]
@@ -7,7 +7,5 @@ mod bits;
 mod bytes;
 #[cfg(test)]
 mod check_numbers;
-#[cfg(test)]
-mod fields;
 #[cfg(test)]
 mod std_edge;

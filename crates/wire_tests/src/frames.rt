@@ -1,101 +1,10 @@
-//! Frames in pulse-interval encoding, and links. Frames that are read, and each refusal, stand in rows/decode/frames.txt.
+//! Symbols of frames in pulse-interval encoding that come whole, links and lists of intervals. Frames that are written stand in
+//! rows/exchanges.txt, those that are read, and each refusal, in rows/decode/frames.txt.
 ghost use Rattle.std.specs.Prelude.{◌≤◌};
 
-use crate::lists::bits_of;
-use bit_strings::{Bits, Full};
-use pie_line::{
-    Code, Edges, FrameKind, Intervals, Lead, Link, LinkRefusal, PieRefusal, decode_frame,
-    encode_frame,
-};
+use bit_strings::Full;
+use pie_line::{Code, Edges, Intervals, Link, LinkRefusal};
 use std::alloc::Global;
-
-/// The frame of a Query behind a preamble.
-const QUERY: &[u32] = &[
-    12_500, 6_250, 6_250, 25_000, 6_250, 43_750, 6_250, // delimiter, Tari, RTcal, TRcal
-    12_500, 6_250, 6_250, 6_250, 6_250, 6_250, 6_250, 6_250, // 1000
-    12_500, 6_250, 6_250, 6_250, 6_250, 6_250, 6_250, 6_250, // 1000
-    6_250, 6_250, 6_250, 6_250, 6_250, 6_250, 6_250, 6_250, // 0000
-    6_250, 6_250, 6_250, 6_250, 6_250, 6_250, 6_250, 6_250, // 0000
-    12_500, 6_250, 6_250, 6_250, 6_250, 6_250, 6_250, 6_250, // 1000
-    6_250, 6_250, 12_500, 6_250, // 01
-];
-
-/// The frame of a Query behind this lead.
-fn query_frame(alloc: Global, lead: Lead) -> Option<Intervals> {
-    let link = Link::new(12_500, 31_250, 50_000, 6_250, true, Code::Fm0, false).ok()?;
-    let bits = bits_of(alloc, "1000100000000000100001")?;
-    let mut out = Intervals::new(alloc, 100).ok()?;
-    if out.capacity() != 100 || bits.len() > 22 || link.blf() != (64, 150_000) {
-        return None;
-    }
-    encode_frame(&link, lead, &bits, &mut out);
-    Some(out)
-}
-
-/// The same behind a frame-sync, which has no TRcal.
-const QUERY_BEHIND_SYNC: &[u32] = &[
-    12_500, 6_250, 6_250, 25_000, 6_250, // delimiter, Tari, RTcal
-    12_500, 6_250, 6_250, 6_250, 6_250, 6_250, 6_250, 6_250, // 1000
-    12_500, 6_250, 6_250, 6_250, 6_250, 6_250, 6_250, 6_250, // 1000
-    6_250, 6_250, 6_250, 6_250, 6_250, 6_250, 6_250, 6_250, // 0000
-    6_250, 6_250, 6_250, 6_250, 6_250, 6_250, 6_250, 6_250, // 0000
-    12_500, 6_250, 6_250, 6_250, 6_250, 6_250, 6_250, 6_250, // 1000
-    6_250, 6_250, 12_500, 6_250, // 01
-];
-
-const QUERIES: &[(Lead, &[u32])] = &[
-    (Lead::Preamble, QUERY),
-    (Lead::FrameSync, QUERY_BEHIND_SYNC),
-];
-
-/// Whether the Query has this frame.
-fn is_query(alloc: Global, lead: Lead, intervals: &[u32]) -> Option<bool> {
-    let frame = query_frame(alloc, lead)?;
-    Some(frame.as_slice() == intervals)
-}
-
-#[test]
-fn a_query_is_written(rt: HostRuntime) {
-    for &(lead, intervals) in QUERIES {
-        assert!(rt;
-            is_query(rt.alloc(), lead, intervals) == Some(true),
-            "{lead:?}"
-        );
-    }
-}
-
-/// What the intervals are read as, and how many bits that are.
-fn read(alloc: Global, intervals: &Intervals) -> Option<(Result<FrameKind, PieRefusal>, u32)> {
-    let mut out = Bits::new(alloc, 200).ok()?;
-    let are_short = intervals
-        .as_slice()
-        .iter()
-        .all(|interval| *interval <= 999_999);
-    if intervals.len() > 100 || out.capacity() != 200 || !are_short {
-        return None;
-    }
-    let result = decode_frame(intervals, &mut out);
-    Some((result, out.len()))
-}
-
-/// What the Query's frame is read as, and what no intervals are.
-fn frames_read(alloc: Global) -> Option<[(Result<FrameKind, PieRefusal>, u32); 2]> {
-    let query = query_frame(alloc, Lead::Preamble)?;
-    let none = Intervals::new(alloc, 0).ok()?;
-    Some([read(alloc, &query)?, read(alloc, &none)?])
-}
-
-#[test]
-fn a_query_is_read(rt: HostRuntime) {
-    let preamble = FrameKind::Preamble {
-        tari: 12_500,
-        rtcal: 31_250,
-        trcal: 50_000,
-    };
-    assert!(rt;
-        frames_read(rt.alloc()) == Some([(Ok(preamble), 22), (Err(PieRefusal::Unfinished(0)), 0)])
-    );
-}
 
 /// A decoder that was given the delimiter, a Tari of 12,500 and an RTcal of 31,250.
 fn edges_behind_header() -> Edges

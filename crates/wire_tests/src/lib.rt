@@ -1,9 +1,7 @@
-//! Tests of the public calls of the wire: line codes, frames, samples, commands and replies. What a decode line shows of streams,
-//! frames, commands, replies and samples stands as rows of text in rows/decode.
+//! Tests of what no row shows of the wire: bits and symbols that come one at a time, links, the rooms of lists, and the longest stream.
+//! Streams, frames, commands, replies and samples stand in rows/decode, and what is written in rows/encode and rows/exchanges.txt.
 #![tactic(auto)]
 
-#[cfg(test)]
-mod codes;
 #[cfg(test)]
 mod command_lists;
 #[cfg(test)]
@@ -11,10 +9,6 @@ mod commands;
 #[cfg(test)]
 mod frames;
 #[cfg(test)]
-mod lists;
-#[cfg(test)]
 mod replies;
-#[cfg(test)]
-mod samples;
 #[cfg(test)]
 mod streams;

@@ -1,55 +1,5 @@
-//! Replies, read and written. Each kind of reply, and each refusal, stand in rows/decode/replies.txt.
-use crate::lists::bits_of;
-use bit_strings::Bits;
-use reply_grammar::{
-    EpcWords, Expect, ReadWords, Reply, decode_reply, encode_epc, encode_reply, encode_rn16,
-};
-use std::alloc::Global;
-
-/// The reply with the PC 0800 and the EPC 1234.
-const PC_EPC: &str = "000010000000000000010010001101001110110100111010";
-
-/// Whether these are the bits of that reply, both ways.
-fn is_epc_reply(alloc: Global) -> Option<bool> {
-    let mut epc = EpcWords::new();
-    epc.push(0x1234).ok()?;
-    let reply = Reply::Epc { pc: 0x0800, epc };
-    let mut out = Bits::new(alloc, 8240).ok()?;
-    if out.capacity() < 8240 {
-        return None;
-    }
-    encode_reply(&reply, 0, &mut out);
-    let bits = bits_of(alloc, PC_EPC)?;
-    let is_read = decode_reply(&out, &Expect::Epc) == Ok(reply);
-    Some(is_read && out.as_slice() == bits.as_slice())
-}
-
-#[test]
-fn a_reply_is_written_and_read(rt: HostRuntime) {
-    assert_eq!(rt; is_epc_reply(rt.alloc()), Some(true));
-}
-
-/// Whether an RN16 and a PC with its EPC have these bits, for which no reply is made.
-fn are_written_alone(alloc: Global) -> Option<bool> {
-    let mut out = Bits::new(alloc, 8240).ok()?;
-    if out.capacity() < 8240 {
-        return None;
-    }
-    encode_rn16(0xA1B2, &mut out);
-    let is_rn16 = out.as_slice() == bits_of(alloc, "1010000110110010")?.as_slice();
-    let mut epc = EpcWords::new();
-    epc.push(0x1234).ok()?;
-    if epc.len() != 1 {
-        return None;
-    }
-    encode_epc(0x0800, &epc, &mut out);
-    Some(is_rn16 && out.as_slice() == bits_of(alloc, PC_EPC)?.as_slice())
-}
-
-#[test]
-fn an_rn16_and_an_epc_are_written_alone(rt: HostRuntime) {
-    assert_eq!(rt; are_written_alone(rt.alloc()), Some(true));
-}
+//! The rooms of the lists of words that replies carry. Each kind of reply, and each refusal, stand in rows/decode/replies.txt.
+use reply_grammar::{EpcWords, ReadWords};
 
 #[test]
 fn lists_of_words_are_made_of_their_words(rt: HostRuntime) {

@@ -1,25 +1,12 @@
-//! Streams of the four codes, with both pilots, written and read. More of them stand in rows/decode/streams.txt.
+//! The longest stream, written and read. Those of the four codes, with both pilots, stand in rows/decode/streams.txt.
 ghost use Rattle.std.specs.Prelude.{◌≡◌, ◌≤◌, length};
 
-use crate::lists::bits_of;
 use bit_strings::{Bits, Levels};
 use line_codes::{Code, LineRefusal, decode_levels, encode_bits};
 use std::alloc::Global;
 
 /// How many levels the longest reply has: 8,225 bits in Miller 8 with the extended pilot.
 const MOST_LEVELS: u32 = 131_968;
-
-/// A code, and whether the pilot is that of TRext 1.
-const LEADS: &[(Code, bool)] = &[
-    (Code::Fm0, false),
-    (Code::Fm0, true),
-    (Code::M2, false),
-    (Code::M2, true),
-    (Code::M4, false),
-    (Code::M4, true),
-    (Code::M8, false),
-    (Code::M8, true),
-];
 
 /// Writes the stream of bits that are no more than a reply has.
 fn write(code: Code, trext: bool, bits: &Bits, levels: &mut Levels)
@@ -77,55 +64,4 @@ fn longest(alloc: Global) -> Option<u32> {
 #[test]
 fn the_longest_reply_is_written_and_read(rt: HostRuntime) {
     assert_eq!(rt; longest(rt.alloc()), Some(MOST_LEVELS));
-}
-
-/// Whether the stream of the word A1B2 is refused with each one of its levels flipped.
-fn flips_are_refused(alloc: Global, code: Code, trext: bool) -> Option<bool> {
-    let mut levels = stream_of(alloc, code, trext, &bits_of(alloc, "1010000110110010")?)?;
-    for at in 0..levels.len() {
-        if at < levels.len() {
-            levels.flip(at);
-        }
-        if read(alloc, code, trext, &levels)?.0.is_ok() {
-            return Some(false);
-        }
-        if at < levels.len() {
-            levels.flip(at);
-        }
-    }
-    Some(true)
-}
-
-#[test]
-fn one_level_flipped_is_refused(rt: HostRuntime) {
-    for &(code, trext) in LEADS {
-        assert!(rt;
-            flips_are_refused(rt.alloc(), code, trext) == Some(true),
-            "{code:?}"
-        );
-    }
-}
-
-/// Whether each front of the stream of the word 0000 is unfinished: none ends with the block of a 1.
-fn fronts_are_unfinished(alloc: Global, code: Code, trext: bool) -> Option<bool> {
-    let levels = stream_of(alloc, code, trext, &bits_of(alloc, "0000000000000000")?)?;
-    let mut front = Levels::new(alloc, 1000).ok()?;
-    for level in levels.as_slice() {
-        let (answer, _) = read(alloc, code, trext, &front)?;
-        if answer != Err(LineRefusal::Unfinished(front.len())) {
-            return Some(false);
-        }
-        front.push(*level).ok()?;
-    }
-    Some(true)
-}
-
-#[test]
-fn a_front_is_unfinished(rt: HostRuntime) {
-    for &(code, trext) in LEADS {
-        assert!(rt;
-            fronts_are_unfinished(rt.alloc(), code, trext) == Some(true),
-            "{code:?}"
-        );
-    }
 }

@@ -1,17 +1,10 @@
-//! Tests of the public calls of the world: exchanges, the lines of a report, whole runs and what they count, and decode lines.
+//! Tests of what no row shows of whole runs: in which writes a report goes, how many exchanges there are, what the air is behind a run, and
+//! what runs count.
 #![tactic(auto)]
 
 #[cfg(test)]
-mod decode;
-#[cfg(test)]
-mod exchange;
-#[cfg(test)]
 mod play;
 #[cfg(test)]
-mod report;
-#[cfg(test)]
 mod summary;
-#[cfg(test)]
-mod tag_lines;
 #[cfg(test)]
 mod worlds;

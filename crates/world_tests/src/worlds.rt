@@ -5,13 +5,9 @@ ghost use Rattle.scenario.specs.Limits.{IsScenario};
 use scenario::Scenario;
 use scenario_text::read_scenario;
 use std::alloc::{AllocError, Global};
-use std::fmt::Write;
 
 /// A tag with the PC 0800, the EPC 1234 and the draw word A1B2.
 pub const FIRST: &str = "tag 00000000 00000000 0000000000 08001234 E2000001 - A1B2\n";
-
-/// A tag with the PC 0800, the EPC 5678 and the draw word 5678.
-pub const SECOND: &str = "tag 00000000 00000000 0000000000 08005678 E2000002 - 5678\n";
 
 /// Three tags with the same EPC or the same PC, of which one is listed again.
 pub const LISTED_TWICE: &[&str] = &[
@@ -40,24 +36,4 @@ fn scenario_text(alloc: Global, lines: &[&str]) -> Result<String, AllocError> {
     }
     text.push_str("end\n")?;
     Ok(text)
-}
-
-/// Adds the tag of this number, whose first draw word is its number, so that it chooses the slot of its number.
-fn push_numbered_tag(text: &mut String, k: u16) -> Result<(), AllocError> {
-    let epc = 0x1A85 + u32::from(k);
-    let user = 0x0100 + u32::from(k);
-    let (second, third) = (0x1000 + u32::from(k), 0x2000 + u32::from(k));
-    writeln!(
-        text,
-        "tag 00000000 00000000 0000000000 30003074257BF7194E400000{epc:04X} E200{k:04X} {user:04X}0000 {k:04X}{second:04X}{third:04X}"
-    )
-}
-
-/// The lines of 48 such tags.
-pub fn numbered_tags(alloc: Global) -> Option<String> {
-    let mut text = String::new(alloc);
-    for k in 0..48 {
-        push_numbered_tag(&mut text, k).ok()?;
-    }
-    Some(text)
 }

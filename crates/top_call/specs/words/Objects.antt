@@ -24,14 +24,14 @@ pub record ObjectsOfSome (set : LineSet) (T : List ℕ → Type 0) (text : List 
   pub objects : AreObjectsOf set plain text
 
 -- What is written is the objects of what the word itself writes; what is refused, and its fault line, are those of the word; and
--- what is promised of the lines is what the word promises.
+-- what is promised is what the word promises of the lines that it writes, of which these are the objects.
 abbrev pub objects_of_job : LineSet → Job → Job
 objects_of_job set job = record {
   input = job.input;
   allows = job.allows;
   writes = λ bytes text. ObjectsOfSome set (job.writes bytes) text;
   refuses = job.refuses;
-  promises = λ bytes text. ObjectsOfSome set (job.promises bytes) text;
+  promises = λ bytes text. ObjectsOfSome set (λ plain. job.writes bytes plain × job.promises bytes plain) text;
 }
 
 -- the lines of a word as objects

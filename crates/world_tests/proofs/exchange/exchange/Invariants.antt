@@ -1,4 +1,0 @@
-use Rattle.world_tests.proofs.exchange.exchange.Given as goal
-
-abbrev pub ghosts-exchange_counted : goal.ghosts-exchange_counted
-ghosts-exchange_counted a = record { name = a.blank.name; parts = a.blank.parts }
