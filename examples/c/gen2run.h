@@ -29,7 +29,8 @@ enum {
     GEN2RUN_NO_ROOM = 5,
     /* The input has more than 16,777,216 bytes. Nothing was written. */
     GEN2RUN_TOO_LONG = 6,
-    /* There was no memory. The front of the text was written, maybe none of it. */
+    /* There was no memory. The front of the text was written, maybe none of it. Words that ask for nothing, and an input that is too long, are told
+     * without taking memory. */
     GEN2RUN_NO_MEMORY = 7,
     /* A word isn't UTF-8. Nothing was written. */
     GEN2RUN_UNREADABLE_WORDS = 8

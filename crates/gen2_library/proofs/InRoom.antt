@@ -115,10 +115,6 @@ pub whole : (T : List ℕ → Type 0) (a : Call) → Leaves a → (status : Stat
 whole T a leaves status is room memory named =
     gives T a leaves (within a leaves (λ fault. room (sym is ∙ fault))) (named (kept a leaves status is room memory))
 
--- a call whose program wrote nothing has the program's status, where no write failed
-pub empty-kept : (a : Call) → Leaves a → a.written ≡ [] → (status : Status) → a.status ≡ status → status ≢ WriteFault → a.result ≡ status
-empty-kept a leaves none status is other = leaves.same (omega (arith, ap length none)) (λ fault. other (sym is ∙ fault)) ∙ is
-
 -- where there was no room or no memory, the call says so
 pub ends-so : (a : Call) → Leaves a → (wanted : Status) → (a.status ≡ wanted) ⊎ (a.status ≡ WriteFault) ⊎ (a.status ≡ OutOfMemory)
     → (a.result ≡ wanted) ⊎ (a.result ≡ WriteFault) ⊎ (a.result ≡ OutOfMemory)

@@ -1,10 +1,10 @@
 -- What the clauses of the program say over memory, where the input and what was written are lists.
-use Rattle.std.proofs.Common.{◌≡◌, ◌⊎◌, ℕ, ◌+◌, ◌≤◌, ◌<◌, Bool, List, ◌++◌, length, Option, Some, true, false, [], refl, sym, ◌∙◌, ap, subst, arith, inl, inr, length-append, if◌then◌else◌}
+use Rattle.std.proofs.Common.{◌≡◌, ◌⊎◌, ℕ, ◌+◌, ◌≤◌, ◌<◌, Bool, List, ◌++◌, length, Some, true, false, [], refl, sym, ◌∙◌, ap, subst, arith, inl, inr, length-append, if◌then◌else◌}
 use Rattle.std.proofs.lemmas.List.{append-nil}
 use Rattle.air_io.specs.Flow.{Reads, AtEnd, FaultsRose}
 use Rattle.gen2_library.specs.Called.{input_of, IsFront}
 use Rattle.top_call.specs.Job.{Job, Defines}
-use Rattle.top_call.specs.Outcome.{input_limit, TakesInput, ReadsAll, ReadsTooMuch, WritesWhole, WritesFront}
+use Rattle.top_call.specs.Outcome.{input_limit, TakesInput, ReadsTooMuch, SpeaksOfNoInput, WritesWhole, WritesFront}
 use Rattle.top_call.specs.declared.status.Status.{Status}
 use Rattle.top_call.specs.declared.status.Status.TheVariants.{Done, BadWords, BadInput, ReadFault, WriteFault, TooLong, OutOfMemory}
 
@@ -59,13 +59,16 @@ too-long input told left same many =
     let is : told ≡ many.bytes ++ left = let reads = many.reads in cc in
     omega (arith, many.over, ap length same, ap length is, length-append many.bytes left)
 
--- nor is a front of its text written, where it is to be read
-pub not-taken : (job : Job) (told left : List ℕ) (before written : Option (List ℕ)) → job.input ≡ true → input_limit < length told
-    → WritesFront job (Some told) (Some left) before written → ⊥
-not-taken job told left before written reads many writes =
-    let taken : ReadsAll (Some told) (Some left) writes.bytes = subst (λ reads. TakesInput reads (Some told) (Some left) writes.bytes) reads writes.taken in
-    let all : writes.bytes ≡ told = all-read told left writes.bytes taken.reads taken.end in
-    omega (arith, many, ap length all, taken.limit)
+-- what is read of an input that is too long is too long as well, where something is read
+pub over-limit : (reads : Bool) (input : List ℕ) → reads ≡ true → input_limit < length input → length (if reads then input else []) ≤ input_limit → ⊥
+over-limit true input is many few = omega (arith, few, many)
+over-limit false input is many few = cc
+
+-- so where it is within the limit, it was not too long, since nothing is too long where nothing is read
+pub fits : (reads : Bool) (input : List ℕ) (status : Status) → length (if reads then input else []) ≤ input_limit → (reads ≡ false → SpeaksOfNoInput status)
+    → (status ≡ TooLong → input_limit < length input) → status ≡ TooLong → ⊥
+fits true input status few silent long is = over-limit true input refl (long is) few
+fits false input status few silent long is = subst SpeaksOfNoInput is (silent refl)
 
 -- a count that stands at 0 did not rise
 pub none-rose : FaultsRose 0 0 → ⊥

@@ -1,18 +1,17 @@
 -- The words of each form are UTF-8.
-use Rattle.std.proofs.Common.{◌≡◌, ◌^◌, ◌<◌, ◌≤◌, ℕ, List, [], ◌∷◌, All, Contains, codes, String, get_or, string_bytes, true, nat_lt, refl, sym, subst, arith, IsUtf8, decimal}
-use Rattle.std.specs.Global.{Global}
+use Rattle.std.proofs.Common.{◌≡◌, ◌^◌, ◌<◌, ◌≤◌, ℕ, List, [], ◌∷◌, All, Contains, codes, true, nat_lt, refl, subst, arith, IsUtf8, decimal}
 use Rattle.std.specs.List.{list_all}
 use Rattle.std.proofs.lemmas.Bool.Decides.{nat_tests}
 use Rattle.std.proofs.lemmas.Fmt.{IsAscii-decimal}
-use Rattle.std.proofs.lemmas.List.Elements.{All-contains, All-cons, All-map, All-nil, All-weaker}
+use Rattle.std.proofs.lemmas.List.Elements.{All-contains, All-cons, All-nil, All-weaker}
 use Rattle.std.proofs.lemmas.List.Sums.{AllPass-from_list_all}
-use Rattle.std.proofs.lemmas.Str.{IsUtf8-from_ascii, IsUtf8-string_bytes}
+use Rattle.std.proofs.lemmas.Str.{IsUtf8-from_ascii}
 use Rattle.std.proofs.lemmas.Str.Ascii.{IsAscii-from_all}
 use Rattle.gen2_library.specs.Called.{HasUnreadableWord}
 use Rattle.line_objects.specs.declared.rows.LineSet.TheVariants as sets
 use Rattle.report_lines.specs.declared.mode.Mode.TheVariants.{Plain, Trace, Json, Exchanges, Vcd}
 use Rattle.text_fields.specs.Lines.{fields_of}
-use Rattle.top_call.specs.Form.{AskFor, IsForm, texts, words_of}
+use Rattle.top_call.specs.Form.{AskFor, IsForm, words_of}
 use Rattle.top_call.specs.declared.forms.Form.{Form}
 use Rattle.top_call.specs.declared.forms.Form.TheVariants.{Decode, Encode, Run, Upgrade, Portals, Names, Probe, Audit, Objects, Gen, Help, Version}
 
@@ -62,11 +61,10 @@ words-readable (Gen seed tags) is =
     (All-cons IsUtf8 (decimal seed) (decimal tags ∷ []) (decimal-readable seed is.0)
     (one-readable (decimal tags) (decimal-readable tags (omega (arith, is.1)))))
 
--- so none of them is unreadable, nor is a word that was read
+-- so none of them is unreadable, nor is one of words that are
 pub readable : (form : Form) (text : List ℕ) → AskFor (fields_of text) form → HasUnreadableWord text → ⊥
 readable form text asks has =
     has.2 (All-contains IsUtf8 (words_of form) has.0 (words-readable form asks.legal) (subst (λ words. Contains words has.0) asks.spelled has.1))
 
-pub read : (words : List (String Global)) (text : List ℕ) → texts words ≡ fields_of text → HasUnreadableWord text → ⊥
-read words text same has =
-    has.2 (All-contains IsUtf8 (texts words) has.0 (All-map IsUtf8 string_bytes words (λ k d lt. IsUtf8-string_bytes (get_or words k d))) (subst (λ all. Contains all has.0) (sym same) has.1))
+pub read : (text : List ℕ) → All IsUtf8 (fields_of text) → HasUnreadableWord text → ⊥
+read text all has = has.2 (All-contains IsUtf8 (fields_of text) has.0 all has.1)

@@ -1,5 +1,5 @@
 //! The program over memory: an input that is there, and room for its output.
-ghost use Rattle.std.specs.Prelude.{◌≡◌, ◌≢◌, ◌⊎◌, ℕ, ◌≤◌, ◌<◌, true, false, List, [], length};
+ghost use Rattle.std.specs.Prelude.{◌≡◌, ◌≢◌, ◌↔◌, ◌⊎◌, ℕ, ◌≤◌, ◌<◌, true, false, List, [], length, IsTrue};
 ghost use Rattle.gen2_library.specs.Called.{input_of, IsFront};
 ghost use Rattle.report_lines.specs.declared.mode.Mode.{Mode};
 ghost use Rattle.top_call.specs.Form.{texts, AskFor, HasForm};
@@ -14,7 +14,17 @@ ghost use Rattle.top_call.specs.words.Reported.{SaysHeadline, SaysInventory};
 use crate::room::Room;
 use air_io::SureSource;
 use std::alloc::Global;
-use top_call::{Status, gen2run, grammatical_inputs_are_not_refused, inputs_have_one_text};
+use top_call::{
+    Form, MOST_INPUT_BYTES, Status, gen2run, grammatical_inputs_are_not_refused,
+    inputs_have_one_text, reads_input,
+};
+
+/// Whether an input is longer than the limit, where the words of the form read one.
+pub fn is_too_long(form: Form, input: &[u8]) -> bool
+    ensures { IsTrue result ↔ (((job_of form).input ≡ true) × (input_limit < length input.now)) }
+{
+    reads_input(form) && input.len() > MOST_INPUT_BYTES as usize
+}
 
 /// Does what the words ask for with this input, over a sink that has nothing yet.
 pub fn run_over(alloc: Global, words: &[String], input: Vec<u8>, sink: &mut Room) -> Status
@@ -40,23 +50,19 @@ pub fn run_over(alloc: Global, words: &[String], input: Vec<u8>, sink: &mut Room
         → IsFront (Defines (job_of form) (input_of (job_of form) input.items)) sink.new.written }
     ensures out_of_memory { (form : Form) → AskFor (texts words.now) form → result ≡ Status.OutOfMemory
         → (sink.new.written ≡ []) ⊎ IsFront (Defines (job_of form) (input_of (job_of form) input.items)) sink.new.written }
-    // Words without a form are told as such.
-    ensures formless { (HasForm (texts words.now) → ⊥) → result ≡ Status.BadWords }
     // No read fails, and a form without an input has no status that speaks of one.
     ensures no_read_fault { result ≢ Status.ReadFault }
     ensures unread { (form : Form) → AskFor (texts words.now) form → (job_of form).input ≡ false → SpeaksOfNoInput result }
-    ensures complete { (form : Form) → AskFor (texts words.now) form → length input.items ≤ input_limit
+    ensures complete { (form : Form) → AskFor (texts words.now) form → length (input_of (job_of form) input.items) ≤ input_limit
         → (job_of form).allows (input_of (job_of form) input.items)
         → (result ≡ Status.Done) ⊎ (result ≡ Status.WriteFault) ⊎ (result ≡ Status.OutOfMemory) }
-    ensures refused { (form : Form) → AskFor (texts words.now) form → length input.items ≤ input_limit
+    ensures refused { (form : Form) → AskFor (texts words.now) form → length (input_of (job_of form) input.items) ≤ input_limit
         → (text : List ℕ) → (job_of form).refuses (input_of (job_of form) input.items) text
         → (result ≡ Status.BadInput) ⊎ (result ≡ Status.WriteFault) ⊎ (result ≡ Status.OutOfMemory) }
     // An input within the limit has one defined text, which was written whole, unless a write failed or memory ran out.
-    ensures whole { (form : Form) → AskFor (texts words.now) form → length input.items ≤ input_limit
+    ensures whole { (form : Form) → AskFor (texts words.now) form → length (input_of (job_of form) input.items) ≤ input_limit
         → (text : List ℕ) → Defines (job_of form) (input_of (job_of form) input.items) text
         → (sink.new.written ≡ text) ⊎ (result ≡ Status.WriteFault) ⊎ (result ≡ Status.OutOfMemory) }
-    ensures passes_limit { (form : Form) → AskFor (texts words.now) form → (job_of form).input ≡ true
-        → input_limit < length input.items → ((result ≡ Status.TooLong) ⊎ (result ≡ Status.OutOfMemory)) × (sink.new.written ≡ []) }
 {
     // By these laws an input has one defined text at most, and one that the grammar allows has no fault line.
     grammatical_inputs_are_not_refused();

@@ -20,12 +20,12 @@ mod call;
 mod room;
 mod words;
 
-use call::run_over;
+use call::{is_too_long, run_over};
 use program_texts::version_number;
 use room::Room;
 use std::alloc::Global;
 use top_call::Status;
-use words::{WordsFault, words_of};
+use words::{form_in, has_unreadable_word, words_of};
 
 /// The status where a word isn't UTF-8.
 const UNREADABLE_WORDS: u32 = 8;
@@ -56,48 +56,57 @@ pub extern "C" fn gen2run_over_memory(
         → Gives (CountsEveryTag seed tags) output.new written.new) }
     // 2: the words have no form, and nothing was written.
     ensures bad_words { result ≡ 2 → (HasForm (fields_of words.now) → ⊥) × (written.new ≡ 0) }
-    // Words without a form are told as such, unless one can't be read or memory runs out; nothing is written in any case.
-    ensures formless { (HasForm (fields_of words.now) → ⊥) → ((result ≡ 2) ⊎ (result ≡ 7) ⊎ (result ≡ 8)) × (written.new ≡ 0) }
+    // Words without a form are told as such, unless one can't be read; nothing is written in any case.
+    ensures formless { (HasForm (fields_of words.now) → ⊥) → ((result ≡ 2) ⊎ (result ≡ 8)) × (written.new ≡ 0) }
     // Under a form without an input, as `gen` is, no status comes that speaks of an input.
     ensures unread { (form : Form) → AskFor (fields_of words.now) form → (job_of form).input ≡ false → (result ≢ 3) × (result ≢ 6) }
     // 3: the fault line of the input was written whole.
     ensures bad_input { (form : Form) → AskFor (fields_of words.now) form → result ≡ 3
         → Gives ((job_of form).refuses (input_of (job_of form) input.now)) output.new written.new }
-    // 5: the output is full, and the defined text goes on. It or 7 comes wherever the defined text is longer than the output.
+    // 5: the output is full, and the defined text goes on. It or 7 comes wherever the defined text of an input within the limit is
+    // longer than the output.
     ensures no_room { (form : Form) → AskFor (fields_of words.now) form → result ≡ 5
         → Overflows (Defines (job_of form) (input_of (job_of form) input.now)) output.new written.new }
-    ensures longer { (form : Form) → AskFor (fields_of words.now) form → length input.now ≤ input_limit
+    ensures longer { (form : Form) → AskFor (fields_of words.now) form → length (input_of (job_of form) input.now) ≤ input_limit
         → (text : List ℕ) → Defines (job_of form) (input_of (job_of form) input.now) text
         → length output.old < length text → (result ≡ 5) ⊎ (result ≡ 7) }
     // 6: the input is longer than the limit, and nothing was written.
     ensures too_long { result ≡ 6 → (input_limit < length input.now) × (written.new ≡ 0) }
-    // 7: memory ran out, and a front of the defined text was written, maybe none of it. This is the one answer that is free: no
-    // clause ties it to a request of memory that failed.
+    // 7: memory ran out, and a front of the defined text was written, maybe none of it. It comes only where the words have a form
+    // and the input is not too long for it. This is the one answer that is free: no clause ties it to a request of memory that failed.
     ensures out_of_memory { (form : Form) → AskFor (fields_of words.now) form → result ≡ 7
         → (written.new ≡ 0) ⊎ GivesFront (Defines (job_of form) (input_of (job_of form) input.now)) output.new written.new }
-    // 8: a word isn't UTF-8. Such words are told as such, unless memory runs out; nothing is written in any case.
+    // 8: exactly where a word isn't UTF-8, and nothing is written.
     ensures unreadable { result ≡ 8 → HasUnreadableWord words.now × (written.new ≡ 0) }
-    ensures unread_words { HasUnreadableWord words.now → ((result ≡ 8) ⊎ (result ≡ 7)) × (written.new ≡ 0) }
+    ensures unread_words { HasUnreadableWord words.now → (result ≡ 8) × (written.new ≡ 0) }
     // No other status comes, and no read fails.
     ensures statuses { (result ≤ 8) × (result ≢ 1) × (result ≢ 4) }
     // Input within the limit that the form's grammar allows gives the whole text, unless there is no room or no memory.
-    ensures complete { (form : Form) → AskFor (fields_of words.now) form → length input.now ≤ input_limit
+    ensures complete { (form : Form) → AskFor (fields_of words.now) form → length (input_of (job_of form) input.now) ≤ input_limit
         → (job_of form).allows (input_of (job_of form) input.now) → (result ≡ 0) ⊎ (result ≡ 5) ⊎ (result ≡ 7) }
     // Input within the limit that it refuses gives the whole fault line, under the same condition.
-    ensures refused { (form : Form) → AskFor (fields_of words.now) form → length input.now ≤ input_limit
+    ensures refused { (form : Form) → AskFor (fields_of words.now) form → length (input_of (job_of form) input.now) ≤ input_limit
         → (text : List ℕ) → (job_of form).refuses (input_of (job_of form) input.now) text
         → (result ≡ 3) ⊎ (result ≡ 5) ⊎ (result ≡ 7) }
-    // Input over the limit is told as such, unless there is no memory; nothing is written in any case.
+    // Input over the limit is told as such, and nothing is written.
     ensures passes_limit { (form : Form) → AskFor (fields_of words.now) form → (job_of form).input ≡ true
-        → input_limit < length input.now → ((result ≡ 6) ⊎ (result ≡ 7)) × (written.new ≡ 0) }
+        → input_limit < length input.now → (result ≡ 6) × (written.new ≡ 0) }
     // What stands behind that in the output stays.
     ensures behind { drop written.new output.new ≡ drop written.new output.old }
 {
     *written = 0;
-    let words = match words_of(alloc, words) {
-        Ok(words) => words,
-        Err(WordsFault::Unreadable) => return UNREADABLE_WORDS,
-        Err(WordsFault::OutOfMemory) => return u32::from(Status::OutOfMemory.number()),
+    // Memory is taken only where the words have a form, and the input is not too long for it.
+    if has_unreadable_word(words) {
+        return UNREADABLE_WORDS;
+    }
+    let Some(form) = form_in(words) else {
+        return u32::from(Status::BadWords.number());
+    };
+    if is_too_long(form, input) {
+        return u32::from(Status::TooLong.number());
+    }
+    let Ok(words) = words_of(alloc, words) else {
+        return u32::from(Status::OutOfMemory.number());
     };
     let Ok(bytes) = Vec::from_slice(alloc, input) else {
         return u32::from(Status::OutOfMemory.number());

@@ -1,28 +1,46 @@
 //! The words of a call: one text, with a space between two of them.
-ghost use Rattle.std.specs.Prelude.{◌≡◌, [], ◌∷◌, ◌++◌, IfOk, OnOk, IsErrOf};
+ghost use Rattle.std.specs.Prelude.{◌≡◌, [], ◌∷◌, ◌++◌, All, IfOk, IfSome, IsFalse, IsTrue, OnOk, Some};
+ghost use Rattle.std.specs.Str.{IsUtf8};
 ghost use Rattle.gen2_library.specs.Called.{HasUnreadableWord};
-ghost use Rattle.gen2_library.specs.declared.words.WordsFault.{WordsFault};
 ghost use Rattle.text_fields.specs.Lines.{fields_of};
-ghost use Rattle.top_call.specs.Form.{texts};
+ghost use Rattle.top_call.specs.Form.{texts, AskFor};
+ghost use Rattle.top_call.specs.declared.forms.Form.{Form};
 
 use std::alloc::{AllocError, Global};
 use std::str;
 use text_fields::Fields;
+use top_call::{Form, form_of_one, form_of_three, form_of_two};
 
-/// Why a text gives no words.
-#[derive(Clone, Copy, Debug, PartialEq, Eq)]
-pub enum WordsFault {
-    /// One of them isn't UTF-8.
-    Unreadable,
-    /// There is no memory for them.
-    OutOfMemory,
+/// Whether a word of a text isn't UTF-8.
+pub fn has_unreadable_word(text: &[u8]) -> bool
+    ensures one { IsTrue result → HasUnreadableWord text.now }
+    ensures none { IsFalse result → All IsUtf8 (fields_of text.now) }
+{
+    let mut fields = Fields::new(text);
+    while let Some(field) = fields.next() {
+        let Ok(_) = str::from_utf8(field) else {
+            return true;
+        };
+    }
+    false
 }
 
-impl From<AllocError> for WordsFault {
-    ghost from_gives = { λ _ fault. fault ≡ WordsFault.OutOfMemory };
-
-    fn from(_error: AllocError) -> WordsFault {
-        WordsFault::OutOfMemory
+/// The form of the words of a text; none exactly where they are the spelling of no form. It takes no memory.
+pub fn form_in(text: &[u8]) -> Option<Form>
+    ensures found { IfSome result (AskFor (fields_of text.now)) }
+    ensures only { (form : Form) → AskFor (fields_of text.now) form → result ≡ Some form }
+{
+    let mut fields = Fields::new(text);
+    let word = fields.next()?;
+    let Some(behind) = fields.next() else {
+        return form_of_one(word);
+    };
+    let Some(last) = fields.next() else {
+        return form_of_two(word, behind);
+    };
+    match fields.next() {
+        Some(_) => None,
+        None => form_of_three(word, behind, last),
     }
 }
 
@@ -34,22 +52,22 @@ fn add(alloc: Global, words: &mut Vec<String>, word: &str) -> Result<(), AllocEr
     Ok(())
 }
 
-/// The words of a text.
+/// The words of a text, each of which is UTF-8.
 ///
 /// # Errors
 ///
-/// One of them isn't UTF-8, or there is no memory for them.
-pub fn words_of(alloc: Global, text: &[u8]) -> Result<Vec<String>, WordsFault>
-    ensures ok { IfOk result (λ words. texts words.items ≡ fields_of text.now) }
-    ensures unreadable { IsErrOf result WordsFault.Unreadable → HasUnreadableWord text.now }
+/// There is no memory for them.
+pub fn words_of(alloc: Global, text: &[u8]) -> Result<Vec<String>, AllocError>
+    requires { All IsUtf8 (fields_of text.now) }
+    ensures { IfOk result (λ words. texts words.items ≡ fields_of text.now) }
 {
     let mut words = Vec::new(alloc);
     let mut fields = Fields::new(text);
     while let Some(field) = fields.next() {
-        let Ok(word) = str::from_utf8(field) else {
-            return Err(WordsFault::Unreadable);
-        };
-        add(alloc, &mut words, word)?;
+        match str::from_utf8(field) {
+            Ok(word) => add(alloc, &mut words, word)?,
+            Err(_) => unreachable!(),
+        }
     }
     Ok(words)
 }

@@ -15,3 +15,4 @@ pub use laws::{fields_are_told, texts_have_objects};
 pub use objects::objects_of;
 pub use plain_text::PlainText;
 pub use rows::LineSet;
+pub use values::spelled_number;

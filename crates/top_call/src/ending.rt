@@ -8,7 +8,7 @@ use air_world::PlayFault;
 use std::alloc::AllocError;
 
 /// How many bytes of input are read at most.
-pub(crate) const MOST_INPUT_BYTES: u32 = 16_777_216;
+pub const MOST_INPUT_BYTES: u32 = 16_777_216;
 
 /// What was written whole.
 #[derive(Clone, Copy)]

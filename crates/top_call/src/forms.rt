@@ -1,13 +1,13 @@
 //! What the words of the command line ask for.
-ghost use Rattle.std.specs.Prelude.{◌≡◌, ◌↔◌, ◌≤◌, ◌<◌, ◌^◌, ℕ, [], ◌∷◌, codes, IsTrue, IfSome, Some};
+ghost use Rattle.std.specs.Prelude.{◌≡◌, ◌↔◌, ◌≤◌, ◌<◌, ◌^◌, ℕ, [], ◌∷◌, codes, IfSome, IsTrue, Some};
 ghost use Rattle.std.specs.Fmt.{decimal};
 ghost use Rattle.top_call.specs.declared.forms.Form.{Form};
 ghost use Rattle.top_call.specs.Form.{texts, AskFor};
+ghost use Rattle.top_call.specs.Jobs.{job_of};
 ghost use Rattle.made_scenario.specs.Made.{most_made_tags};
 
 use air_world::Mode;
-use itoa::Buffer;
-use line_objects::LineSet;
+use line_objects::{LineSet, spelled_number};
 use made_scenario::MOST_MADE_TAGS;
 use text_fields::number;
 
@@ -46,46 +46,115 @@ pub enum Form {
     },
 }
 
-/// Whether a word is the name.
-fn is_word(word: &str, name: &str) -> bool
-    ensures { IsTrue result ↔ (word.now ≡ name.now) }
-{
-    word == name
-}
-
-/// Whether three words are `run exchanges json`.
-fn are_exchange_objects(word: &str, mode: &str, form: &str) -> bool
-    ensures { IsTrue result ↔ (word.now ∷ mode.now ∷ form.now ∷ [] ≡ codes "run" ∷ codes "exchanges" ∷ codes "json" ∷ []) }
-{
-    is_word(word, "run") && is_word(mode, "exchanges") && is_word(form, "json")
-}
-
-/// The seed that a word spells in decimal digits, without a sign and without leading zeros; none exactly
-/// where it spells no number of 64 bits.
-fn seed_of(word: &str) -> Option<u64>
-    ensures value { IfSome result (λ seed. (word.now ≡ decimal seed) × (seed < 2 ^ 64)) }
-    ensures only { (seed : ℕ) → seed < 2 ^ 64 → word.now ≡ decimal seed → result ≡ Some seed }
-{
-    let seed = word.parse::<u64>().ok()?;
-    let mut digits = Buffer::new();
-    // std reads a plus and leading zeros as well.
-    if is_word(digits.format(seed), word) {
-        Some(seed)
-    } else {
-        None
-    }
-}
-
 /// The form of a seed and a number of tags.
-fn made_form(seed: &str, tags: &str) -> Option<Form>
+fn made_form(seed: &[u8], tags: &[u8]) -> Option<Form>
     ensures found { IfSome result (AskFor (codes "gen" ∷ seed.now ∷ tags.now ∷ [])) }
     ensures only { (number count : ℕ) → number < 2 ^ 64 → count ≤ most_made_tags → seed.now ≡ decimal number → tags.now ≡ decimal count
         → result ≡ Some (Form.Gen number count) }
 {
     Some(Form::Gen {
-        seed: seed_of(seed)?,
-        tags: number(tags.as_bytes(), MOST_MADE_TAGS)?,
+        seed: spelled_number(seed)?,
+        tags: number(tags, MOST_MADE_TAGS)?,
     })
+}
+
+/// Whether a word is the name.
+fn is_word(word: &[u8], name: &str) -> bool
+    ensures { IsTrue result ↔ (word.now ≡ name.now) }
+{
+    word == name.as_bytes()
+}
+
+/// The form of one word. None comes exactly where it is the spelling of no form.
+pub fn form_of_one(word: &[u8]) -> Option<Form>
+    ensures found { IfSome result (AskFor (word.now ∷ [])) }
+    ensures only { (form : Form) → AskFor (word.now ∷ []) form → result ≡ Some form }
+{
+    if is_word(word, "decode") {
+        return Some(Form::Decode);
+    }
+    if is_word(word, "encode") {
+        return Some(Form::Encode);
+    }
+    if is_word(word, "run") {
+        return Some(Form::Run(Mode::Plain));
+    }
+    if is_word(word, "upgrade") {
+        return Some(Form::Upgrade);
+    }
+    if is_word(word, "portals") {
+        return Some(Form::Portals);
+    }
+    if is_word(word, "names") {
+        return Some(Form::Names);
+    }
+    if is_word(word, "probe") {
+        return Some(Form::Probe);
+    }
+    if is_word(word, "audit") {
+        return Some(Form::Audit);
+    }
+    if is_word(word, "--help") {
+        return Some(Form::Help);
+    }
+    if is_word(word, "--version") {
+        return Some(Form::Version);
+    }
+    None
+}
+
+/// Whether two words are these.
+fn are_words(word: &[u8], behind: &[u8], first: &str, second: &str) -> bool
+    ensures { IsTrue result ↔ ((word.now ≡ first.now) × (behind.now ≡ second.now)) }
+{
+    is_word(word, first) && is_word(behind, second)
+}
+
+/// The form of two words. None comes exactly where they are the spelling of no form.
+pub fn form_of_two(word: &[u8], behind: &[u8]) -> Option<Form>
+    ensures found { IfSome result (AskFor (word.now ∷ behind.now ∷ [])) }
+    ensures only { (form : Form) → AskFor (word.now ∷ behind.now ∷ []) form → result ≡ Some form }
+{
+    if are_words(word, behind, "run", "trace") {
+        return Some(Form::Run(Mode::Trace));
+    }
+    if are_words(word, behind, "run", "json") {
+        return Some(Form::Run(Mode::Json));
+    }
+    if are_words(word, behind, "run", "exchanges") {
+        return Some(Form::Run(Mode::Exchanges));
+    }
+    if are_words(word, behind, "run", "vcd") {
+        return Some(Form::Run(Mode::Vcd));
+    }
+    if are_words(word, behind, "decode", "json") {
+        return Some(Form::Objects(LineSet::Decode));
+    }
+    if are_words(word, behind, "probe", "json") {
+        return Some(Form::Objects(LineSet::Probe));
+    }
+    if are_words(word, behind, "audit", "json") {
+        return Some(Form::Objects(LineSet::Audit));
+    }
+    None
+}
+
+/// The form of three words. None comes exactly where they are the spelling of no form.
+pub fn form_of_three(word: &[u8], behind: &[u8], last: &[u8]) -> Option<Form>
+    ensures found { IfSome result (AskFor (word.now ∷ behind.now ∷ last.now ∷ [])) }
+    ensures only { (form : Form) → AskFor (word.now ∷ behind.now ∷ last.now ∷ []) form → result ≡ Some form }
+{
+    if are_words(word, behind, "run", "exchanges") {
+        return if is_word(last, "json") {
+            Some(Form::Objects(LineSet::Exchanges))
+        } else {
+            None
+        };
+    }
+    if is_word(word, "gen") {
+        return made_form(behind, last);
+    }
+    None
 }
 
 /// The form of the words. None comes exactly where they are the spelling of no form.
@@ -94,43 +163,19 @@ pub fn form_of(words: &[String]) -> Option<Form>
     ensures only { (form : Form) → AskFor (texts words.now) form → result ≡ Some form }
 {
     match words {
-        [word] if is_word(word.as_str(), "decode") => Some(Form::Decode),
-        [word] if is_word(word.as_str(), "encode") => Some(Form::Encode),
-        [word] if is_word(word.as_str(), "run") => Some(Form::Run(Mode::Plain)),
-        [word] if is_word(word.as_str(), "upgrade") => Some(Form::Upgrade),
-        [word] if is_word(word.as_str(), "portals") => Some(Form::Portals),
-        [word] if is_word(word.as_str(), "names") => Some(Form::Names),
-        [word] if is_word(word.as_str(), "probe") => Some(Form::Probe),
-        [word] if is_word(word.as_str(), "audit") => Some(Form::Audit),
-        [word] if is_word(word.as_str(), "--help") => Some(Form::Help),
-        [word] if is_word(word.as_str(), "--version") => Some(Form::Version),
-        [word, mode] if is_word(word.as_str(), "run") && is_word(mode.as_str(), "trace") => {
-            Some(Form::Run(Mode::Trace))
-        }
-        [word, mode] if is_word(word.as_str(), "run") && is_word(mode.as_str(), "json") => {
-            Some(Form::Run(Mode::Json))
-        }
-        [word, mode] if is_word(word.as_str(), "run") && is_word(mode.as_str(), "exchanges") => {
-            Some(Form::Run(Mode::Exchanges))
-        }
-        [word, mode] if is_word(word.as_str(), "run") && is_word(mode.as_str(), "vcd") => {
-            Some(Form::Run(Mode::Vcd))
-        }
-        [word, form] if is_word(word.as_str(), "decode") && is_word(form.as_str(), "json") => {
-            Some(Form::Objects(LineSet::Decode))
-        }
-        [word, form] if is_word(word.as_str(), "probe") && is_word(form.as_str(), "json") => {
-            Some(Form::Objects(LineSet::Probe))
-        }
-        [word, form] if is_word(word.as_str(), "audit") && is_word(form.as_str(), "json") => {
-            Some(Form::Objects(LineSet::Audit))
-        }
-        [word, mode, form] if are_exchange_objects(word.as_str(), mode.as_str(), form.as_str()) => {
-            Some(Form::Objects(LineSet::Exchanges))
-        }
-        [word, seed, tags] if is_word(word.as_str(), "gen") => {
-            made_form(seed.as_str(), tags.as_str())
-        }
+        [word] => form_of_one(word.as_bytes()),
+        [word, behind] => form_of_two(word.as_bytes(), behind.as_bytes()),
+        [word, behind, last] => form_of_three(word.as_bytes(), behind.as_bytes(), last.as_bytes()),
         _ => None,
+    }
+}
+
+/// Whether the words of a form read an input.
+pub fn reads_input(form: Form) -> bool
+    ensures { result ≡ (job_of form).input }
+{
+    match form {
+        Form::Gen { .. } | Form::Help | Form::Version => false,
+        _ => true,
     }
 }

@@ -8,7 +8,8 @@ mod program;
 mod status;
 mod words;
 
-pub use forms::{Form, form_of};
+pub use ending::MOST_INPUT_BYTES;
+pub use forms::{Form, form_of, form_of_one, form_of_three, form_of_two, reads_input};
 pub use laws::{
     forms_are_told_apart, grammatical_inputs_are_not_refused, inputs_have_one_text, jobs_are_lawful,
 };

@@ -1,5 +1,6 @@
-use Rattle.std.proofs.Common.{◌≡◌, ◌≢◌, ◌⊎◌, ◌≤◌, ◌<◌, length, sym, ◌∙◌, ap, subst, inl, inr, arith}
-use Rattle.gen2_library.proofs.InRoom.{Call, Leaves, Says, kept, whole, no-room, no-memory, no-count, empty-kept, ends-so, longer-ends, behind, status-is, number-below, number-not-1}
+use Rattle.std.proofs.Common.{◌≡◌, ◌⊎◌, ◌≤◌, ◌<◌, ℕ, List, Option, Some, true, length, sym, ◌∙◌, ap, subst, inl, inr, arith}
+use Rattle.gen2_library.proofs.InRoom.{Call, Leaves, Says, kept, whole, no-room, no-memory, no-count, ends-so, longer-ends, behind, status-is, number-below, number-not-1}
+use Rattle.gen2_library.proofs.Over.{over-limit}
 use Rattle.gen2_library.proofs.Readable.{readable, read}
 use Rattle.gen2_library.specs.Called.{input_of}
 use Rattle.text_fields.specs.Lines.{fields_of}
@@ -44,7 +45,7 @@ numbered c status is = c.from-2.ensures ∙ c.number-2.ensures ∙ ap status_num
 
 -- the program has the words of the text, and the input
 same-words : (c : goal.After-drop-words-2) → texts c.deref.result.now ≡ fields_of c.args.words.now
-same-words c = let lent = c.deref.ensures.value in let read = c.in-Ok.ensures.ok in cc
+same-words c = let lent = c.deref.ensures.value in let read = c.in-Ok.ensures in cc
 
 asked : (c : goal.After-drop-words-2) (form : Form) → AskFor (fields_of c.args.words.now) form → AskFor (texts c.deref.result.now) form
 asked c form asks = subst (λ words. AskFor words form) (sym (same-words c)) asks
@@ -97,10 +98,7 @@ returns-clause-bad_words c is =
     (λ has. says.0 (has.0, asked c has.0 has.1), no-count (call_of c) (leaves c) says.1)
 
 pub returns-clause-formless : goal.returns-clause-formless
-returns-clause-formless c none =
-    let bad : c.run_over-status.result ≡ BadWords = c.run_over-status.ensures.formless (λ has. none (has.0, subst (λ words. AskFor words has.0) (same-words c) has.1)) in
-    let none-written = (c.run_over-status.ensures.bad_words bad).1 in
-    (inl (numbered c BadWords (empty-kept (call_of c) (leaves c) none-written BadWords bad (λ is. cc))), no-count (call_of c) (leaves c) none-written)
+returns-clause-formless c none = absurd (none (c.in-Some.form, c.in-Some.ensures.found))
 
 pub returns-clause-unread : goal.returns-clause-unread
 returns-clause-unread c form asks none =
@@ -133,19 +131,56 @@ returns-clause-unreadable c is =
     absurd (omega (arith, is, c.from-2.ensures, c.number-2.ensures, number-below c.status_behind.result))
 
 pub returns-clause-unread_words : goal.returns-clause-unread_words
-returns-clause-unread_words c has = absurd (read c.in-Ok.words.items c.args.words.now c.in-Ok.ensures.ok has)
+returns-clause-unread_words c has = absurd (read c.args.words.now (c.has_unreadable_word.ensures.none c.if-has_unreadable_word.false) has)
 
-pub returns-in-Err-Unreadable-clause-complete : goal.returns-in-Err-Unreadable-clause-complete
-returns-in-Err-Unreadable-clause-complete c form asks few allowed = absurd (readable form c.args.words.now asks (c.words_of.ensures.unreadable cc))
+-- nor does one that has a form, or for which there is no memory, have an unreadable word
+pub returns-in_default-clause-unread_words : goal.returns-in_default-clause-unread_words
+returns-in_default-clause-unread_words c has = absurd (read c.args.words.now (c.has_unreadable_word.ensures.none c.if-has_unreadable_word.false) has)
 
-pub returns-in-Err-Unreadable-clause-refused : goal.returns-in-Err-Unreadable-clause-refused
-returns-in-Err-Unreadable-clause-refused c form asks few text refused = absurd (readable form c.args.words.now asks (c.words_of.ensures.unreadable cc))
+pub returns-then-is_too_long-clause-unread_words : goal.returns-then-is_too_long-clause-unread_words
+returns-then-is_too_long-clause-unread_words c has = absurd (read c.args.words.now (c.has_unreadable_word.ensures.none c.if-has_unreadable_word.false) has)
 
-pub returns-in-Err-Unreadable-clause-longer : goal.returns-in-Err-Unreadable-clause-longer
-returns-in-Err-Unreadable-clause-longer c form asks few text defined many = absurd (readable form c.args.words.now asks (c.words_of.ensures.unreadable cc))
+pub returns-in_default-words_of-clause-unread_words : goal.returns-in_default-words_of-clause-unread_words
+returns-in_default-words_of-clause-unread_words c has = absurd (read c.args.words.now (c.has_unreadable_word.ensures.none c.if-has_unreadable_word.false) has)
 
-pub returns-in-Err-Unreadable-clause-passes_limit : goal.returns-in-Err-Unreadable-clause-passes_limit
-returns-in-Err-Unreadable-clause-passes_limit c form asks reads many = absurd (readable form c.args.words.now asks (c.words_of.ensures.unreadable cc))
+pub returns-in_default-from_slice-clause-unread_words : goal.returns-in_default-from_slice-clause-unread_words
+returns-in_default-from_slice-clause-unread_words c has = absurd (read c.args.words.now (c.has_unreadable_word.ensures.none c.if-has_unreadable_word.false) has)
+
+-- what is read of an input is not within the limit where it was told to be too long
+not-within : (result : Option Form) (told form : Form) (input : List ℕ) → result ≡ Some told → result ≡ Some form → ((job_of told).input ≡ true) × (input_limit < length input)
+    → length (input_of (job_of form) input) ≤ input_limit → ⊥
+not-within result told form input is found long few =
+    let same : told ≡ form = cc in
+    over-limit (job_of form).input input (subst (λ (other : Form). (job_of other).input ≡ true) same long.0) long.1 few
+
+pub returns-then-is_too_long-clause-complete : goal.returns-then-is_too_long-clause-complete
+returns-then-is_too_long-clause-complete c form asks few allowed =
+    absurd (not-within c.form_in.result c.in-Some.form form c.args.input.now c.in-Some.is (c.form_in.ensures.only form asks) (c.is_too_long.ensures.0 c.if-is_too_long.true) few)
+
+pub returns-then-is_too_long-clause-refused : goal.returns-then-is_too_long-clause-refused
+returns-then-is_too_long-clause-refused c form asks few text refused =
+    absurd (not-within c.form_in.result c.in-Some.form form c.args.input.now c.in-Some.is (c.form_in.ensures.only form asks) (c.is_too_long.ensures.0 c.if-is_too_long.true) few)
+
+pub returns-then-is_too_long-clause-longer : goal.returns-then-is_too_long-clause-longer
+returns-then-is_too_long-clause-longer c form asks few text defined many =
+    absurd (not-within c.form_in.result c.in-Some.form form c.args.input.now c.in-Some.is (c.form_in.ensures.only form asks) (c.is_too_long.ensures.0 c.if-is_too_long.true) few)
+
+-- words of a form are readable
+pub returns-then-has_unreadable_word-clause-complete : goal.returns-then-has_unreadable_word-clause-complete
+returns-then-has_unreadable_word-clause-complete c form asks few allowed =
+    absurd (readable form c.args.words.now asks (c.has_unreadable_word.ensures.one c.if-has_unreadable_word.true))
+
+pub returns-then-has_unreadable_word-clause-refused : goal.returns-then-has_unreadable_word-clause-refused
+returns-then-has_unreadable_word-clause-refused c form asks few text refused =
+    absurd (readable form c.args.words.now asks (c.has_unreadable_word.ensures.one c.if-has_unreadable_word.true))
+
+pub returns-then-has_unreadable_word-clause-longer : goal.returns-then-has_unreadable_word-clause-longer
+returns-then-has_unreadable_word-clause-longer c form asks few text defined many =
+    absurd (readable form c.args.words.now asks (c.has_unreadable_word.ensures.one c.if-has_unreadable_word.true))
+
+pub returns-then-has_unreadable_word-clause-passes_limit : goal.returns-then-has_unreadable_word-clause-passes_limit
+returns-then-has_unreadable_word-clause-passes_limit c form asks reads many =
+    absurd (readable form c.args.words.now asks (c.has_unreadable_word.ensures.one c.if-has_unreadable_word.true))
 
 pub returns-clause-statuses : goal.returns-clause-statuses
 returns-clause-statuses c = (
@@ -168,35 +203,34 @@ pub returns-clause-complete : goal.returns-clause-complete
 returns-clause-complete c form asks few allowed =
     answers c Done (ends-so (call_of c) (leaves c) Done
     (c.run_over-status.ensures.complete form (asked c form asks)
-    (subst (λ input. length input ≤ input_limit) (sym (same-input c)) few)
+    (subst (λ input. length (input_of (job_of form) input) ≤ input_limit) (sym (same-input c)) few)
     (subst (λ input. (job_of form).allows (input_of (job_of form) input)) (sym (same-input c)) allowed)))
 
 pub returns-clause-refused : goal.returns-clause-refused
 returns-clause-refused c form asks few text refused =
     answers c BadInput (ends-so (call_of c) (leaves c) BadInput
     (c.run_over-status.ensures.refused form (asked c form asks)
-    (subst (λ input. length input ≤ input_limit) (sym (same-input c)) few) text
+    (subst (λ input. length (input_of (job_of form) input) ≤ input_limit) (sym (same-input c)) few) text
     (subst (λ input. (job_of form).refuses (input_of (job_of form) input) text) (sym (same-input c)) refused)))
 
 pub returns-clause-longer : goal.returns-clause-longer
 returns-clause-longer c form asks few text defined many =
     elim (longer-ends (call_of c) (leaves c) text many
     (c.run_over-status.ensures.whole form (asked c form asks)
-    (subst (λ input. length input ≤ input_limit) (sym (same-input c)) few) text
+    (subst (λ input. length (input_of (job_of form) input) ≤ input_limit) (sym (same-input c)) few) text
     (subst (λ input. Defines (job_of form) (input_of (job_of form) input) text) (sym (same-input c)) defined))) [
       | inl is ↦ inl (numbered c WriteFault is)
       | inr is ↦ inr (numbered c OutOfMemory is)
     ]
 
+-- an input that is too long was told before
 pub returns-clause-passes_limit : goal.returns-clause-passes_limit
 returns-clause-passes_limit c form asks reads many =
-    let over = c.run_over-status.ensures.passes_limit form (asked c form asks) reads (subst (λ input. input_limit < length input) (sym (same-input c)) many) in (
-      elim over.0 [
-        | inl long ↦ inl (numbered c TooLong (empty-kept (call_of c) (leaves c) over.1 TooLong long (λ is. cc)))
-        | inr memory ↦ inr (numbered c OutOfMemory (empty-kept (call_of c) (leaves c) over.1 OutOfMemory memory (λ is. cc)))
-      ],
-      no-count (call_of c) (leaves c) over.1,
-    )
+    let found : c.form_in.result ≡ Some form = c.form_in.ensures.only form asks in
+    let same : c.in-Some.form ≡ form = let is = c.in-Some.is in cc in
+    let long = c.is_too_long.ensures.1 (subst (λ (other : Form). (job_of other).input ≡ true) (sym same) reads, many) in
+    let short = c.if-is_too_long.false in
+    absurd cc
 
 pub returns-clause-behind : goal.returns-clause-behind
 returns-clause-behind c = behind (call_of c) (leaves c)

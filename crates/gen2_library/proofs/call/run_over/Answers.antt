@@ -1,6 +1,5 @@
-use Rattle.std.proofs.Common.{◌≡◌, ◌⊎◌, ◌≤◌, ◌<◌, ℕ, List, Some, length, inl, inr, ap, arith, subst, sym}
-use Rattle.gen2_library.proofs.Over.{whole, front, too-long, not-taken, none-rose, completes, refuses, wrote-whole}
-use Rattle.top_call.specs.Outcome.{input_limit}
+use Rattle.std.proofs.Common.{inl, inr}
+use Rattle.gen2_library.proofs.Over.{whole, front, too-long, fits, none-rose, completes, refuses, wrote-whole}
 use Rattle.top_call.specs.Jobs.{job_of}
 use Rattle.top_call.specs.words.Generated.{CountsEveryTag, gen_job}
 use Rattle.top_call.specs.words.Reported.{SaysHeadline, SaysInventory, run_job}
@@ -46,7 +45,7 @@ returns-clause-complete c form asks few allowed =
     completes c.gen2run.result
     (λ words. c.gen2run.ensures.bad_words.0 words (form, asks))
     (λ failed. none-rose (c.gen2run.ensures.read_fault failed).0)
-    (λ many. let long = too-long _ _ _ c.new-source.ensures (c.gen2run.ensures.too_long many).0 in omega (arith, few, long))
+    (fits (job_of form).input _ c.gen2run.result few (λ none. (c.gen2run.ensures.unread form asks none).1) (λ many. too-long _ _ _ c.new-source.ensures (c.gen2run.ensures.too_long many).0))
     (λ bad. c.grammatical_inputs_are_not_refused.ensures form _ _ allowed
     (whole (job_of form) (job_of form).refuses _ _ _ _ _ (record { told_is = c.new-source.ensures; unwritten = c.requires }) (c.gen2run.ensures.bad_input form asks bad)))
 
@@ -55,7 +54,7 @@ returns-clause-refused c form asks few text refused =
     refuses c.gen2run.result
     (λ words. c.gen2run.ensures.bad_words.0 words (form, asks))
     (λ failed. none-rose (c.gen2run.ensures.read_fault failed).0)
-    (λ many. let long = too-long _ _ _ c.new-source.ensures (c.gen2run.ensures.too_long many).0 in omega (arith, few, long))
+    (fits (job_of form).input _ c.gen2run.result few (λ none. (c.gen2run.ensures.unread form asks none).1) (λ many. too-long _ _ _ c.new-source.ensures (c.gen2run.ensures.too_long many).0))
     (λ done. c.inputs_have_one_text.ensures.apart form _ _ text
     (whole (job_of form) (job_of form).writes _ _ _ _ _ (record { told_is = c.new-source.ensures; unwritten = c.requires }) (c.gen2run.ensures.done form asks done)) refused)
 
@@ -64,7 +63,7 @@ returns-clause-whole c form asks few text defined =
     wrote-whole c.gen2run.new.output.written text c.gen2run.result
     (λ words. c.gen2run.ensures.bad_words.0 words (form, asks))
     (λ failed. none-rose (c.gen2run.ensures.read_fault failed).0)
-    (λ many. let long = too-long _ _ _ c.new-source.ensures (c.gen2run.ensures.too_long many).0 in omega (arith, few, long))
+    (fits (job_of form).input _ c.gen2run.result few (λ none. (c.gen2run.ensures.unread form asks none).1) (λ many. too-long _ _ _ c.new-source.ensures (c.gen2run.ensures.too_long many).0))
     (λ done. c.inputs_have_one_text.ensures.one form _ _ text
     (inl (whole (job_of form) (job_of form).writes _ _ _ _ _ (record { told_is = c.new-source.ensures; unwritten = c.requires }) (c.gen2run.ensures.done form asks done))) defined)
     (λ bad. c.inputs_have_one_text.ensures.one form _ _ text
@@ -72,17 +71,3 @@ returns-clause-whole c form asks few text defined =
 
 pub returns-clause-unread : goal.returns-clause-unread
 returns-clause-unread c form asks none = (c.gen2run.ensures.unread form asks none).1
-
-pub returns-clause-passes_limit : goal.returns-clause-passes_limit
-returns-clause-passes_limit c form asks reads many =
-    let ended = c.gen2run.ensures.passes_limit form asks reads _ (ap Some c.new-source.ensures) many none-rose in
-    let empty = c.requires in (
-      ended,
-      elim ended [
-        | inl long ↦ let same = (c.gen2run.ensures.too_long long).1 in cc
-        | inr memory ↦ elim (c.gen2run.ensures.out_of_memory form asks memory) [
-          | inl within ↦ let same = within.1 in cc
-          | inr writes ↦ absurd (not-taken (job_of form) _ _ _ _ reads (subst (λ (told : List ℕ). input_limit < length told) (sym c.new-source.ensures) many) writes)
-        ]
-      ],
-    )
