@@ -1,3 +1,5 @@
+pub mod FaultWords
+pub mod TextRules
 pub mod LineRules
 pub mod Answered
 pub mod laws

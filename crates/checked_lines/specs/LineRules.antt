@@ -1,12 +1,13 @@
 -- Profile: texts of which each line asks for something and is answered by a line: the answers to all of them, or the first
 -- faulty line.
-use Rattle.std.specs.Prelude.{◌≡◌, ◌≢◌, ℕ, ◌+◌, List, [], ◌∷◌, ◌++◌, length, codes}
+use Rattle.std.specs.Prelude.{◌≡◌, ◌≢◌, ℕ, ◌+◌, List, [], ◌∷◌, ◌++◌, length}
 use Rattle.std.specs.List.{AllZip, flat_map}
 use Rattle.text_fields.specs.FaultLine.{fault_line}
 use Rattle.text_fields.specs.Lines.{lines_of, fields_of}
 use Rattle.checked_lines.specs.declared.fault.FaultReason.{FaultReason}
-use Rattle.checked_lines.specs.declared.fault.FaultReason.TheVariants.{End, Word, Shape, Number}
+use Rattle.checked_lines.specs.declared.fault.FaultReason.TheVariants.{End}
 use Rattle.checked_lines.specs.declared.fault.FaultyLine.{FaultyLine}
+use Rattle.checked_lines.specs.FaultWords.{reason_word}
 
 -- What is said of one line, where R is what lines ask for and A what is answered.
 pub record LineRules (R A : Type 0) : Type 1 where
@@ -56,13 +57,6 @@ pub record IsFirstFault {R A : Type 0} (rules : LineRules R A) (bytes : List ℕ
   pub spelled : AllZip rules.asks before asked
   pub number : fault.line ≡ length before + 1
   pub faulty : IsFaultyBefore rules behind line fault.reason
-
--- what a reason is called
-abbrev pub reason_word : FaultReason → List ℕ
-reason_word End = codes "end"
-reason_word Word = codes "word"
-reason_word Shape = codes "shape"
-reason_word Number = codes "number"
 
 -- the text is the fault line of the bytes
 pub record IsFaultText {R A : Type 0} (rules : LineRules R A) (bytes text : List ℕ) : Type 0 where

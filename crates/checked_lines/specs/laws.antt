@@ -1,4 +1,6 @@
--- What holds of every text that is answered line by line, by what holds of one line.
+-- What holds of every text of lines, by what holds of one line.
+pub mod OneOutcome
+pub mod ReadingOn
 pub mod OneLine
 pub mod FirstFault
 pub mod OneText

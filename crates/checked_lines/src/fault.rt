@@ -1,27 +1,64 @@
 //! The faults of lines.
 ghost use Rattle.std.specs.Prelude.{◌≡◌, ◌≤◌, length};
-ghost use Rattle.checked_lines.specs.LineRules.{reason_word};
+ghost use Rattle.checked_lines.specs.FaultWords.{reason_word};
 ghost use Rattle.text_fields.specs.FaultLine.{fault_line};
 
 use arrayvec::ArrayVec;
-use text_fields::fault_line;
+use text_fields::{FieldsFault, fault_line};
+use thiserror::Error;
 
-/// Why a line is refused, in the order in which the reasons are looked for.
-#[derive(Clone, Copy, Debug, PartialEq, Eq)]
+/// Why a line of a text is refused. Which of these a text gives, and in which order it looks for them, its rules say; in all
+/// texts that are checked here it is the order in which they stand.
+#[derive(Clone, Copy, Debug, PartialEq, Eq, Error)]
 pub enum FaultReason {
-    /// The line has no line feed.
+    /// Bytes stand behind the last line.
+    #[error("bytes stand behind the last line")]
+    Extra,
+    /// A line is needed and there is none, or the line has no line feed.
+    #[error("a line is needed, or the line has no line feed")]
     End,
-    /// The first field is none that a line may begin with; or a field behind it, which has to be the name of something, is
+    /// Line 1 doesn't name the text and its version.
+    #[error("line 1 does not name the text and its version")]
+    Version,
+    /// The first field is none that the line may begin with; or a field behind it, which has to be the name of something, is
     /// there and is the name of none.
+    #[error("the first field may not stand here, or a field is there and is no name")]
     Word,
+    /// It stands where another line has to stand.
+    #[error("another line has to stand here")]
+    Order,
+    /// It is one line too many.
+    #[error("it is one too many")]
+    Limit,
     /// The number of fields is wrong, or a field is empty.
+    #[error("the number of fields is wrong, or a field is empty")]
     Shape,
     /// A field isn't of its form, range or length.
+    #[error("a field is not of its form, range or length")]
     Number,
+    /// The EPC that the PC of the tag announces passes its bank (6.3.2.1.2.2).
+    #[error("the EPC that the PC announces passes its bank")]
+    Pc,
+}
+
+impl From<FieldsFault> for FaultReason {
+    ghost use Rattle.std.specs.Prelude.{◌≡◌};
+    ghost use Rattle.checked_lines.specs.FaultWords.{reason_of};
+
+    ghost from_gives = { λ fault reason. reason ≡ reason_of fault };
+
+    fn from(fault: FieldsFault) -> FaultReason {
+        match fault {
+            FieldsFault::Word => FaultReason::Word,
+            FieldsFault::Shape => FaultReason::Shape,
+            FieldsFault::Number => FaultReason::Number,
+        }
+    }
 }
 
 /// The first faulty line of an input.
-#[derive(Clone, Copy, Debug, PartialEq, Eq)]
+#[derive(Clone, Copy, Debug, PartialEq, Eq, Error)]
+#[error("line {line}: {reason}")]
 pub struct FaultyLine {
     /// Its number, counted from 1.
     pub line: u32,
@@ -42,9 +79,14 @@ fn reason_word(reason: FaultReason) -> &'static str
     ensures short { length result.now ≤ 14 }
 {
     match reason {
+        FaultReason::Extra => "extra",
         FaultReason::End => "end",
+        FaultReason::Version => "version",
         FaultReason::Word => "word",
+        FaultReason::Order => "order",
+        FaultReason::Limit => "limit",
         FaultReason::Shape => "shape",
         FaultReason::Number => "number",
+        FaultReason::Pc => "pc",
     }
 }

@@ -14,7 +14,7 @@ use Rattle.decode_lines.specs.declared.request.RequestKind.TheVariants.{Pie as P
 use Rattle.decode_lines.specs.declared.request.Request.{Request}
 use Rattle.decode_lines.specs.declared.request.Request.TheVariants.{Stream, Samples, Reply, Heard, Pie, Command, Sgtin, Uri}
 use Rattle.checked_lines.specs.declared.fault.FaultReason.{FaultReason}
-use Rattle.checked_lines.specs.declared.fault.FaultReason.TheVariants.{End, Word, Shape, Number}
+use Rattle.checked_lines.specs.declared.fault.FaultReason.TheVariants.{Shape, Number}
 
 -- what a line does or is
 abbrev pub AskedOrFaulty : List ℕ → Type 0
@@ -22,10 +22,9 @@ AskedOrFaulty = AsksOrIsFaulty decode_rules
 
 faulty_line : (line : List ℕ) (kind : RequestKind) (others : List (List ℕ)) (reason : FaultReason) → fields_of line ≡ request_word kind ∷ others → AreFaulty kind others reason
     → IsFaultyRequest (fields_of line) reason
-faulty_line line kind others End fields faulty = absurd faulty
-faulty_line line kind others Word fields faulty = absurd faulty
 faulty_line line kind others Shape fields faulty = (kind, others, fields, faulty)
 faulty_line line kind others Number fields faulty = (kind, others, fields, faulty)
+faulty_line line kind others reason fields faulty = absurd faulty
 
 -- ... by what is read of these fields
 pub by_others : (line : List ℕ) (kind : RequestKind) (others : List (List ℕ)) (read : Result Request FaultReason) → fields_of line ≡ request_word kind ∷ others

@@ -23,7 +23,7 @@ use Rattle.decode_lines.specs.declared.request.RequestKind.TheVariants.{Stream a
 use Rattle.decode_lines.specs.declared.request.Request.{Request}
 use Rattle.decode_lines.specs.declared.request.Request.TheVariants.{Stream, Samples, Reply, Heard, Pie, Command, Sgtin, Uri}
 use Rattle.checked_lines.specs.declared.fault.FaultReason.{FaultReason}
-use Rattle.checked_lines.specs.declared.fault.FaultReason.TheVariants.{End, Word, Shape, Number}
+use Rattle.checked_lines.specs.declared.fault.FaultReason.TheVariants.{Word, Shape, Number}
 use Rattle.pie_line.specs.Pie.{longest_interval}
 
 -- the kind that a first field says
@@ -121,11 +121,10 @@ request_shape (Uri text) others spelling limits = rw spelling (refl, All-cons Fi
 
 -- fields that ask for something are not faulty
 asked_not_faulty : (request : Request) (kind : RequestKind) (others : List (List ℕ)) (reason : FaultReason) → AsksBehind kind others request → AreFaulty kind others reason → ⊥
-asked_not_faulty request kind others End asks faulty = faulty
-asked_not_faulty request kind others Word asks faulty = faulty
 asked_not_faulty request kind others Number asks faulty = faulty.1 request asks
 asked_not_faulty request kind others Shape asks faulty =
     faulty (subst (λ k. HasShape k others) (sym asks.same_kind) (request_shape request others asks.spelling asks.limits))
+asked_not_faulty request kind others reason asks faulty = faulty
 
 -- two lists of fields that are equal have equal first fields and equal others
 pub same_fields : (a b : List ℕ) (xs ys : List (List ℕ)) → a ∷ xs ≡ b ∷ ys → (a ≡ b) × (xs ≡ ys)
@@ -142,6 +141,4 @@ behind_not_faulty line request reason kind others spells fields faulty =
 -- a line that asks for something is not faulty
 pub spelled_not_faulty : (line : List ℕ) (request : Request) (reason : FaultReason) → AsksForRequest line request → IsFaultyRequest (fields_of line) reason → ⊥
 spelled_not_faulty line request Word spells faulty = faulty spells.kind spells.others spells.fields
-spelled_not_faulty line request End spells faulty = faulty.3
-spelled_not_faulty line request Shape spells faulty = behind_not_faulty line request Shape faulty.0 faulty.1 spells faulty.2 faulty.3
-spelled_not_faulty line request Number spells faulty = behind_not_faulty line request Number faulty.0 faulty.1 spells faulty.2 faulty.3
+spelled_not_faulty line request reason spells faulty = behind_not_faulty line request reason faulty.0 faulty.1 spells faulty.2 faulty.3

@@ -13,7 +13,7 @@ use Rattle.decode_lines.specs.declared.request.RequestKind.TheVariants.{Stream a
 use Rattle.decode_lines.specs.declared.request.Request.{Request}
 use Rattle.decode_lines.specs.declared.request.Request.TheVariants.{Stream, Samples, Reply, Heard, Pie, Command, Sgtin, Uri}
 use Rattle.checked_lines.specs.declared.fault.FaultReason.{FaultReason}
-use Rattle.checked_lines.specs.declared.fault.FaultReason.TheVariants.{End, Word, Shape, Number}
+use Rattle.checked_lines.specs.declared.fault.FaultReason.TheVariants.{Word, Shape, Number}
 use Rattle.pie_line.specs.Pie.{longest_interval}
 use Rattle.sample_slicer.specs.Samples.{most_samples}
 
@@ -115,8 +115,7 @@ abbrev pub AreFaulty : RequestKind → List (List ℕ) → FaultReason → Type 
 AreFaulty kind others Shape = ¬ HasShape kind others
 -- they are there, and one of them isn't of its form, range or length: they ask for nothing
 AreFaulty kind others Number = HasShape kind others × ((request : Request) → ¬ AsksBehind kind others request)
-AreFaulty kind others End = ⊥
-AreFaulty kind others Word = ⊥
+AreFaulty kind others reason = ⊥
 
 -- the first reason for which the fields of a line that has its line feed ask for nothing
 abbrev pub IsFaultyRequest : List (List ℕ) → FaultReason → Type 0

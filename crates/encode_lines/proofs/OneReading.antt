@@ -21,7 +21,7 @@ use Rattle.reply_text.specs.laws.ToldApart.{expect_told}
 use Rattle.pie_line.specs.declared.frame.Lead.{Lead}
 use Rattle.pie_line.specs.declared.frame.Lead.TheVariants.{Preamble, FrameSync}
 use Rattle.checked_lines.specs.declared.fault.FaultReason.{FaultReason}
-use Rattle.checked_lines.specs.declared.fault.FaultReason.TheVariants.{End, Word, Shape, Number}
+use Rattle.checked_lines.specs.declared.fault.FaultReason.TheVariants.{Word, Shape, Number}
 use Rattle.checked_lines.specs.laws.OneLine.{TellLines}
 use Rattle.encode_lines.proofs.Shapes.{command_shape, reply_shape, shaped}
 use Rattle.encode_lines.specs.EncodeLines.{encode_rules}
@@ -157,12 +157,12 @@ shaped_named HeardKind others shape none = shaped replies (drop 3 others) shape.
 
 -- fields that ask for something are not faulty
 asked_not_faulty : (request : Request) (kind : LineKind) (others : List (List ℕ)) (reason : FaultReason) → AsksBehind kind others request → AreFaulty kind others reason → ⊥
-asked_not_faulty request kind others End asks faulty = faulty
 asked_not_faulty request kind others Number asks faulty = faulty.1 request asks
 asked_not_faulty request kind others Word asks faulty =
     shaped_named kind others (subst (λ k. HasShape k others) (sym asks.same_kind) (request_shape request others asks.spelling asks.limits)) faulty
 asked_not_faulty request kind others Shape asks faulty =
     faulty.1 (subst (λ k. HasShape k others) (sym asks.same_kind) (request_shape request others asks.spelling asks.limits))
+asked_not_faulty request kind others reason asks faulty = faulty
 
 -- ... behind another reading of the first field
 behind_not_faulty : (line : List ℕ) (request : Request) (reason : FaultReason) → AsksForRequest line request → AreFaultyBehind (fields_of line) reason → ⊥
@@ -171,11 +171,9 @@ behind_not_faulty line request reason asks faulty =
     asked_not_faulty request faulty.kind faulty.others reason (subst (λ k. AsksBehind k faulty.others request) read.0 (subst (λ o. AsksBehind asks.kind o request) read.1 asks.asks)) faulty.faulty
 
 pub not_faulty : (line : List ℕ) (request : Request) (reason : FaultReason) → AsksForRequest line request → IsFaultyRequest (fields_of line) reason → ⊥
-not_faulty line request End asks faulty = behind_not_faulty line request End asks faulty
 not_faulty line request Word asks (inl none) = none asks.kind asks.others asks.fields
 not_faulty line request Word asks (inr faulty) = behind_not_faulty line request Word asks faulty
-not_faulty line request Shape asks faulty = behind_not_faulty line request Shape asks faulty
-not_faulty line request Number asks faulty = behind_not_faulty line request Number asks faulty
+not_faulty line request reason asks faulty = behind_not_faulty line request reason asks faulty
 
 -- the fields behind the first are faulty for one reason
 same_fault : (kind : LineKind) (others : List (List ℕ)) (one other : FaultReason) → AreFaulty kind others one → AreFaulty kind others other → one ≡ other
@@ -188,8 +186,10 @@ same_fault kind others Shape Number left right = absurd (left.1 right.0)
 same_fault kind others Number Word left right = absurd (shaped_named kind others left.0 right)
 same_fault kind others Number Shape left right = absurd (right.1 left.0)
 same_fault kind others Number Number left right = refl
-same_fault kind others End other left right = absurd left
-same_fault kind others one End left right = absurd right
+same_fault kind others Word other left right = absurd right
+same_fault kind others Shape other left right = absurd right
+same_fault kind others Number other left right = absurd right
+same_fault kind others one other left right = absurd left
 
 same_fault_behind : (fields : List (List ℕ)) (one other : FaultReason) → AreFaultyBehind fields one → AreFaultyBehind fields other → one ≡ other
 same_fault_behind fields one other left right =
@@ -198,27 +198,11 @@ same_fault_behind fields one other left right =
 
 same_reason : (fields : List (List ℕ)) (one other : FaultReason) → IsFaultyRequest fields one → IsFaultyRequest fields other → one ≡ other
 same_reason fields Word Word left right = refl
-same_reason fields Word Shape (inl none) right = absurd (none right.kind right.others right.first)
-same_reason fields Word Number (inl none) right = absurd (none right.kind right.others right.first)
-same_reason fields Word End (inl none) right = absurd (none right.kind right.others right.first)
-same_reason fields Shape Word left (inl none) = absurd (none left.kind left.others left.first)
-same_reason fields Number Word left (inl none) = absurd (none left.kind left.others left.first)
-same_reason fields End Word left (inl none) = absurd (none left.kind left.others left.first)
-same_reason fields Word Shape (inr faulty) right = same_fault_behind fields Word Shape faulty right
-same_reason fields Word Number (inr faulty) right = same_fault_behind fields Word Number faulty right
-same_reason fields Word End (inr faulty) right = same_fault_behind fields Word End faulty right
-same_reason fields Shape Word left (inr faulty) = same_fault_behind fields Shape Word left faulty
-same_reason fields Number Word left (inr faulty) = same_fault_behind fields Number Word left faulty
-same_reason fields End Word left (inr faulty) = same_fault_behind fields End Word left faulty
-same_reason fields Shape Shape left right = refl
-same_reason fields Number Number left right = refl
-same_reason fields End End left right = refl
-same_reason fields Shape Number left right = same_fault_behind fields Shape Number left right
-same_reason fields Shape End left right = same_fault_behind fields Shape End left right
-same_reason fields Number Shape left right = same_fault_behind fields Number Shape left right
-same_reason fields Number End left right = same_fault_behind fields Number End left right
-same_reason fields End Shape left right = same_fault_behind fields End Shape left right
-same_reason fields End Number left right = same_fault_behind fields End Number left right
+same_reason fields Word other (inl none) right = absurd (none right.kind right.others right.first)
+same_reason fields Word other (inr faulty) right = same_fault_behind fields Word other faulty right
+same_reason fields one Word left (inl none) = absurd (none left.kind left.others left.first)
+same_reason fields one Word left (inr faulty) = same_fault_behind fields one Word left faulty
+same_reason fields one other left right = same_fault_behind fields one other left right
 
 pub tell_lines : TellLines encode_rules
 tell_lines = record { one_request = same_request; one_reason = same_reason; not_faulty = not_faulty }

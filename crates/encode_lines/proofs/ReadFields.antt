@@ -11,7 +11,7 @@ use Rattle.reply_text.specs.laws.ReplyTexts.{replies_are}
 use Rattle.reply_grammar.specs.declared.expected.Expect.{Expect}
 use Rattle.reply_grammar.specs.declared.expected.Reply.{Reply as OneReply}
 use Rattle.checked_lines.specs.declared.fault.FaultReason.{FaultReason}
-use Rattle.checked_lines.specs.declared.fault.FaultReason.TheVariants.{End, Word, Shape, Number}
+use Rattle.checked_lines.specs.declared.fault.FaultReason.TheVariants.{Word, Shape, Number}
 use Rattle.encode_lines.specs.Request.{AsksBehind, AreFaulty, IsFaultyReplyBehind}
 use Rattle.encode_lines.specs.declared.request.LineKind.TheVariants.{Pie as PieKind, Heard as HeardKind}
 use Rattle.encode_lines.specs.declared.request.Request.{Request}
@@ -25,7 +25,7 @@ pub weaker_front : (P Q : Type 0) → (P → Q) → (Q → P) → (tail : List (
 weaker_front P Q to from tail Word faulty = faulty
 weaker_front P Q to from tail Shape faulty = (faulty.0, λ has. faulty.1 (from has.0, has.1))
 weaker_front P Q to from tail Number faulty = (to faulty.0, faulty.1, faulty.2)
-weaker_front P Q to from tail End faulty = faulty
+weaker_front P Q to from tail reason faulty = faulty
 
 -- the three fields in front of a reply are filled
 abbrev pub ThreeFilled : (a b c : List ℕ) → Type 0
@@ -57,7 +57,7 @@ faulty_heard a b c tail Word faulty = faulty
 faulty_heard a b c tail Shape faulty = (faulty.0, λ has. faulty.1 (front_filled a b c has.0, has.1))
 faulty_heard a b c tail Number faulty =
     ((three_filled a b c faulty.0.0 faulty.0.1 faulty.0.2, faulty.1), no_heard a b c tail (λ code trext expect reply first second is third spelled. faulty.2 reply spelled))
-faulty_heard a b c tail End faulty = faulty
+faulty_heard a b c tail reason faulty = faulty
 
 -- a reply stands behind three fields of which one spells nothing
 pub heard_unnamed : (a b c : List ℕ) (tail : List (List ℕ)) (reply : OneReply) → ThreeFilled a b c → IsReplyText tail reply

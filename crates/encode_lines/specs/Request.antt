@@ -14,7 +14,7 @@ use Rattle.reply_grammar.specs.Table.{longest_reply}
 use Rattle.reply_grammar.specs.declared.expected.Reply.{Reply as OneReply}
 use Rattle.reply_text.specs.ReplyText.{expect_word, reply_fields, replies, IsExpect, IsReplyForm, IsReplyText}
 use Rattle.checked_lines.specs.declared.fault.FaultReason.{FaultReason}
-use Rattle.checked_lines.specs.declared.fault.FaultReason.TheVariants.{End, Word, Shape, Number}
+use Rattle.checked_lines.specs.declared.fault.FaultReason.TheVariants.{Word, Shape, Number}
 use Rattle.encode_lines.specs.declared.request.LineKind.{LineKind}
 use Rattle.encode_lines.specs.declared.request.LineKind.TheVariants.{Stream as StreamKind, Pie as PieKind, Command as CommandKind, Reply as ReplyKind, Heard as HeardKind}
 use Rattle.encode_lines.specs.declared.request.Request.{Request}
@@ -109,14 +109,14 @@ AreFaulty kind others Word = NamesNone kind others
 AreFaulty kind others Shape = (¬ NamesNone kind others) × (¬ HasShape kind others)
 -- they are there, and one of them isn't of its form, range or length: they ask for nothing
 AreFaulty kind others Number = HasShape kind others × ((request : Request) → ¬ AsksBehind kind others request)
-AreFaulty kind others End = ⊥
+AreFaulty kind others reason = ⊥
 
 -- the first reason for which the fields of a reply are faulty behind others, of which it is said whether none is empty
 abbrev pub IsFaultyReplyBehind : Type 0 → List (List ℕ) → FaultReason → Type 0
 IsFaultyReplyBehind filled fields Word = NameNothing replies fields
 IsFaultyReplyBehind filled fields Shape = (¬ NameNothing replies fields) × (¬ (filled × HaveShape replies fields))
 IsFaultyReplyBehind filled fields Number = filled × HaveShape replies fields × ((reply : OneReply) → ¬ IsReplyText fields reply)
-IsFaultyReplyBehind filled fields End = ⊥
+IsFaultyReplyBehind filled fields reason = ⊥
 
 -- behind a first field that a line may begin with, the others are faulty for this reason
 pub record AreFaultyBehind (fields : List (List ℕ)) (reason : FaultReason) : Type 0 where

@@ -14,7 +14,7 @@ use Rattle.top_call.specs.declared.ending.Wrote.{Wrote}
 use Rattle.top_call.specs.declared.ending.WriteEnd.{WriteEnd}
 use Rattle.top_call.specs.declared.ending.WriteEnd.TheVariants.{Fault}
 use Rattle.text_fields.specs.FaultLine.{fault_line}
-use Rattle.checked_lines.specs.LineRules.{reason_word}
+use Rattle.checked_lines.specs.FaultWords.{reason_word}
 use Rattle.top_call.specs.words.Named.{IsOfLines, AddsNames, IsCutAt, RefusesCutLine, names_job}
 use Rattle.checked_lines.specs.declared.fault.FaultReason.TheVariants.{End}
 use Rattle.text_fields.specs.laws.LineLaws.{some_line}

@@ -6,7 +6,8 @@ use Rattle.std.proofs.lemmas.List.Elements.{All-head, All-tail}
 use Rattle.text_fields.specs.FaultLine.{fault_line}
 use Rattle.text_fields.specs.Lines.{Lacks, fields_of, line_feed, lines_of, text_with}
 use Rattle.text_fields.specs.laws.LineLaws.{pieces_between-cut}
-use Rattle.checked_lines.specs.LineRules.{LineRules, AskForSome, IsFaultyBefore, IsFirstFault, IsFaultText, reason_word}
+use Rattle.checked_lines.specs.FaultWords.{reason_word}
+use Rattle.checked_lines.specs.LineRules.{LineRules, AskForSome, IsFaultyBefore, IsFirstFault, IsFaultText}
 use Rattle.checked_lines.specs.declared.fault.FaultReason.{FaultReason}
 use Rattle.checked_lines.specs.declared.fault.FaultyLine.{FaultyLine}
 use Rattle.checked_lines.specs.laws.OneLine.{AsksForSome, TellLines}

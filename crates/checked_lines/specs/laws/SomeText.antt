@@ -3,7 +3,8 @@ use Rattle.std.proofs.Common.{◌≡◌, ◌⊎◌, ℕ, ◌+◌, List, [], ◌�
 use Rattle.text_fields.specs.Lines.{lines_of}
 use Rattle.text_fields.specs.FaultLine.{fault_line}
 use Rattle.text_fields.specs.laws.LineLaws.{some_line}
-use Rattle.checked_lines.specs.LineRules.{LineRules, Answers, IsFaultText, IsFaultyBefore, reason_word}
+use Rattle.checked_lines.specs.FaultWords.{reason_word}
+use Rattle.checked_lines.specs.LineRules.{LineRules, Answers, IsFaultText, IsFaultyBefore}
 use Rattle.checked_lines.specs.declared.fault.FaultyLine.{FaultyLine}
 use Rattle.checked_lines.specs.declared.fault.FaultReason.{FaultReason}
 use Rattle.checked_lines.specs.declared.fault.FaultReason.TheVariants.{End}

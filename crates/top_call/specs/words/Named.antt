@@ -3,7 +3,7 @@ use Rattle.std.specs.Prelude.{◌≡◌, ◌≢◌, ℕ, ◌+◌, true, List, []
 use Rattle.text_fields.specs.FaultLine.{fault_line}
 use Rattle.text_fields.specs.Lines.{lines_of}
 use Rattle.report_lines.specs.Names.{AreWithNames}
-use Rattle.checked_lines.specs.LineRules.{reason_word}
+use Rattle.checked_lines.specs.FaultWords.{reason_word}
 use Rattle.checked_lines.specs.declared.fault.FaultReason.TheVariants.{End}
 use Rattle.top_call.specs.Job.{Job}
 

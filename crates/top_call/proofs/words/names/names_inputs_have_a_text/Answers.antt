@@ -2,7 +2,7 @@
 use Rattle.std.proofs.Common.{◌≡◌, ℕ, ◌+◌, ◌≤◌, List, [], ◌∷◌, ◌++◌, length, refl, ap, arith, inl, inr}
 use Rattle.text_fields.specs.Lines.{lines_of}
 use Rattle.text_fields.specs.FaultLine.{fault_line}
-use Rattle.checked_lines.specs.LineRules.{reason_word}
+use Rattle.checked_lines.specs.FaultWords.{reason_word}
 use Rattle.top_call.specs.Job.{Defines}
 use Rattle.top_call.specs.words.Named.{IsCutAt, names_job}
 use Rattle.checked_lines.specs.declared.fault.FaultReason.TheVariants.{End}

@@ -1,0 +1,24 @@
+-- Profile: the reasons for which a line of a text is faulty, and their words.
+use Rattle.std.specs.Prelude.{ℕ, List, codes}
+use Rattle.text_fields.specs.declared.fields_fault.FieldsFault.{FieldsFault}
+use Rattle.text_fields.specs.declared.fields_fault.FieldsFault.TheVariants as fields
+use Rattle.checked_lines.specs.declared.fault.FaultReason.{FaultReason}
+use Rattle.checked_lines.specs.declared.fault.FaultReason.TheVariants.{Extra, End, Version, Word, Order, Limit, Shape, Number, Pc}
+
+-- the reason of a line's fields
+abbrev pub reason_of : FieldsFault → FaultReason
+reason_of fields.Word = Word
+reason_of fields.Shape = Shape
+reason_of fields.Number = Number
+
+-- what a reason is called
+abbrev pub reason_word : FaultReason → List ℕ
+reason_word Extra = codes "extra"
+reason_word End = codes "end"
+reason_word Version = codes "version"
+reason_word Word = codes "word"
+reason_word Order = codes "order"
+reason_word Limit = codes "limit"
+reason_word Shape = codes "shape"
+reason_word Number = codes "number"
+reason_word Pc = codes "pc"
