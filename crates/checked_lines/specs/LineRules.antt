@@ -1,13 +1,12 @@
 -- Profile: texts of which each line asks for something and is answered by a line: the answers to all of them, or the first
 -- faulty line.
-use Rattle.std.specs.Prelude.{◌≡◌, ◌≢◌, ℕ, ◌+◌, List, [], ◌∷◌, ◌++◌, length}
+use Rattle.std.specs.Prelude.{◌≡◌, ℕ, List, [], ◌∷◌, ◌++◌}
 use Rattle.std.specs.List.{AllZip, flat_map}
-use Rattle.text_fields.specs.FaultLine.{fault_line}
 use Rattle.text_fields.specs.Lines.{lines_of, fields_of}
 use Rattle.checked_lines.specs.declared.fault.FaultReason.{FaultReason}
 use Rattle.checked_lines.specs.declared.fault.FaultReason.TheVariants.{End}
 use Rattle.checked_lines.specs.declared.fault.FaultyLine.{FaultyLine}
-use Rattle.checked_lines.specs.FaultWords.{reason_word}
+use Rattle.checked_lines.specs.TextRules.{TextRules, IsFaultText as HasFaultText, IsFirstFault as HasFirstFault}
 
 -- What is said of one line, where R is what lines ask for and A what is answered.
 pub record LineRules (R A : Type 0) : Type 1 where
@@ -42,24 +41,20 @@ pub record Answers {R A : Type 0} (rules : LineRules R A) (bytes text : List ℕ
   pub asks : AskFor rules bytes requests
   pub answers : AreAnswers rules requests text
 
--- the first reason for which a line is faulty, by the lines behind it: a line with none behind it has no line feed
-abbrev pub IsFaultyBefore : {R A : Type 0} → LineRules R A → List (List ℕ) → List ℕ → FaultReason → Type 0
-IsFaultyBefore rules [] line reason = (line ≢ []) × (reason ≡ End)
-IsFaultyBefore rules (next ∷ lines) line reason = rules.is_faulty (fields_of line) reason
+-- Such a text stands behind each line as before the first: whatever was asked for, the next line asks for something or is faulty.
+abbrev pub text_rules : {R A : Type 0} → LineRules R A → TextRules (Unit {0}) FaultReason
+text_rules {R} rules = record {
+  start = tt;
+  leads = λ before line behind. (request : R) × rules.asks line request;
+  is_faulty = λ before line reason. rules.is_faulty (fields_of line) reason;
+  may_end = λ behind. Unit {0};
+  unended = λ before. End;
+}
 
 -- the first faulty line of the bytes, counted from 1, with its first reason
-pub record IsFirstFault {R A : Type 0} (rules : LineRules R A) (bytes : List ℕ) (fault : FaultyLine) : Type 0 where
-  pub before : List (List ℕ)
-  pub asked : List R
-  pub line : List ℕ
-  pub behind : List (List ℕ)
-  pub cut : lines_of bytes ≡ before ++ line ∷ behind
-  pub spelled : AllZip rules.asks before asked
-  pub number : fault.line ≡ length before + 1
-  pub faulty : IsFaultyBefore rules behind line fault.reason
+abbrev pub IsFirstFault : {R A : Type 0} → LineRules R A → List ℕ → FaultyLine → Type 0
+IsFirstFault rules bytes fault = HasFirstFault (text_rules rules) bytes fault.line fault.reason
 
 -- the text is the fault line of the bytes
-pub record IsFaultText {R A : Type 0} (rules : LineRules R A) (bytes text : List ℕ) : Type 0 where
-  pub fault : FaultyLine
-  pub first : IsFirstFault rules bytes fault
-  pub line : text ≡ fault_line fault.line (reason_word fault.reason)
+abbrev pub IsFaultText : {R A : Type 0} → LineRules R A → (bytes text : List ℕ) → Type 0
+IsFaultText rules bytes text = HasFaultText (text_rules rules) bytes text

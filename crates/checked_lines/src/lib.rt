@@ -1,6 +1,6 @@
-//! Texts of which each line asks for something and is answered by a line, as those of `decode` and of `encode`: what it
-//! means that the text is answered, which line is the first faulty one, and how that is reported (profile). What a line
-//! asks for, and what the answer is, is the matter of the crates above.
+//! Texts of lines, by the rules of a text: what it means that bytes are one, which line is the first faulty one, and how that is
+//! reported (profile). Among them are those of which each line asks for something and is answered by a line, as those of `decode`
+//! and of `encode`. Which line may stand where, and what it asks for, is the matter of the crates above.
 #![tactic(auto)]
 
 mod fault;

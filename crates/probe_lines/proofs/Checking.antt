@@ -1,72 +1,112 @@
 -- How far the lines behind that of the tag are read.
-use Rattle.std.proofs.Common.{◌≡◌, ◌≢◌, ◌≤◌, ◌<◌, ◌+◌, ℕ, List, [], ◌∷◌, length, refl, sym, ◌∙◌, ap, ap₂, subst, arith}
-use Rattle.std.specs.List.{join_with_byte}
-use Rattle.std.proofs.lemmas.List.Splits.{join_with_byte-slice_split}
-use Rattle.text_fields.specs.laws.LineLaws.{some_line}
-use Rattle.text_fields.specs.Lines.{fields_of, line_feed, lines_of}
+use Rattle.std.proofs.Common.{◌≡◌, ◌≢◌, ◌≤◌, ◌<◌, ◌+◌, ℕ, List, [], ◌∷◌, ◌++◌, length, refl, sym, ◌∙◌, ap, subst, arith, append_assoc, length-append}
+use Rattle.std.proofs.lemmas.List.{append-nil}
+use Rattle.text_fields.specs.Lines.{fields_of, lines_of}
 use Rattle.text_fields.specs.declared.fields_fault.FieldsFault.{FieldsFault}
+use Rattle.checked_lines.specs.TextRules.{HasOutcomeFrom, Faulty}
+use Rattle.checked_lines.specs.laws.ReadingOn.{HasReadTo, NextLine, all_read, extra_read, fault_read, none_read, one_read, unended_read}
+use Rattle.checked_lines.specs.declared.fault.FaultReason.{FaultReason}
+use Rattle.checked_lines.specs.declared.fault.FaultReason.TheVariants.{Extra, End}
 use Rattle.scenario_lines.specs.declared.tag.TagSpec.{TagSpec}
-use Rattle.probe_lines.specs.declared.fault.Fault.{Fault}
-use Rattle.probe_lines.specs.declared.fault.Fault.TheVariants.{Extra, End, Version}
 use Rattle.probe_lines.specs.Said as lines
 use Rattle.probe_lines.specs.Said.{Stimulus}
 use Rattle.probe_lines.specs.LineFaults.{IsFaultyProbeLine}
 use Rattle.probe_lines.specs.laws.LineLaws.{LineLaws}
 use Rattle.probe_lines.specs.ProbeLine.{SpellsProbeLine, SpellsTag, version_line}
-use Rattle.probe_lines.specs.ProbeText.{AreStimuli, GoesTo, IsFaultyBefore, IsFaultyBehind, IsFaultyHere, IsFirstFault, IsFirstFaultFrom, SayStimuli, Standing, begun, ended, most_stimuli, start, within}
+use Rattle.probe_lines.specs.ProbeText.{AreStimuli, EndProbe, IsFaultyBehind, IsFirstFaultBehind, SayStimuli, begun, ended, most_stimuli, probe_rules, start, within}
 
--- where one line without bytes is left, nothing is left
-nothing_left : (rest : List ℕ) → lines_of rest ≡ [] ∷ [] → rest ≡ []
-nothing_left rest cut = sym (join_with_byte-slice_split line_feed rest) ∙ ap (join_with_byte line_feed) cut
+-- Of the lines behind that of the tag so many are read, which say what is done to it, and these are left: what is said there is the rest of
+-- what all say.
+pub record HasSaid (text rest : List ℕ) (count : ℕ) : Type 0 where
+  pub said : List Stimulus
+  pub count_is : count ≡ length said
+  pub few : count ≤ most_stimuli
+  pub read : (tag : TagSpec) → HasReadTo probe_rules (within tag []) 3 (lines_of text) (within tag said) (3 + count) (lines_of rest)
+  pub says : (more : List Stimulus) → SayStimuli (lines_of rest) more → SayStimuli (lines_of text) (said ++ more)
 
-some_lines : (text : List ℕ) → lines_of text ≢ []
-some_lines text none = let count = ap length none in absurd (omega (arith, some_line text))
-
--- a fault of the first of some lines
-fault_here : (from : Standing) (first : ℕ) (all : List (List ℕ)) (line : List ℕ) (behind : List (List ℕ)) (fault : Fault) → all ≡ line ∷ behind
-    → IsFaultyBefore behind from line fault → IsFirstFaultFrom from first all first fault
-fault_here from first all line behind fault cut faulty =
-    record { before = []; line = line; behind = behind; standing = from; cut = cut; lead = refl; place = omega arith; faulty = faulty }
-
--- the first of some lines, which may stand there
-pub record FirstGoes (from : Standing) (all : List (List ℕ)) : Type 0 where
-  pub line : List ℕ
-  pub behind : List (List ℕ)
-  pub cut : all ≡ line ∷ behind
-  pub next : Standing
-  pub goes : GoesTo from line next
-
--- ... and of one behind it
-fault_behind : (from : Standing) (first second number : ℕ) (all : List (List ℕ)) (fault : Fault) (goes : FirstGoes from all) → second ≡ first + 1
-    → IsFirstFaultFrom goes.next second goes.behind number fault → IsFirstFaultFrom from first all number fault
-fault_behind from first second number all fault goes one_more is = record {
-  before = goes.line ∷ is.before;
-  line = is.line;
-  behind = is.behind;
-  standing = is.standing;
-  cut = goes.cut ∙ ap (λ (more : List (List ℕ)). goes.line ∷ more) is.cut;
-  lead = (goes.next, goes.goes, is.lead);
-  place = omega (arith, is.place, one_more);
-  faulty = is.faulty;
+pub none_said : (text : List ℕ) → HasSaid text text 0
+none_said text = record {
+  said = [];
+  count_is = refl;
+  few = omega arith;
+  read = λ tag. none_read probe_rules (within tag []) 3 (lines_of text);
+  says = λ more say. say;
 }
 
--- A line is faulty where something stands behind it.
-before_some : (from : Standing) (line : List ℕ) (behind : List (List ℕ)) (fault : Fault) → behind ≢ [] → from ≢ ended → IsFaultyHere from line fault
-    → IsFaultyBefore behind from line fault
-before_some start line [] fault some opened faulty = absurd (some refl)
-before_some begun line [] fault some opened faulty = absurd (some refl)
-before_some (within count) line [] fault some opened faulty = absurd (some refl)
-before_some start line (next ∷ more) fault some opened faulty = faulty
-before_some begun line (next ∷ more) fault some opened faulty = faulty
-before_some (within count) line (next ∷ more) fault some opened faulty = faulty
-before_some ended line behind fault some opened faulty = absurd (opened refl)
+-- one line more
+pub one_said : (text rest : List ℕ) (count : ℕ) (next : NextLine (lines_of rest)) (stimulus : Stimulus) → HasSaid text rest count
+    → SpellsProbeLine (fields_of next.line) (lines.Does stimulus) → count < most_stimuli → HasSaid text next.rest (count + 1)
+one_said text rest count next stimulus so_far spells room =
+    let said = so_far.said ++ stimulus ∷ [] in
+    let number : 3 + count + 1 ≡ 3 + (count + 1) = omega arith in
+    record {
+      said = said;
+      count_is = omega (arith, so_far.count_is, length-append so_far.said (stimulus ∷ []));
+      few = omega arith;
+      read = λ tag.
+          subst (λ (n : ℕ). HasReadTo probe_rules (within tag []) 3 (lines_of text) (within tag said) n (lines_of next.rest)) number
+          (one_read probe_rules (within tag []) 3 (lines_of text) (within tag so_far.said) (3 + count) (lines_of rest) next (within tag said) (so_far.read tag)
+          (record { says = lines.Does stimulus; spells = spells; room = omega (arith, so_far.count_is, room); leads = refl }));
+      says = λ more say.
+          subst (λ (all : List Stimulus). SayStimuli (lines_of text) all) (sym (append_assoc so_far.said (stimulus ∷ []) more))
+          (so_far.says (stimulus ∷ more) (subst (λ (left : List (List ℕ)). SayStimuli left (stimulus ∷ more)) (sym next.cut) (spells, say)));
+    }
 
--- Of the lines behind that of the tag so many are read, and these are left: what is faulty among these is so among all, and what they say is
--- the rest of what all say.
-pub record HasReadTo (all left : List (List ℕ)) (count : ℕ) : Type 0 where
-  pub few : count ≤ most_stimuli
-  pub faults : (number : ℕ) (fault : Fault) → IsFirstFaultFrom (within count) (3 + count) left number fault → IsFirstFaultFrom (within 0) 3 all number fault
-  pub says : (said : List Stimulus) → SayStimuli left said → count + length said ≤ most_stimuli → (whole : List Stimulus) × AreStimuli all whole
+-- a line is missing, or has no line feed
+pub line_wanted : (text rest : List ℕ) (count : ℕ) → HasSaid text rest count → lines_of rest ≡ rest ∷ [] → IsFirstFaultBehind (lines_of text) (3 + count) End
+line_wanted text rest count so_far last = λ tag.
+    unended_read probe_rules (within tag []) 3 (lines_of text) (within tag so_far.said) (3 + count) rest (so_far.read tag) last (λ none may. may)
+
+-- a line is faulty
+pub line_faulty : (text rest : List ℕ) (count : ℕ) (next : NextLine (lines_of rest)) (fault : FaultReason) → HasSaid text rest count
+    → IsFaultyBehind count (fields_of next.line) fault → IsFirstFaultBehind (lines_of text) (3 + count) fault
+line_faulty text rest count next fault so_far faulty = λ tag.
+    fault_read probe_rules (within tag []) 3 (lines_of text) (within tag so_far.said) (3 + count) (lines_of rest) next fault (so_far.read tag)
+    (subst (λ (n : ℕ). IsFaultyBehind n (fields_of next.line) fault) so_far.count_is faulty)
+
+-- the end
+end_read : (text rest : List ℕ) (count : ℕ) (next : NextLine (lines_of rest)) (tag : TagSpec) (so_far : HasSaid text rest count)
+    → SpellsProbeLine (fields_of next.line) lines.End
+    → HasReadTo probe_rules (within tag []) 3 (lines_of text) (ended tag so_far.said) (3 + count + 1) (lines_of next.rest)
+end_read text rest count next tag so_far spells =
+    one_read probe_rules (within tag []) 3 (lines_of text) (within tag so_far.said) (3 + count) (lines_of rest) next (ended tag so_far.said) (so_far.read tag)
+    (record { says = lines.End; spells = spells; room = tt; leads = refl })
+
+-- something stands behind the end
+pub line_extra : (text rest : List ℕ) (count : ℕ) (next : NextLine (lines_of rest)) → HasSaid text rest count → SpellsProbeLine (fields_of next.line) lines.End
+    → next.rest ≢ [] → IsFirstFaultBehind (lines_of text) (3 + (count + 1)) Extra
+line_extra text rest count next so_far spells some = λ tag.
+    let number : 3 + count + 1 ≡ 3 + (count + 1) = omega arith in
+    subst (λ (n : ℕ). HasOutcomeFrom probe_rules (within tag []) 3 (lines_of text) (Faulty n Extra)) number
+    (extra_read probe_rules (within tag []) 3 (lines_of text) (ended tag so_far.said) (3 + count + 1) next.rest (end_read text rest count next tag so_far spells)
+    (λ line. refl) some)
+
+-- the end stands last
+pub line_last : (text rest : List ℕ) (count : ℕ) (next : NextLine (lines_of rest)) → HasSaid text rest count → SpellsProbeLine (fields_of next.line) lines.End
+    → next.rest ≡ [] → EndProbe (lines_of text)
+line_last text rest count next so_far spells none = record {
+  said = so_far.said;
+  are = record {
+    say = subst (λ (all : List Stimulus). SayStimuli (lines_of text) all) (append-nil so_far.said)
+        (so_far.says [] (subst (λ (left : List (List ℕ)). SayStimuli left []) (sym next.cut) (spells, ap lines_of none)));
+    few = omega (arith, so_far.few, so_far.count_is);
+  };
+  whole = λ tag.
+      all_read probe_rules (within tag []) 3 (lines_of text) (ended tag so_far.said) (3 + count + 1) next.rest (end_read text rest count next tag so_far spells) none tt;
+}
+
+-- The first two lines: the version,
+pub version_read : (text : List ℕ) (first : NextLine (lines_of text)) → first.line ≡ version_line
+    → HasReadTo probe_rules start 1 (lines_of text) begun 2 (lines_of first.rest)
+version_read text first version =
+    one_read probe_rules start 1 (lines_of text) start 1 (lines_of text) first begun (none_read probe_rules start 1 (lines_of text)) (version, refl)
+
+-- and the tag
+pub tag_read : (text : List ℕ) (first : NextLine (lines_of text)) (second : NextLine (lines_of first.rest)) (tag : TagSpec) → first.line ≡ version_line
+    → SpellsTag (fields_of second.line) tag → HasReadTo probe_rules start 1 (lines_of text) (within tag []) 3 (lines_of second.rest)
+tag_read text first second tag version spells =
+    one_read probe_rules start 1 (lines_of text) begun 2 (lines_of first.rest) second (within tag []) (version_read text first version)
+    (record { tag = tag; spells = spells; leads = refl })
 
 -- the first of some lines, which says what is done to the tag
 pub record FirstStimulus (left : List (List ℕ)) : Type 0 where
@@ -75,111 +115,6 @@ pub record FirstStimulus (left : List (List ℕ)) : Type 0 where
   pub cut : left ≡ line ∷ behind
   pub stimulus : Stimulus
   pub spells : SpellsProbeLine (fields_of line) (lines.Does stimulus)
-
--- one line more
-pub one_read : (all left : List (List ℕ)) (count : ℕ) (next : FirstStimulus left) → HasReadTo all left count → count < most_stimuli → HasReadTo all next.behind (count + 1)
-one_read all left count next so_far room = record {
-  few = omega arith;
-  faults = λ number fault is.
-      so_far.faults number fault
-      (fault_behind (within count) (3 + count) (3 + (count + 1)) number left fault
-      (record {
-        line = next.line;
-        behind = next.behind;
-        cut = next.cut;
-        next = within (count + 1);
-        goes = record { says = lines.Does next.stimulus; spells = next.spells; room = room; leads = refl };
-      }) (omega arith) is);
-  says = λ said say few.
-      so_far.says (next.stimulus ∷ said) (subst (λ (list : List (List ℕ)). SayStimuli list (next.stimulus ∷ said)) (sym next.cut) (next.spells, say)) (omega arith);
-}
-
--- a line is missing, or has no line feed
-pub line_wanted : (all : List (List ℕ)) (rest : List ℕ) (count : ℕ) → HasReadTo all (lines_of rest) count → lines_of rest ≡ rest ∷ []
-    → IsFirstFaultFrom (within 0) 3 all (3 + count) End
-line_wanted all rest count so_far cut = so_far.faults (3 + count) End (fault_here (within count) (3 + count) (lines_of rest) rest [] End cut refl)
-
--- a line is faulty
-pub line_faulty : (all left : List (List ℕ)) (line behind : List ℕ) (count : ℕ) (fault : Fault) → HasReadTo all left count → left ≡ line ∷ lines_of behind
-    → IsFaultyBehind count (fields_of line) fault → IsFirstFaultFrom (within 0) 3 all (3 + count) fault
-line_faulty all left line behind count fault so_far cut faulty =
-    so_far.faults (3 + count) fault
-    (fault_here (within count) (3 + count) left line (lines_of behind) fault cut
-    (before_some (within count) line (lines_of behind) fault (some_lines behind) (λ same. cc) faulty))
-
--- something stands behind the end
-extra_at : (lines : List (List ℕ)) (first : ℕ) → lines ≢ [] → lines ≢ [] ∷ [] → IsFirstFaultFrom ended first lines first Extra
-extra_at [] first some any = absurd (some refl)
-extra_at (line ∷ behind) first some any = fault_here ended first (line ∷ behind) line behind Extra refl (refl, any)
-
-pub line_extra : (all left : List (List ℕ)) (line behind : List ℕ) (count : ℕ) → HasReadTo all left count → left ≡ line ∷ lines_of behind
-    → SpellsProbeLine (fields_of line) lines.End → behind ≢ [] → IsFirstFaultFrom (within 0) 3 all (3 + (count + 1)) Extra
-line_extra all left line behind count so_far cut spells some =
-    so_far.faults (3 + (count + 1)) Extra
-    (fault_behind (within count) (3 + count) (3 + (count + 1)) (3 + (count + 1)) left Extra
-    (record { line = line; behind = lines_of behind; cut = cut; next = ended; goes = record { says = lines.End; spells = spells; room = tt; leads = refl } }) (omega arith)
-    (extra_at (lines_of behind) (3 + (count + 1)) (some_lines behind) (λ same. some (nothing_left behind same))))
-
--- the end stands last
-pub line_last : (all left : List (List ℕ)) (line behind : List ℕ) (count : ℕ) → HasReadTo all left count → left ≡ line ∷ lines_of behind
-    → SpellsProbeLine (fields_of line) lines.End → behind ≡ [] → (said : List Stimulus) × AreStimuli all said
-line_last all left line behind count so_far cut spells none =
-    let few = so_far.few in
-    so_far.says [] (subst (λ (list : List (List ℕ)). SayStimuli list []) (sym cut) (spells, ap lines_of none)) (omega arith)
-
--- The first two lines: what is faulty there, or behind them.
-pub first_wanted : (text : List ℕ) → lines_of text ≡ text ∷ [] → IsFirstFault text 1 End
-first_wanted text cut = fault_here start 1 (lines_of text) text [] End cut refl
-
-pub first_faulty : (text line behind : List ℕ) → lines_of text ≡ line ∷ lines_of behind → line ≢ version_line → IsFirstFault text 1 Version
-first_faulty text line behind cut other =
-    fault_here start 1 (lines_of text) line (lines_of behind) Version cut (before_some start line (lines_of behind) Version (some_lines behind) (λ same. cc) (refl, other))
-
--- the first line is the version
-pub record IsBegun (text : List ℕ) : Type 0 where
-  pub line : List ℕ
-  pub behind : List ℕ
-  pub cut : lines_of text ≡ line ∷ lines_of behind
-  pub version : line ≡ version_line
-
-second_fault : (text : List ℕ) (first : IsBegun text) (number : ℕ) (fault : Fault) → IsFirstFaultFrom begun 2 (lines_of first.behind) number fault → IsFirstFault text number fault
-second_fault text first number fault is =
-    fault_behind start 1 2 number (lines_of text) fault
-    (record { line = first.line; behind = lines_of first.behind; cut = first.cut; next = begun; goes = (first.version, refl) }) (omega arith) is
-
-pub second_wanted : (text : List ℕ) (first : IsBegun text) → lines_of first.behind ≡ first.behind ∷ [] → IsFirstFault text 2 End
-second_wanted text first last = second_fault text first 2 End (fault_here begun 2 (lines_of first.behind) first.behind [] End last refl)
-
--- ... and a second line stands behind it
-pub record HasSecond (text : List ℕ) : Type 0 where
-  pub first : IsBegun text
-  pub tag_line : List ℕ
-  pub more : List ℕ
-  pub next : lines_of first.behind ≡ tag_line ∷ lines_of more
-
-pub second_faulty : (text : List ℕ) (second : HasSecond text) (fault : Fault) → IsFaultyHere begun second.tag_line fault → IsFirstFault text 2 fault
-second_faulty text second fault faulty =
-    second_fault text second.first 2 fault
-    (fault_here begun 2 (lines_of second.first.behind) second.tag_line (lines_of second.more) fault second.next
-    (before_some begun second.tag_line (lines_of second.more) fault (some_lines second.more) (λ same. cc) faulty))
-
-pub later_faulty : (text : List ℕ) (second : HasSecond text) (tag : TagSpec) (number : ℕ) (fault : Fault) → SpellsTag (fields_of second.tag_line) tag
-    → IsFirstFaultFrom (within 0) 3 (lines_of second.more) number fault → IsFirstFault text number fault
-later_faulty text second tag number fault spells is =
-    second_fault text second.first number fault
-    (fault_behind begun 2 3 number (lines_of second.first.behind) fault
-    (record {
-      line = second.tag_line;
-      behind = lines_of second.more;
-      cut = second.next;
-      next = within 0;
-      goes = record { tag = tag; spells = spells; leads = refl };
-    }) (omega arith) is)
-
--- ... and where nothing is, these are the lines of a probe
-pub probe_cut : (text : List ℕ) (second : HasSecond text) → lines_of text ≡ version_line ∷ second.tag_line ∷ lines_of second.more
-probe_cut text second =
-    second.first.cut ∙ ap₂ (λ (first : List ℕ) (rest : List (List ℕ)). first ∷ rest) second.first.version second.next
 
 -- What the first line that is left says is done to the tag is the first that is done to it.
 first_of : LineLaws → (line : List ℕ) (behind : List (List ℕ)) (stimulus : Stimulus) (said : List Stimulus)

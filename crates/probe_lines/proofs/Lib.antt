@@ -2,7 +2,6 @@ mod EventTexts
 mod LineTexts
 mod TagLines
 mod Walks
-mod OneFault
 mod Checking
 mod PlayedParts
 mod HeardAnswers

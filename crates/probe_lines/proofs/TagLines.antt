@@ -12,8 +12,8 @@ use Rattle.scenario_lines.specs.Reading.{MisreadsTag}
 use Rattle.scenario_lines.specs.Spelling.{tag_fields}
 use Rattle.text_fields.specs.NamedFields.{AreFilled}
 use Rattle.text_fields.specs.laws.NamedFieldLaws.{same_behind}
-use Rattle.probe_lines.specs.declared.fault.Fault.{Fault}
-use Rattle.probe_lines.specs.declared.fault.Fault.TheVariants.{Extra, End, Version, Word, Limit, Shape, Number, Pc}
+use Rattle.checked_lines.specs.declared.fault.FaultReason.{FaultReason}
+use Rattle.checked_lines.specs.declared.fault.FaultReason.TheVariants.{Word, Shape, Number, Pc}
 use Rattle.probe_lines.specs.laws.LineLaws.{TagLineLaws}
 use Rattle.probe_lines.specs.ProbeLine.{SpellsTag}
 use Rattle.probe_lines.specs.ProbeText.{BeginsAsTag, IsFaultyTagLine}
@@ -45,40 +45,34 @@ tag_told known fields one other spells spells' =
     let same = known.told fields (lines.Tag one) (lines.Tag other) (as_line fields one spells) (as_line fields other spells') in
     cc
 
-tag_not_faulty : Known → (fields : List (List ℕ)) (tag : TagSpec) (fault : Fault) → SpellsTag fields tag → IsFaultyTagLine fields fault → ⊥
+tag_not_faulty : Known → (fields : List (List ℕ)) (tag : TagSpec) (fault : FaultReason) → SpellsTag fields tag → IsFaultyTagLine fields fault → ⊥
 tag_not_faulty known fields tag Word spells faulty = faulty (record { others = tag_fields tag; first = spells.spelling })
 tag_not_faulty known fields tag Shape spells faulty =
     known.not_faulty fields (lines.Tag tag) reasons.Shape (as_line fields tag spells) (shape_of_line fields faulty.0 faulty.1)
 tag_not_faulty known fields tag Number spells faulty = faulty.1.1 tag spells.is.form (same_others fields (tag_fields tag) faulty.0 spells.spelling)
 tag_not_faulty known fields tag Pc spells faulty =
     known.not_faulty fields (lines.Tag tag) reasons.Pc (as_line fields tag spells) (pc_of_line fields faulty.0 faulty.1)
-tag_not_faulty known fields tag Extra spells faulty = faulty
-tag_not_faulty known fields tag End spells faulty = faulty
-tag_not_faulty known fields tag Version spells faulty = faulty
-tag_not_faulty known fields tag Limit spells faulty = faulty
+tag_not_faulty known fields tag fault spells faulty = faulty
 
 -- the fault of fields that begin as a tag
-abbrev IsBehindTag : List (List ℕ) → Fault → Type 0
+abbrev IsBehindTag : List (List ℕ) → FaultReason → Type 0
 IsBehindTag fields fault =
     ((fault ≡ Shape) × (begins : BeginsAsTag fields) × MisreadsTag begins.others reasons.Shape)
     ⊎ (((fault ≡ Number) × (begins : BeginsAsTag fields) × MisreadsTag begins.others reasons.Number)
     ⊎ ((fault ≡ Pc) × (begins : BeginsAsTag fields) × MisreadsTag begins.others reasons.Pc))
 
 -- either the first field is another, or it is the one of a tag
-abbrev IsOneOf : List (List ℕ) → Fault → Type 0
+abbrev IsOneOf : List (List ℕ) → FaultReason → Type 0
 IsOneOf fields fault = ((fault ≡ Word) × (¬ BeginsAsTag fields)) ⊎ IsBehindTag fields fault
 
-one_of : (fields : List (List ℕ)) (fault : Fault) → IsFaultyTagLine fields fault → IsOneOf fields fault
+one_of : (fields : List (List ℕ)) (fault : FaultReason) → IsFaultyTagLine fields fault → IsOneOf fields fault
 one_of fields Word faulty = inl (refl, faulty)
 one_of fields Shape faulty = inr (inl (refl, faulty.0, faulty.1))
 one_of fields Number faulty = inr (inr (inl (refl, faulty.0, faulty.1)))
 one_of fields Pc faulty = inr (inr (inr (refl, faulty.0, faulty.1)))
-one_of fields Extra faulty = absurd faulty
-one_of fields End faulty = absurd faulty
-one_of fields Version faulty = absurd faulty
-one_of fields Limit faulty = absurd faulty
+one_of fields fault faulty = absurd faulty
 
-begun : (fields : List (List ℕ)) (fault : Fault) → IsBehindTag fields fault → BeginsAsTag fields
+begun : (fields : List (List ℕ)) (fault : FaultReason) → IsBehindTag fields fault → BeginsAsTag fields
 begun fields fault (inl shape) = shape.1
 begun fields fault (inr (inl number)) = number.1
 begun fields fault (inr (inr pc)) = pc.1
@@ -98,7 +92,7 @@ shape_or_pc known fields begins begins' shape pc =
     let same = known.one_fault fields reasons.Shape reasons.Pc (shape_of_line fields begins shape) (pc_of_line fields begins' pc) in
     cc
 
-one_behind : Known → (fields : List (List ℕ)) (one other : Fault) → IsBehindTag fields one → IsBehindTag fields other → one ≡ other
+one_behind : Known → (fields : List (List ℕ)) (one other : FaultReason) → IsBehindTag fields one → IsBehindTag fields other → one ≡ other
 one_behind known fields one other (inl a) (inl b) = a.0 ∙ sym b.0
 one_behind known fields one other (inl a) (inr (inl b)) = absurd (shape_or_number fields a.1 b.1 a.2 b.2)
 one_behind known fields one other (inl a) (inr (inr b)) = absurd (shape_or_pc known fields a.1 b.1 a.2 b.2)
@@ -109,13 +103,13 @@ one_behind known fields one other (inr (inr a)) (inl b) = absurd (shape_or_pc kn
 one_behind known fields one other (inr (inr a)) (inr (inl b)) = absurd (number_or_pc fields b.1 a.1 b.2 a.2)
 one_behind known fields one other (inr (inr a)) (inr (inr b)) = a.0 ∙ sym b.0
 
-one_fault_of : Known → (fields : List (List ℕ)) (one other : Fault) → IsOneOf fields one → IsOneOf fields other → one ≡ other
+one_fault_of : Known → (fields : List (List ℕ)) (one other : FaultReason) → IsOneOf fields one → IsOneOf fields other → one ≡ other
 one_fault_of known fields one other (inl a) (inl b) = a.0 ∙ sym b.0
 one_fault_of known fields one other (inl a) (inr b) = absurd (a.1 (begun fields other b))
 one_fault_of known fields one other (inr a) (inl b) = absurd (b.1 (begun fields one a))
 one_fault_of known fields one other (inr a) (inr b) = one_behind known fields one other a b
 
-one_tag_fault : Known → (fields : List (List ℕ)) (one other : Fault) → IsFaultyTagLine fields one → IsFaultyTagLine fields other → one ≡ other
+one_tag_fault : Known → (fields : List (List ℕ)) (one other : FaultReason) → IsFaultyTagLine fields one → IsFaultyTagLine fields other → one ≡ other
 one_tag_fault known fields one other faulty faulty' = one_fault_of known fields one other (one_of fields one faulty) (one_of fields other faulty')
 
 pub tags_lawful : Known → TagLineLaws

@@ -2,7 +2,6 @@ pub mod Said
 pub mod ProbeLine
 pub mod LineFaults
 pub mod ProbeText
-pub mod FaultWords
 pub mod Answers
 pub mod Heard
 pub mod Played

@@ -2,9 +2,9 @@
 //! call the laws that it follows from.
 ghost use Rattle.std.specs.Prelude.{◌≡◌, ℕ, List};
 ghost use Rattle.std.specs.List.{AllZip};
+ghost use Rattle.checked_lines.specs.declared.fault.FaultReason.{FaultReason};
 ghost use Rattle.scenario_lines.specs.declared.tag.TagSpec.{TagSpec};
 ghost use Rattle.tag_machine.specs.TagValue.{TagValue};
-ghost use Rattle.probe_lines.specs.declared.fault.Fault.{Fault};
 ghost use Rattle.probe_lines.specs.Said.{Stimulus, StimulusEffect};
 ghost use Rattle.probe_lines.specs.Answers.{HasEffect, Tells};
 ghost use Rattle.probe_lines.specs.laws.LineLaws.{LineLaws, TagLineLaws};
@@ -56,14 +56,14 @@ pub fn probes_are_told_apart()
 
 /// The text of a probe has no faulty line.
 pub fn probe_texts_are_not_faulty()
-    ensures { (bytes : List ℕ) (tag : TagSpec) (said : List Stimulus) (number : ℕ) (fault : Fault) → IsProbe bytes tag said → IsFirstFault bytes number fault → ⊥ }
+    ensures { (bytes : List ℕ) (tag : TagSpec) (said : List Stimulus) (number : ℕ) (fault : FaultReason) → IsProbe bytes tag said → IsFirstFault bytes number fault → ⊥ }
 {
     line_laws();
 }
 
 /// A text has at most one first faulty line, which has one first reason.
 pub fn probe_texts_have_one_fault()
-    ensures { (bytes : List ℕ) (one other : ℕ) (fault reason : Fault) → IsFirstFault bytes one fault → IsFirstFault bytes other reason
+    ensures { (bytes : List ℕ) (one other : ℕ) (fault reason : FaultReason) → IsFirstFault bytes one fault → IsFirstFault bytes other reason
         → (one ≡ other) × (fault ≡ reason) }
 {
     line_laws();

@@ -4,7 +4,6 @@
 
 mod effect;
 mod events;
-mod fault;
 mod laws;
 mod line;
 mod playing;
@@ -13,8 +12,8 @@ mod probe;
 mod reading;
 mod stimuli;
 
+pub use checked_lines::{FaultReason, FaultyLine, fault_text};
 pub use effect::SaidEffect;
-pub use fault::{Fault, ProbeFault, fault_text};
 pub use laws::{
     probe_texts_are_not_faulty, probe_texts_have_one_fault, probes_are_told_apart,
     probes_have_one_text, stimuli_have_one_effect,

@@ -1,12 +1,13 @@
 //! A probe, read from its text.
 ghost use Rattle.std.specs.Prelude.{◌≡◌, ◌↔◌, List, IfOk, IfErr, IsTrue};
+ghost use Rattle.scenario_lines.specs.TagForm.{IsTag};
 ghost use Rattle.probe_lines.specs.Said.{Stimulus};
 ghost use Rattle.probe_lines.specs.ProbeLine.{version_line};
 ghost use Rattle.probe_lines.specs.ProbeText.{AreStimuli, IsFirstFault, IsProbe};
 
-use crate::fault::{Fault, ProbeFault};
 use crate::reading::read_tag_line;
 use crate::stimuli::Stimuli;
+use checked_lines::{FaultReason, FaultyLine};
 use scenario_lines::TagText;
 use text_fields::split_line;
 
@@ -29,31 +30,32 @@ fn is_version(line: &[u8]) -> bool
 /// # Errors
 ///
 /// The first faulty line, counted from 1, with the first reason that applies to it.
-pub fn read_probe(text: &[u8]) -> Result<Probe<'_>, ProbeFault>
+pub fn read_probe(text: &[u8]) -> Result<Probe<'_>, FaultyLine>
     ensures ok { IfOk result (λ probe. (said : List Stimulus) × IsProbe text.now probe.tag said × AreStimuli probe.stimuli said) }
+    ensures tag { IfOk result (λ probe. IsTag probe.tag) }
     ensures refused { IfErr result (λ fault. IsFirstFault text.now fault.line fault.reason) }
 {
     let Some((line, behind)) = split_line(text) else {
-        return Err(ProbeFault {
+        return Err(FaultyLine {
             line: 1,
-            reason: Fault::End,
+            reason: FaultReason::End,
         });
     };
     if !is_version(line) {
-        return Err(ProbeFault {
+        return Err(FaultyLine {
             line: 1,
-            reason: Fault::Version,
+            reason: FaultReason::Version,
         });
     }
     let Some((line, behind)) = split_line(behind) else {
-        return Err(ProbeFault {
+        return Err(FaultyLine {
             line: 2,
-            reason: Fault::End,
+            reason: FaultReason::End,
         });
     };
     let tag = match read_tag_line(line) {
         Ok(tag) => tag,
-        Err(reason) => return Err(ProbeFault { line: 2, reason }),
+        Err(reason) => return Err(FaultyLine { line: 2, reason }),
     };
     match Stimuli::new(behind) {
         Ok(stimuli) => Ok(Probe { tag, stimuli }),

@@ -10,9 +10,9 @@ ghost use Rattle.scenario_lines.specs.Names.{keyword_text};
 ghost use Rattle.probe_lines.specs.ProbeText.{BeginsAsTag, HasRoom, IsFaultyBehind, IsFaultyTagLine, IsTooMuch, most_stimuli};
 
 use crate::events::read_event;
-use crate::fault::Fault;
 use crate::laws::line_laws;
 use crate::line::{LineWord, SaidLine, SaidStimulus};
+use checked_lines::FaultReason;
 use command_grammar::Command;
 use command_text::read_command_to;
 use scenario_lines::{LineFault, TagText, read_tag};
@@ -139,29 +139,29 @@ pub(crate) fn read_behind<'a>(
     line: &'a [u8],
     count: u32,
     command: &mut Command,
-) -> Result<SaidLine<'a>, Fault>
+) -> Result<SaidLine<'a>, FaultReason>
     ensures ok { IfOk result (λ said. SpellsProbeLine (fields_of line.now) (probe_line_with said command.new) × HasRoom count (probe_line_with said command.new)) }
     ensures refused { IfErr result (IsFaultyBehind count (fields_of line.now)) }
 {
     // By these laws a line says something or is faulty for one reason.
     line_laws();
     match read_probe_line(line, command) {
-        Err(FieldsFault::Word) => Err(Fault::Word),
+        Err(FieldsFault::Word) => Err(FaultReason::Word),
         Err(FieldsFault::Shape) => {
             if is_too_much(line, count) {
-                return Err(Fault::Limit);
+                return Err(FaultReason::Limit);
             }
-            Err(Fault::Shape)
+            Err(FaultReason::Shape)
         }
         Err(FieldsFault::Number) => {
             if is_too_much(line, count) {
-                return Err(Fault::Limit);
+                return Err(FaultReason::Limit);
             }
-            Err(Fault::Number)
+            Err(FaultReason::Number)
         }
         Ok(SaidLine::Stimulus(stimulus)) => {
             if count >= MOST_STIMULI {
-                return Err(Fault::Limit);
+                return Err(FaultReason::Limit);
             }
             Ok(SaidLine::Stimulus(stimulus))
         }
@@ -194,18 +194,18 @@ fn behind_tag(line: &[u8]) -> Option<Fields<'_>>
 /// # Errors
 ///
 /// The first reason for which it says none.
-pub(crate) fn read_tag_line(line: &[u8]) -> Result<TagText<'_>, Fault>
+pub(crate) fn read_tag_line(line: &[u8]) -> Result<TagText<'_>, FaultReason>
     ensures ok { IfOk result (SpellsTag (fields_of line.now)) }
     ensures refused { IfErr result (IsFaultyTagLine (fields_of line.now)) }
 {
     let Some(others) = behind_tag(line) else {
-        return Err(Fault::Word);
+        return Err(FaultReason::Word);
     };
     match read_tag(others) {
         Ok(tag) => Ok(tag),
-        Err(LineFault::Shape) => Err(Fault::Shape),
-        Err(LineFault::Number) => Err(Fault::Number),
-        Err(LineFault::Pc) => Err(Fault::Pc),
+        Err(LineFault::Shape) => Err(FaultReason::Shape),
+        Err(LineFault::Number) => Err(FaultReason::Number),
+        Err(LineFault::Pc) => Err(FaultReason::Pc),
         // The fields of a tag have no other fault.
         Err(_) => unreachable!(),
     }

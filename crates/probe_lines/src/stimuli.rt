@@ -3,12 +3,12 @@ ghost use Rattle.std.specs.Prelude.{◌≡◌, ◌≤◌, ◌<◌, ◌+◌, ℕ,
 ghost use Rattle.text_fields.specs.Lines.{lines_of};
 ghost use Rattle.probe_lines.specs.Said.{Does, Stimulus, stimulus_with};
 ghost use Rattle.probe_lines.specs.ProbeLine.{IsProbeLine};
-ghost use Rattle.probe_lines.specs.ProbeText.{AreStimuli, IsFirstFaultFrom, SayStimuli, within};
+ghost use Rattle.probe_lines.specs.ProbeText.{EndProbe, IsFirstFaultBehind, SayStimuli};
 
-use crate::fault::{Fault, ProbeFault};
 use crate::laws::line_laws;
 use crate::line::{SaidLine, SaidStimulus};
 use crate::reading::{read_behind, read_probe_line};
+use checked_lines::{FaultReason, FaultyLine};
 use command_grammar::Command;
 use std::marker::Model;
 use text_fields::split_line;
@@ -36,11 +36,11 @@ impl<'a> Model for Stimuli<'a> {
 }
 
 /// A fault of the line behind that of the tag and so many more.
-fn fault_behind(count: u32, reason: Fault) -> ProbeFault
+fn fault_behind(count: u32, reason: FaultReason) -> FaultyLine
     requires { count ≤ 70001 }
     ensures { result ≡ record { line = 3 + count; reason = reason } }
 {
-    ProbeFault {
+    FaultyLine {
         line: FIRST_NUMBER + count,
         reason,
     }
@@ -52,16 +52,16 @@ impl<'a> Stimuli<'a> {
     /// # Errors
     ///
     /// The first faulty line.
-    pub(crate) fn new(text: &'a [u8]) -> Result<Stimuli<'a>, ProbeFault>
-        ensures ok { IfOk result (λ it. (it ≡ lines_of text.now) × (said : List Stimulus) × AreStimuli (lines_of text.now) said) }
-        ensures refused { IfErr result (λ fault. IsFirstFaultFrom (within 0) 3 (lines_of text.now) fault.line fault.reason) }
+    pub(crate) fn new(text: &'a [u8]) -> Result<Stimuli<'a>, FaultyLine>
+        ensures ok { IfOk result (λ it. (it ≡ lines_of text.now) × EndProbe (lines_of text.now)) }
+        ensures refused { IfErr result (λ fault. IsFirstFaultBehind (lines_of text.now) fault.line fault.reason) }
     {
         let mut command = Command::Nak;
         let mut rest = text;
         let mut count = 0;
         loop {
             let Some((line, behind)) = split_line(rest) else {
-                return Err(fault_behind(count, Fault::End));
+                return Err(fault_behind(count, FaultReason::End));
             };
             match read_behind(line, count, &mut command) {
                 Ok(SaidLine::Stimulus(_)) => {
@@ -72,7 +72,7 @@ impl<'a> Stimuli<'a> {
                     return if behind.is_empty() {
                         Ok(Stimuli { rest: text })
                     } else {
-                        Err(fault_behind(count + 1, Fault::Extra))
+                        Err(fault_behind(count + 1, FaultReason::Extra))
                     };
                 }
                 Err(fault) => return Err(fault_behind(count, fault)),

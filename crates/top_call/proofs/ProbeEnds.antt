@@ -5,10 +5,10 @@ use Rattle.report_lines.specs.declared.mode.PlayFault.{PlayFault}
 use Rattle.report_lines.specs.declared.mode.PlayFault.TheVariants as plays
 use Rattle.tag_machine.specs.TagValue.{TagValue}
 use Rattle.text_fields.specs.FaultLine.{fault_line}
-use Rattle.probe_lines.specs.declared.fault.Fault.{Fault}
+use Rattle.checked_lines.specs.FaultWords.{reason_word}
+use Rattle.checked_lines.specs.declared.fault.FaultReason.{FaultReason}
 use Rattle.probe_lines.specs.Said.{Stimulus}
 use Rattle.probe_lines.specs.Answers.{Tells, tag_of}
-use Rattle.probe_lines.specs.FaultWords.{fault_word}
 use Rattle.probe_lines.specs.Played.{HasPlayed, WritesPart}
 use Rattle.probe_lines.specs.ProbeText.{IsFirstFault, IsProbe, IsProbeText}
 use Rattle.top_call.specs.Ending.{end_of_play}
@@ -30,11 +30,11 @@ HasOneText = (tag : TagValue) (said : List Stimulus) (one other : List ℕ) → 
 
 -- and which has no fault,
 abbrev pub AreNotFaulty : Type 0
-AreNotFaulty = (bytes : List ℕ) (tag : TagSpec) (said : List Stimulus) (number : ℕ) (fault : Fault) → IsProbe bytes tag said → IsFirstFault bytes number fault → ⊥
+AreNotFaulty = (bytes : List ℕ) (tag : TagSpec) (said : List Stimulus) (number : ℕ) (fault : FaultReason) → IsProbe bytes tag said → IsFirstFault bytes number fault → ⊥
 
 -- and bytes have one first fault
 abbrev pub HaveOneFault : Type 0
-HaveOneFault = (bytes : List ℕ) (one other : ℕ) (fault reason : Fault) → IsFirstFault bytes one fault → IsFirstFault bytes other reason → (one ≡ other) × (fault ≡ reason)
+HaveOneFault = (bytes : List ℕ) (one other : ℕ) (fault reason : FaultReason) → IsFirstFault bytes one fault → IsFirstFault bytes other reason → (one ≡ other) × (fault ≡ reason)
 
 pub same_text : AreToldApart → HasOneText → (bytes one other : List ℕ) → TellsProbe bytes one → TellsProbe bytes other → one ≡ other
 same_text told once bytes one other left right =
@@ -45,12 +45,12 @@ same_text told once bytes one other left right =
 
 pub same_refusal : HaveOneFault → (bytes one other : List ℕ) → RefusesProbe bytes one → RefusesProbe bytes other → one ≡ other
 same_refusal one_fault bytes one other left right =
-    let faults = one_fault bytes left.number right.number left.fault right.fault left.first right.first in
-    left.line ∙ ap (λ number. fault_line number (fault_word left.fault)) faults.0 ∙ ap (λ fault. fault_line right.number (fault_word fault)) faults.1 ∙ sym right.line
+    let faults = one_fault bytes left.number right.number left.reason right.reason left.first right.first in
+    left.line ∙ ap (λ number. fault_line number (reason_word left.reason)) faults.0 ∙ ap (λ reason. fault_line right.number (reason_word reason)) faults.1 ∙ sym right.line
 
 pub text_not_refused : AreNotFaulty → (bytes text : List ℕ) → IsProbeText bytes → RefusesProbe bytes text → ⊥
 text_not_refused not_faulty bytes text allowed refused =
-    not_faulty bytes allowed.tag allowed.said refused.number refused.fault allowed.is refused.first
+    not_faulty bytes allowed.tag allowed.said refused.number refused.reason allowed.is refused.first
 
 -- what is there of a text is a front of the defined one
 front_of_probe : (bytes : List ℕ) (tag : TagSpec) (said : List Stimulus) (written written' : Option (List ℕ)) → IsProbe bytes tag said

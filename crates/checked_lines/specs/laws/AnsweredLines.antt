@@ -1,17 +1,19 @@
 -- The answers to the lines before a place of the input.
-use Rattle.std.proofs.Common.{◌≡◌, ◌≢◌, ℕ, ◌+◌, List, [], ◌∷◌, ◌++◌, length, refl, sym, ◌∙◌, ap, arith, append_assoc, length-append}
+use Rattle.std.proofs.Common.{◌≡◌, ◌≢◌, ℕ, ◌+◌, List, [], ◌∷◌, ◌++◌, length, refl, sym, ◌∙◌, ap, subst, arith, append_assoc, length-append}
 use Rattle.std.specs.List.{AllZip, flat_map}
 use Rattle.std.proofs.lemmas.List.Elements.{All-nil, All-push}
 use Rattle.std.proofs.lemmas.Grind.{flat_map-append}
 use Rattle.text_fields.specs.Lines.{Lacks, lines_of, fields_of, line_feed, text_with}
-use Rattle.text_fields.specs.laws.LineLaws.{pieces_between-cut, some_line, whole_piece}
+use Rattle.text_fields.specs.laws.LineLaws.{pieces_between-cut, some_line, some_piece, whole_piece}
 use Rattle.text_fields.specs.laws.ListLaws.{flat_map_push, zip_push}
-use Rattle.checked_lines.specs.LineRules.{LineRules, AskFor, AskForSome, Answers, IsFirstFault}
+use Rattle.checked_lines.specs.LineRules.{LineRules, AskFor, AskForSome, Answers, IsFirstFault, text_rules}
+use Rattle.checked_lines.specs.TextRules.{Faulty, HasOutcomeFrom}
 use Rattle.checked_lines.specs.Answered.{AddsLineFor, AsksTo, AnswersTo}
 use Rattle.checked_lines.specs.declared.fault.FaultReason.{FaultReason}
 use Rattle.checked_lines.specs.declared.fault.FaultReason.TheVariants.{End}
 use Rattle.checked_lines.specs.laws.OneLine.{AsksForSome, HaveAnswers}
-use Rattle.checked_lines.specs.laws.FirstFault.{lines_behind, faulty_before}
+use Rattle.checked_lines.specs.laws.FirstFault.{asked_lead, lines_behind}
+use Rattle.checked_lines.specs.laws.ReadingOn.{outcome_behind, stops_here}
 
 -- the bytes begin with a line and its line feed, and go on behind it
 pub record WholeLine (bytes : List ℕ) : Type 0 where
@@ -81,6 +83,14 @@ module _ {R A : Type 0} (rules : LineRules R A) where
         lines = adds.line ∙ ap (λ text. text ++ rules.line_of adds.answer) so_far.lines ∙ sym (flat_map_push rules.line_of so_far.answers adds.answer);
       }
 
+  -- a fault behind lines that ask for something
+  fault_behind : (lines before left : List (List ℕ)) (asked : List R) (number : ℕ) (reason : FaultReason) → lines ≡ before ++ left → left ≢ [] → AllZip rules.asks before asked
+      → number ≡ length before + 1 → HasOutcomeFrom (text_rules rules) tt number left (Faulty number reason)
+      → HasOutcomeFrom (text_rules rules) tt 1 lines (Faulty number reason)
+  fault_behind lines before left asked number reason cut some asks count is =
+      subst (λ (all : List (List ℕ)). HasOutcomeFrom (text_rules rules) tt 1 all (Faulty number reason)) (sym cut)
+      (outcome_behind (text_rules rules) tt tt 1 number before left (Faulty number reason) some (omega (arith, count)) (asked_lead rules before asked asks) is)
+
   -- the next line is the first faulty one, whatever comes behind it
   pub fault_here : (input rest more : List ℕ) (number : ℕ) (next : WholeLine rest) (reason : FaultReason) → AsksTo rules input rest number
       → rules.is_faulty (fields_of next.line) reason → IsFirstFault rules (input ++ more) (record { line = number; reason = reason })
@@ -91,32 +101,19 @@ module _ {R A : Type 0} (rules : LineRules R A) where
       ap (λ bytes. bytes ++ more) (so_far.cut ∙ ap (λ bytes. text_with so_far.before ++ bytes) next.cut)
       ∙ append_assoc (text_with so_far.before) (line ++ line_feed ∷ next.behind) more
       ∙ ap (λ bytes. text_with so_far.before ++ bytes) (append_assoc line (line_feed ∷ next.behind) more) in
-      record {
-        before = so_far.before;
-        asked = so_far.asked;
-        line = line;
-        behind = lines_of behind;
-        cut =
-            ap lines_of there ∙ lines_behind so_far.before (line ++ line_feed ∷ behind) so_far.whole
-            ∙ ap (λ lines. so_far.before ++ lines) (pieces_between-cut line_feed (line ++ line_feed ∷ behind) line behind next.lacks refl);
-        spelled = so_far.spelled;
-        number = so_far.count;
-        faulty = faulty_before rules (lines_of behind) line reason (some_line behind) faulty;
-      }
+      let cut : lines_of (input ++ more) ≡ so_far.before ++ line ∷ lines_of behind =
+      ap lines_of there ∙ lines_behind so_far.before (line ++ line_feed ∷ behind) so_far.whole
+      ∙ ap (λ lines. so_far.before ++ lines) (pieces_between-cut line_feed (line ++ line_feed ∷ behind) line behind next.lacks refl) in
+      fault_behind (lines_of (input ++ more)) so_far.before (line ∷ lines_of behind) so_far.asked number reason cut (λ none. cc) so_far.spelled so_far.count
+      (stops_here (text_rules rules) tt number line (lines_of behind) reason (some_piece line_feed behind) faulty)
 
   -- the last line has no line feed
   pub fault_last : (input part : List ℕ) (number : ℕ) → AsksTo rules input part number → Lacks line_feed part → part ≢ []
       → IsFirstFault rules input (record { line = number; reason = End })
-  fault_last input part number so_far lacks some = record {
-    before = so_far.before;
-    asked = so_far.asked;
-    line = part;
-    behind = [];
-    cut = ap lines_of so_far.cut ∙ lines_behind so_far.before part so_far.whole ∙ ap (λ lines. so_far.before ++ lines) (whole_piece line_feed part lacks);
-    spelled = so_far.spelled;
-    number = so_far.count;
-    faulty = (some, refl);
-  }
+  fault_last input part number so_far lacks some =
+      fault_behind (lines_of input) so_far.before (part ∷ []) so_far.asked number End
+      (ap lines_of so_far.cut ∙ lines_behind so_far.before part so_far.whole ∙ ap (λ lines. so_far.before ++ lines) (whole_piece line_feed part lacks)) (λ none. cc)
+      so_far.spelled so_far.count ((λ none may. some none), refl, refl)
 
   -- each line asks for something
   pub asks_all : (input rest : List ℕ) (number : ℕ) → (so_far : AsksTo rules input rest number) → rest ≡ [] → AskFor rules input so_far.asked

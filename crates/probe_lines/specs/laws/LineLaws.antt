@@ -1,8 +1,8 @@
 -- What single lines of a probe say, together.
 use Rattle.std.specs.Prelude.{◌≡◌, ℕ, List}
 use Rattle.text_fields.specs.declared.fields_fault.FieldsFault.{FieldsFault}
+use Rattle.checked_lines.specs.declared.fault.FaultReason.{FaultReason}
 use Rattle.scenario_lines.specs.declared.tag.TagSpec.{TagSpec}
-use Rattle.probe_lines.specs.declared.fault.Fault.{Fault}
 use Rattle.probe_lines.specs.Said.{ProbeLine}
 use Rattle.probe_lines.specs.LineFaults.{IsFaultyProbeLine}
 use Rattle.probe_lines.specs.ProbeLine.{SpellsProbeLine, SpellsTag}
@@ -17,5 +17,5 @@ pub record LineLaws : Type 0 where
 -- ... and the same of a tag
 pub record TagLineLaws : Type 0 where
   pub told : (fields : List (List ℕ)) (one other : TagSpec) → SpellsTag fields one → SpellsTag fields other → one ≡ other
-  pub not_faulty : (fields : List (List ℕ)) (tag : TagSpec) (fault : Fault) → SpellsTag fields tag → IsFaultyTagLine fields fault → ⊥
-  pub one_fault : (fields : List (List ℕ)) (one other : Fault) → IsFaultyTagLine fields one → IsFaultyTagLine fields other → one ≡ other
+  pub not_faulty : (fields : List (List ℕ)) (tag : TagSpec) (fault : FaultReason) → SpellsTag fields tag → IsFaultyTagLine fields fault → ⊥
+  pub one_fault : (fields : List (List ℕ)) (one other : FaultReason) → IsFaultyTagLine fields one → IsFaultyTagLine fields other → one ≡ other

@@ -1,12 +1,10 @@
 -- Profile: what `probe` writes for the bytes that it read. The whole input is checked before a line is written.
-use Rattle.std.specs.Prelude.{◌≡◌, ℕ, true, List}
-use Rattle.text_fields.specs.FaultLine.{fault_line}
+use Rattle.std.specs.Prelude.{ℕ, true, List}
+use Rattle.checked_lines.specs.TextRules.{IsFaultText}
 use Rattle.scenario_lines.specs.declared.tag.TagSpec.{TagSpec}
-use Rattle.probe_lines.specs.declared.fault.Fault.{Fault}
 use Rattle.probe_lines.specs.Said.{Stimulus}
 use Rattle.probe_lines.specs.Answers.{Tells, tag_of}
-use Rattle.probe_lines.specs.FaultWords.{fault_word}
-use Rattle.probe_lines.specs.ProbeText.{IsFirstFault, IsProbe, IsProbeText}
+use Rattle.probe_lines.specs.ProbeText.{IsProbe, IsProbeText, probe_rules}
 use Rattle.top_call.specs.Job.{Job}
 
 -- the text tells what comes of what the bytes say, done to the tag that they give
@@ -17,11 +15,8 @@ pub record TellsProbe (bytes text : List ℕ) : Type 0 where
   pub tells : Tells (tag_of tag) said text
 
 -- the text is the fault line of bytes that are no probe
-pub record RefusesProbe (bytes text : List ℕ) : Type 0 where
-  pub number : ℕ
-  pub fault : Fault
-  pub first : IsFirstFault bytes number fault
-  pub line : text ≡ fault_line number (fault_word fault)
+abbrev pub RefusesProbe : (bytes text : List ℕ) → Type 0
+RefusesProbe bytes text = IsFaultText probe_rules bytes text
 
 -- what comes of what is done to one tag
 abbrev pub probe_job : Job

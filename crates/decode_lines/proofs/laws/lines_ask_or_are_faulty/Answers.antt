@@ -1,9 +1,13 @@
-use Rattle.std.proofs.Common.{◌≡◌, ◌∷◌, arith, subst}
+use Rattle.std.proofs.Common.{◌≡◌, ◌∷◌, arith, inr, subst}
 use Rattle.text_fields.specs.Lines.{fields_of}
+use Rattle.checked_lines.specs.declared.fault.FaultReason.TheVariants.{Word}
 use Rattle.decode_lines.specs.Request.{request_word}
 use Rattle.decode_lines.specs.declared.request.RequestKind.{RequestKind}
 use Rattle.decode_lines.proofs.AskedOrFaulty.{by_intervals, by_others}
 use Rattle.decode_lines.proofs.laws.lines_ask_or_are_faulty.Goals as goal
+
+pub returns-in_default : goal.returns-in_default
+returns-in_default c = inr (Word, c.in_default.ensures.none)
 
 pub returns-in-Pie : goal.returns-in-Pie
 returns-in-Pie c =

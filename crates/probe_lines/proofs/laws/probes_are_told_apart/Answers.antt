@@ -1,4 +1,4 @@
-use Rattle.probe_lines.proofs.OneFault.{probe_told}
+use Rattle.probe_lines.proofs.Walks.{probe_told}
 use Rattle.probe_lines.proofs.laws.probes_are_told_apart.Goals as goal
 
 pub returns : goal.returns

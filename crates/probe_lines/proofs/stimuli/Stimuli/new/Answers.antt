@@ -2,42 +2,39 @@
 use Rattle.std.proofs.Common.{◌≢◌, [], ◌∙◌, ap, length, refl, sym}
 use Rattle.std.proofs.lemmas.Bool.{eqb-false, eqb-true}
 use Rattle.std.proofs.lemmas.List.{nil_from_length}
-use Rattle.text_fields.specs.Lines.{lines_of}
 use Rattle.probe_lines.specs.Said.{stimulus_with}
-use Rattle.probe_lines.proofs.Checking.{line_extra, line_faulty, line_last, line_wanted, one_read}
+use Rattle.probe_lines.proofs.Checking.{line_extra, line_faulty, line_last, line_wanted, none_said, one_said}
 use Rattle.probe_lines.proofs.stimuli.Stimuli.new.Goals as goal
+
+pub loop-line-init : goal.loop-line-init
+loop-line-init c = none_said c.args.text.now
 
 pub returns-in_default-clause-refused : goal.returns-in_default-clause-refused
 returns-in_default-clause-refused c =
-    rw c.fault_behind.ensures
-    (line_wanted (lines_of c.args.text.now) c.loop-line.rest.now c.loop-line.count c.loop-line.invariant c.in_default.ensures.whole)
+    rw c.fault_behind.ensures (line_wanted c.args.text.now c.loop-line.rest.now c.loop-line.count c.loop-line.invariant c.in_default.ensures.whole)
 
 pub loop-line-preserved : goal.loop-line-preserved
 loop-line-preserved c =
     let says = rw c.in-Ok-Stimulus.field-0-is at c.in-Ok-Stimulus.ensures.ok in
-    one_read (lines_of c.args.text.now) (lines_of c.loop-line.rest.now) c.loop-line.count
-    (record {
-      line = c.in-Some.line.now;
-      behind = lines_of c.in-Some.behind.now;
-      cut = c.in-Some.ensures.lines;
-      stimulus = stimulus_with c.in-Ok-Stimulus.field-0-0 c.read_behind.new.command;
-      spells = says.0;
-    }) c.loop-line.invariant says.1
+    one_said c.args.text.now c.loop-line.rest.now c.loop-line.count (record { line = c.in-Some.line.now; rest = c.in-Some.behind.now; cut = c.in-Some.ensures.lines })
+    (stimulus_with c.in-Ok-Stimulus.field-0-0 c.read_behind.new.command) c.loop-line.invariant says.0 says.1
 
 pub invariant_of-result : goal.invariant_of-result
 invariant_of-result c =
     let says = rw c.in-Ok-End.field-0-is at c.in-Ok-End.ensures.ok in
-    line_last (lines_of c.args.text.now) (lines_of c.loop-line.rest.now) c.in-Some.line.now c.in-Some.behind.now c.loop-line.count c.loop-line.invariant
-    c.in-Some.ensures.lines says.0
-    (nil_from_length c.in-Some.behind.now (eqb-true (length c.in-Some.behind.now) 0 (sym c.is_empty.ensures ∙ c.if-is_empty.true)))
+    let whole = line_last c.args.text.now c.loop-line.rest.now c.loop-line.count
+    (record { line = c.in-Some.line.now; rest = c.in-Some.behind.now; cut = c.in-Some.ensures.lines }) c.loop-line.invariant says.0
+    (nil_from_length c.in-Some.behind.now (eqb-true (length c.in-Some.behind.now) 0 (sym c.is_empty.ensures ∙ c.if-is_empty.true))) in
+    (whole.said, whole.are)
 
 pub returns-then-is_empty-clause-ok : goal.returns-then-is_empty-clause-ok
 returns-then-is_empty-clause-ok c =
-    let says = rw c.in-Ok-End.field-0-is at c.in-Ok-End.ensures.ok in
-    let whole = line_last (lines_of c.args.text.now) (lines_of c.loop-line.rest.now) c.in-Some.line.now c.in-Some.behind.now c.loop-line.count
-    c.loop-line.invariant c.in-Some.ensures.lines says.0
-    (nil_from_length c.in-Some.behind.now (eqb-true (length c.in-Some.behind.now) 0 (sym c.is_empty.ensures ∙ c.if-is_empty.true))) in
-    (refl, whole.0, whole.1)
+    let says = rw c.in-Ok-End.field-0-is at c.in-Ok-End.ensures.ok in (
+      refl,
+      line_last c.args.text.now c.loop-line.rest.now c.loop-line.count
+          (record { line = c.in-Some.line.now; rest = c.in-Some.behind.now; cut = c.in-Some.ensures.lines }) c.loop-line.invariant says.0
+          (nil_from_length c.in-Some.behind.now (eqb-true (length c.in-Some.behind.now) 0 (sym c.is_empty.ensures ∙ c.if-is_empty.true))),
+    )
 
 pub returns-else-is_empty-clause-refused : goal.returns-else-is_empty-clause-refused
 returns-else-is_empty-clause-refused c =
@@ -45,11 +42,11 @@ returns-else-is_empty-clause-refused c =
     let some : c.in-Some.behind.now ≢ [] = λ none.
     eqb-false (length c.in-Some.behind.now) 0 (sym c.is_empty.ensures ∙ c.if-is_empty.false) (ap length none) in
     rw c.fault_behind-else-is_empty.ensures
-    (line_extra (lines_of c.args.text.now) (lines_of c.loop-line.rest.now) c.in-Some.line.now c.in-Some.behind.now c.loop-line.count c.loop-line.invariant
-    c.in-Some.ensures.lines says.0 some)
+    (line_extra c.args.text.now c.loop-line.rest.now c.loop-line.count
+    (record { line = c.in-Some.line.now; rest = c.in-Some.behind.now; cut = c.in-Some.ensures.lines }) c.loop-line.invariant says.0 some)
 
 pub returns-in-Err-clause-refused : goal.returns-in-Err-clause-refused
 returns-in-Err-clause-refused c =
     rw c.fault_behind-in-Err.ensures
-    (line_faulty (lines_of c.args.text.now) (lines_of c.loop-line.rest.now) c.in-Some.line.now c.in-Some.behind.now c.loop-line.count c.in-Err.fault
-    c.loop-line.invariant c.in-Some.ensures.lines c.in-Err.ensures.refused)
+    (line_faulty c.args.text.now c.loop-line.rest.now c.loop-line.count
+    (record { line = c.in-Some.line.now; rest = c.in-Some.behind.now; cut = c.in-Some.ensures.lines }) c.in-Err.fault c.loop-line.invariant c.in-Err.ensures.refused)

@@ -14,4 +14,4 @@ pub returns-in_err-write_all-in-Err : goal.returns-in_err-write_all-in-Err
 returns-in_err-write_all-in-Err g c =
     let written = c.in_err-write_all-in-Err.ensures in
     write_failed encode_job _ _ c.fault_text-line.result.items _ (search rules)
-    (inr (record { fault = c.in-Err.fault; first = c.in-Err.ensures.refused; line = c.fault_text-line.ensures })) written.failed (rw c.as_slice.ensures.value at written.part)
+    (inr (record { number = c.in-Err.fault.line; reason = c.in-Err.fault.reason; first = c.in-Err.ensures.refused; line = c.fault_text-line.ensures })) written.failed (rw c.as_slice.ensures.value at written.part)

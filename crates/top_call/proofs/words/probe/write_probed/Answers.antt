@@ -6,7 +6,7 @@ use Rattle.top_call.proofs.ProbeEnds.{play_failed, played_whole}
 use Rattle.top_call.proofs.words.probe.write_probed.Goals as goal
 
 pub play-requires-clause-tag : goal.play-requires-clause-tag
-play-requires-clause-tag g c = let read = c.in-Ok.ensures.ok in read.1.tag_is.is
+play-requires-clause-tag g c = c.in-Ok.ensures.tag
 
 pub play-requires-clause-said : goal.play-requires-clause-said
 play-requires-clause-said g c = let read = c.in-Ok.ensures.ok in (read.0, read.2)
@@ -27,4 +27,4 @@ returns-in_err-write_all-in-Err g c =
     let fault = c.in-Err.fault in
     let written = c.in_err-write_all-in-Err.ensures in
     write_failed probe_job _ _ c.fault_text-line.result.items _ (search rules)
-    (inr (record { number = fault.line; fault = fault.reason; first = c.in-Err.ensures.refused; line = c.fault_text-line.ensures })) written.failed (rw c.as_slice.ensures.value at written.part)
+    (inr (record { number = fault.line; reason = fault.reason; first = c.in-Err.ensures.refused; line = c.fault_text-line.ensures })) written.failed (rw c.as_slice.ensures.value at written.part)
