@@ -11,8 +11,8 @@ export const DOORS = [
   {
     id: "tag",
     name: "I have a tag",
-    said: "probe says what a tag answers and becomes, command by command.",
-    words: ["probe", "probe json"],
+    said: "probe says what a tag answers and becomes, command by command; judge says whether the log of a tag that draws its own words can be right.",
+    words: ["probe", "probe json", "judge", "judge json"],
     first: "probed_tag",
   },
   {
@@ -45,7 +45,7 @@ const OF_DECODE = /^(?:fm0|m2|m4|m8|pie|command|reply|heard|samples|sgtin|uri) /
 // that was chosen.
 export function wordOfFile(text, chosen) {
   if (text.startsWith("gen2 ")) return /\nend\n./.test(text) ? orChosen("audit", chosen) : chosen === "portals" ? chosen : orChosen("run", chosen);
-  if (text.startsWith("probe 1\n")) return orChosen("probe", chosen);
+  for (const word of ["probe", "judge"]) if (text.startsWith(`${word} 1\n`)) return orChosen(word, chosen);
   if (/^(?:list|round|seen) \d/.test(text)) return "names";
   return OF_DECODE.test(text) && chosen !== "encode" ? orChosen("decode", chosen) : chosen;
 }

@@ -15,6 +15,8 @@ test("a file is for the word that its text begins with", () => {
   assert.equal(wordOfFile("gen2 2\nlink\nend\n", "run vcd"), "run vcd");
   assert.equal(wordOfFile("gen2 1\nlink\nend\nblf 8/1\n", "decode"), "audit");
   assert.equal(wordOfFile("probe 1\ntag\n", "run"), "probe");
+  assert.equal(wordOfFile("judge 1\ntag\n", "probe"), "judge");
+  assert.equal(wordOfFile("judge 1\ntag\n", "judge json"), "judge json");
   assert.equal(wordOfFile("list 1 1 3000 00\n", "run"), "names");
   assert.equal(wordOfFile("fm0 0 1\n", "run"), "decode");
   assert.equal(wordOfFile("command nak\n", "encode"), "encode");

@@ -94,7 +94,7 @@ export function explanation(tables, text, firstWord, fault) {
   } else if (reason === "end") {
     said.push("it has no line feed at its end");
   } else if (reason in tables.reasons) {
-    said.push(tables.reasons[reason]);
+    said.push(tables.reasons[`${word} ${reason}`] ?? tables.reasons[reason]);
     // (the reason is the name of a field, as of a link, or names none)
     const at = forms.length === 1 ? forms[0].split(" ").indexOf(reason.toUpperCase()) : -1;
     if (at > 0) mark = { column: fields.slice(0, at).join(" ").length + 1, length: fields[at].length };
@@ -104,13 +104,14 @@ export function explanation(tables, text, firstWord, fault) {
 
 function saidOfWord(tables, word, number, first, forms) {
   const begins = [...new Set((tables.forms[word] ?? []).map((it) => it.split(" ")[0]))];
-  if (word === "probe" && number === 2) return `the second line is: ${tables.tag}`;
+  const secondLine = tables.secondLines[word];
+  if (secondLine && number === 2) return `the second line is: ${secondLine}`;
   if (begins.includes(first)) return forms.length > 1 ? `its forms: ${forms.join("; ")}` : `a line that begins with ${first} may not stand here`;
   if (word === "encode" && tables.commands.some((it) => it.split(" ")[0] === first)) {
     return `a command stands behind the word command: command ${first} ..`;
   }
-  if (word === "probe" && first === "command") return "a command stands here without the word command, as in: ack A1B2";
-  return `a line begins with one of: ${(word === "probe" ? begins.slice(2) : begins).join(" ")}`;
+  if (secondLine && first === "command") return "a command stands here without the word command, as in: ack A1B2";
+  return `a line begins with one of: ${(secondLine ? begins.slice(2) : begins).join(" ")}`;
 }
 
 // Says what the bytes of a text are, where they are none of the program's: a byte order mark, another encoding, lines of Windows, a cut end.

@@ -76,10 +76,11 @@ export function lineOfObject(text) {
   return [object.kind, ...fields.filter((it) => it !== undefined)].join(" ");
 }
 
-// Gives the line of another word that an object stands for: its members are the fields of the line in their order, and the URI of an EPC.
+// Gives the line of another word that an object stands for: its members are the fields of the line in their order, and the URI of an EPC. (Where
+// judge names two answers, `or` has the preamble of the second.)
 export function lineOfMembers(text) {
   const { kind, line, ...members } = JSON.parse(text);
   const isField = ([key, it]) => (key === "uri" ? kind === "name" : key !== "value" || it !== "");
-  const fields = Object.entries(members).filter(isField).map(([, it]) => (it === "" ? "-" : it));
+  const fields = Object.entries(members).filter(isField).map(([key, it]) => (key === "or" ? `or ${it}` : it === "" ? "-" : it));
   return [kind, line, ...fields].filter((it) => it !== undefined).join(" ");
 }

@@ -17,6 +17,8 @@ test("an object of another word stands for its line, and is explained as that is
   assert.match(meaning("decode json", '{"kind":"name","uri":"urn:epc:tag:sgtin-96:3.0614141.812345.6789"}'), /SGTIN-96/);
   assert.match(meaning("probe json", '{"line":3,"kind":"state","state":"ready","flags":"AAAA0"}'), /behind line 3 the tag is in ready/);
   assert.match(meaning("audit json", '{"line":3,"kind":"no","reason":"levels"}'), /line 3/);
+  assert.equal(lineOfMembers('{"line":4,"kind":"no","preamble":"","or":"plain","reply":"rn16","rn16":"*"}'), "no 4 - or plain rn16 *");
+  assert.match(meaning("judge json", '{"line":4,"kind":"profile","preamble":"plain","reply":"error","error":"03"}'), /first in line 4, where this project's profile answers plain error 03$/);
   assert.match(meaning("run exchanges json", '{"kind":"exchange","exchange":2,"command":"ack","rn":"A1B2"}'), /exchange 2: an ACK/);
   assert.match(meaning("run exchanges json", "fault 1 version"), /faulty/);
 });

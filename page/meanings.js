@@ -99,6 +99,12 @@ const OTHERS = {
     [/^no 0 event$/, () => "the scenario has an event line, of which a trace says nothing"],
     [/^no (\d+) (\S+)$/, (_, line, why) => `line ${line} of the trace, behind the scenario's end, is the first that can't be, for its ${why}`],
   ],
+  judge: [
+    [/^yes$/, () => "this can be the log of a tag that follows the standard's tables, with some words to draw"],
+    [/^no (\d+) (.+)$/, (_, line, wanted) => `the answer in line ${line} is the first that can't be: a tag answers ${wanted}, where * is a number that it draws`],
+    [/^profile (\d+) (.+)$/,
+      (_, line, wanted) => `all can be, with what the standard leaves to the maker of a tag: first in line ${line}, where this project's profile answers ${wanted}`],
+  ],
   portals: [[/^portal (\d) (\d+) (\d+) (\d+) (\S+) (\S+)$/,
     (_, portal, round, joint, alone, end, mark) =>
       `portal ${portal}, round ${round}: ${joint} EPCs listed beside the other portal, ${alone} alone; it ended ${end === "quiet" ? "quiet in both" : "by its limit"}, and the lists are ${mark === "same" ? "the same" : "not the same"}`], ...REPORT],

@@ -10,7 +10,7 @@ import { Output } from "./output.js";
 import { compiled } from "./program.js";
 import { Runner, Stopped } from "./runner.js";
 import { Text } from "./text.js";
-import { explainedVerdict } from "./verdict.js";
+import { explainedAnswer, explainedVerdict } from "./verdict.js";
 
 const data = JSON.parse(document.getElementById("data").textContent);
 const at = (id) => document.getElementById(id);
@@ -62,7 +62,7 @@ async function run() {
   try {
     const answer = await runner.ask(words, mine.input);
     show(mine, answer);
-    if (answer.status === 0 && word === "audit") await explainVerdict(mine);
+    if (answer.status === 0 && ["audit", "judge"].includes(word)) await explainVerdict(mine);
     if (answer.status === 0 && exampleWord(word) === "run" && word !== "upgrade") await showPictures(mine);
   } catch (error) {
     if (!(error instanceof Stopped)) say(`the call broke off: ${error.message}`);
@@ -80,9 +80,10 @@ function show({ word, input }, { status, milliseconds, ...answer }) {
   editor.tell(status === 3 ? explanationOfBytes(data.fault, input, word.split(" ")[0], text.whole()) : undefined);
 }
 
-// Marks the line of a trace that can't be, and says what was wanted there.
+// Marks the line of a trace or of a log that can't be, and says what was wanted there.
 async function explainVerdict(mine) {
-  const told = await explainedVerdict(ask, new TextDecoder().decode(mine.input), output.text.whole());
+  const [text, written] = [new TextDecoder().decode(mine.input), output.text.whole()];
+  const told = mine.word === "judge" ? explainedAnswer(text, written) : await explainedVerdict(ask, text, written);
   if (current === mine) editor.tell(told);
 }
 

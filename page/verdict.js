@@ -1,4 +1,5 @@
-// Explains a `no` of audit as tools/verdict.py does: what the tags and the channel of a scenario account for, beside what stands in the line of the trace.
+// Explains a verdict as tools/verdict.py does: of audit what the tags and the channel of a scenario account for, beside what stands in the line of the trace;
+// of judge what the tag of a log has to answer, beside what stands there.
 import { World } from "./world.js";
 
 // How many commands the tags are asked again at most, in all.
@@ -82,6 +83,25 @@ async function whyOf(ask, { scenario, before, line, reason }) {
   if (reason === "levels") return whyLevels(world, exchanges, fields[3]);
   if (reason === "tag") return whyTag(world, before.filter((it) => it.startsWith("tag ")).length, line);
   return `${await whyList(world)}; here stands ${begin}`;
+}
+
+// Gives an answer of a log in words; a number that a tag draws is `*` in it.
+function saidOfAnswer(answer) {
+  if (answer.startsWith("- or ")) return `nothing, or ${saidOfAnswer(answer.slice(5))}`;
+  return answer === "-" ? "nothing" : answer.replaceAll(" *", " with a number that it draws");
+}
+
+// Gives of what judge wrote the number of the line of the log that can't be, and what is said of it, or nothing.
+export function explainedAnswer(text, written) {
+  const found = /^(no|profile) (\d+) (.+)$/.exec(written.trim());
+  if (!found) return undefined;
+  const number = Number(found[2]);
+  const [sent, line] = text.split("\n").slice(number - 2, number);
+  const seen = line.slice(line.indexOf(" ") + 1);
+  const [wanted, here] = [found[3], seen].map((it) => saidOfAnswer(it.slice(0, 60)));
+  const liberty = seen === "-" ? "; it may lack this command" : "; the code of an error is left to its maker";
+  const said = `line ${number}: to ${sent.slice(0, 60)} (line ${number - 1}) a tag answers ${wanted}; here stands ${here}`;
+  return { number, said: [said + (found[1] === "no" ? "" : liberty)] };
 }
 
 // Gives of what audit wrote the number of the line of the input that can't be, and what is said of it, or nothing.

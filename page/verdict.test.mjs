@@ -1,6 +1,6 @@
 import assert from "node:assert/strict";
 import { test } from "node:test";
-import { explainedVerdict } from "./verdict.js";
+import { explainedAnswer, explainedVerdict } from "./verdict.js";
 
 const SCENARIO = "gen2 1\nlink 12500 31250 50000 6250 1 fm0 0\ntag 0 0 0 08001234 E2000001 - A1B2\nend\n";
 // A program that reads a query and lets the tag answer it.
@@ -23,4 +23,13 @@ test("a line of another form is explained by its form", async () => {
   assert.match(await said("blf 8/25\nrx 1\n", "no 2 word\n"), /a tx, tag or done line may stand here; here stands rx 1$/);
   assert.match(await said("blf 8/25\ntx 3 1\n", "no 2 exchange\n"), /wanted is exchange 1, here stands 3$/);
   assert.equal(await explainedVerdict(undefined, "", "yes\n"), undefined);
+});
+
+test("an answer of a log is explained by what a tag answers", () => {
+  const said = (written, seen) => explainedAnswer(`judge 1\ntag\nnak\nanswer ${seen}\nend\n`, written).said[0];
+  assert.equal(said("no 4 -\n", "plain rn16 1234"), "line 4: to nak (line 3) a tag answers nothing; here stands plain rn16 1234");
+  assert.match(said("no 4 - or plain rn16 *\n", "plain header"), /a tag answers nothing, or plain rn16 with a number that it draws; here stands plain header$/);
+  assert.match(said("profile 4 extended header\n", "-"), /here stands nothing; it may lack this command$/);
+  assert.match(said("profile 4 plain error 03\n", "plain error 0F"), /is left to its maker$/);
+  assert.equal(explainedAnswer("", "yes\n"), undefined);
 });

@@ -1,10 +1,10 @@
 #!/usr/bin/env python3
 """Says in one line what the program didn't take, and what was wanted: fault.py FILE WORD SAID [PROGRAM].
 
-FILE is the input, WORD the first word of the program, and SAID what it said: `fault LINE REASON`, or of audit `no LINE REASON`. Of a fault it tells the
-line, its form, and what the reason means there; of `number` the first field that isn't of its form. A field is named only where it surely is
-the faulty one: the program alone decides, and names the line. Of a `no` it tells what the tags and the channel account for (verdict.py); for that
-it asks PROGRAM. The forms are those of docs/FORMATS.md; checks/rows holds them against each row of the tables that has a fault, and each that has none.
+FILE is the input, WORD the first word of the program, and SAID what it said: `fault LINE REASON`, or a verdict of audit or judge that isn't `yes`. Of a
+fault it tells the line, its form, and what the reason means there; of `number` the first field that isn't of its form. A field is named only where it
+surely is the faulty one: the program alone decides, and names the line. Of a verdict it tells what is wanted beside what stands there (verdict.py), for which it
+asks PROGRAM where it is one of audit. The forms are those of docs/FORMATS.md; checks/rows holds them against each row of the tables that has a fault, and each that has none.
 """
 
 from __future__ import annotations
@@ -142,9 +142,12 @@ COMMANDS = (
     "blockerase BANK PTR COUNT RN",
 )
 REPLIES = ("rn16 HHHH", "epc PC EPC", "handle HHHH", "words WORDS", "header", "error CC")
-TAG = "tag KILL ACCESS LOCKS EPC TID USER WORDS"
+ANSWERS = ("answer -", *(f"answer {preamble} {reply}" for preamble in ("plain", "extended") for reply in REPLIES))
+LOGGED_TAG = "tag KILL ACCESS LOCKS EPC TID USER"
+TAG = f"{LOGGED_TAG} WORDS"
 EVENTS = ("timeout TAG", "off TAG", "on TAG", "expire FLAG TAG")
 LINK = "link TARI RTCAL TRCAL PW DR CODE TREXT"
+OWN_EVENTS = ("event timeout", "event off", "event on", "event expire FLAG")
 STEPS = (
     *(f"air E {event}" for event in EVENTS),
     "air E miss TAG",
@@ -184,15 +187,20 @@ FORMS = {
         *(f"reply EXPECT {reply}" for reply in REPLIES),
         *(f"heard CODE TREXT EXPECT {reply}" for reply in REPLIES),
     ],
-    "probe": ["probe 1", TAG, *COMMANDS, "bits BITS", "event timeout", "event off", "event on", "event expire FLAG", "end"],
+    "probe": ["probe 1", TAG, *COMMANDS, "bits BITS", *OWN_EVENTS, "end"],
+    "judge": ["judge 1", LOGGED_TAG, *COMMANDS, "bits BITS", *ANSWERS, *OWN_EVENTS, "end"],
     "run": ["gen2 1", LINK, TAG, *STEPS, "round SEL SESSION TARGET Q C LIMIT", *OPERATIONS, "end"],
     # (a scenario of version 2)
     "run 2": ["gen2 2", LINK, "default SEVERAL", TAG, f"copies N {TAG[len('tag '):]}", *STEPS, "round SEL SESSION TARGET Q RULE LIMIT", *OPERATIONS, "end"],
 }
+# The second line of a text that is about one tag.
+SECOND_LINES = {"probe": TAG, "judge": LOGGED_TAG}
+# What a reason means; behind a word where it is another thing there.
 REASONS = {
-    "limit": "it is one tag, air line, step, operation or line of a probe too many",
+    "limit": "it is one tag, air line, step, operation or line of a probe or a log too many",
     "tag": "there is no tag of this number",
     "order": "its exchange has a lower number than the one before, or what is said of one exchange stands in the wrong order: events, misses, a choice",
+    "judge order": "right behind each command, and behind bits, stands one answer line, and nowhere else",
     "twice": "its exchange has a choice already",
     "pc": "the length in PC, the first five bits of the EPC bank, passes the bank's end",
     "copies": "the length in PC is 0, so that no word of the EPC is raised from copy to copy; or there are more than 4,096 tags with these",
@@ -287,25 +295,25 @@ def explanation(text: str, word: str, fault: str) -> list[str]:
     elif reason == "word":
         first = line.split(" ")[0]
         begins = list(dict.fromkeys(it.split(" ")[0] for it in FORMS.get(word, [])))
-        if word == "probe" and number_of_line == 2:
-            said.append(f"the second line is: {TAG}")
+        if word in SECOND_LINES and number_of_line == 2:
+            said.append(f"the second line is: {SECOND_LINES[word]}")
         elif first in begins and len(forms) > 1:
             said.append("its forms: " + "; ".join(forms))
         elif first in begins:
             said.append(f"a line that begins with {first} may not stand here")
         elif word == "encode" and any(it.split(" ")[0] == first for it in COMMANDS):
             said.append(f"a command stands behind the word command: command {first} ..")
-        elif word == "probe" and first == "command":
+        elif word in SECOND_LINES and first == "command":
             said.append("a command stands here without the word command, as in: ack A1B2")
         else:
-            # (the version and the tag of a probe stand in its first two lines alone)
-            said.append(f"a line begins with one of: {' '.join(begins[2:] if word == 'probe' else begins)}")
+            # (the version and the tag stand in the first two lines alone)
+            said.append(f"a line begins with one of: {' '.join(begins[2:] if word in SECOND_LINES else begins)}")
     elif reason == "version":
         said.append("the first line is: " + ("gen2 1, or gen2 2" if word.startswith("run") else FORMS[word][0]))
     elif reason == "end":
         said.append("it has no line feed at its end")
     elif reason in REASONS:
-        said.append(REASONS[reason])
+        said.append(REASONS.get(f"{word} {reason}", REASONS[reason]))
     return said
 
 
@@ -323,13 +331,16 @@ def bytes_told(data: bytes) -> str | None:
 
 
 def said_of(data: bytes, word: str, said: str, program: str) -> list[str]:
-    """Gives the parts of the line that tells of a fault, or of a `no` of audit."""
+    """Gives the parts of the line that tells of a fault, or of a verdict that isn't `yes`."""
     text = data.decode("utf-8", errors="replace")
-    denied = re.fullmatch(r"no (\d+) (\w+)", said.strip())
+    denied = re.fullmatch(r"(no|profile) (\d+) (.+)", said.strip())
     if denied:
         import verdict
 
-        return [verdict.explained(program, text, int(denied[1]), denied[2])] if program else []
+        kind, number_of_line, why = denied[1], int(denied[2]), denied[3]
+        if word == "judge":
+            return [verdict.explained_answer(text.split("\n"), kind, number_of_line, why)]
+        return [verdict.explained(program, text, number_of_line, why)] if program else []
     parts = explanation(text, word, said)
     marks = bytes_told(data)
     # (the last line is cut where the fault is there; else it is another one that is to be told)

@@ -1,7 +1,8 @@
-"""Explains a `no` of audit: what the tags and the channel of a scenario account for, beside what stands in the line of the trace.
+"""Explains a verdict: of audit what the tags and the channel of a scenario account for, beside what stands in the line of the trace; of judge what the
+tag of a log has to answer, beside what stands there.
 
-The tags are asked one by one under `probe`, with the commands of the trace that they don't miss, and what the channel gives is reckoned by the air lines
-(docs/FORMATS.md, 'Audited traces'). It is a helper and not proved: `audit` alone decides.
+The tags of a scenario are asked one by one under `probe`, with the commands of the trace that they don't miss, and what the channel gives is reckoned by the air lines
+(docs/FORMATS.md, 'Audited traces'). It is a helper and not proved: `audit` and `judge` alone decide.
 """
 
 from __future__ import annotations
@@ -201,3 +202,19 @@ def explained(program: str, text: str, number: int, reason: str) -> str:
     if reason == "list":
         return f"{where}: {why_list(world, world.commands, line)}; here stands {line[:60]}"
     return where
+
+
+def said_of_answer(answer: str) -> str:
+    """Gives an answer of a log in words; a number that a tag draws is `*` in it."""
+    if answer.startswith("- or "):
+        return f"nothing, or {said_of_answer(answer[5:])}"
+    return "nothing" if answer == "-" else answer.replace(" *", " with a number that it draws")
+
+
+def explained_answer(log: List[str], kind: str, number: int, wanted: str) -> str:
+    """Says what a tag has to answer at a line of a log, and which liberty another answer takes."""
+    sent, seen = log[number - 2], log[number - 1].partition(" ")[2]
+    said = f"line {number}: to {sent[:60]} (line {number - 1}) a tag answers {said_of_answer(wanted[:60])}; here stands {said_of_answer(seen[:60])}"
+    if kind == "no":
+        return said
+    return f"{said}; {'it may lack this command' if seen == '-' else 'the code of an error is left to its maker'}"

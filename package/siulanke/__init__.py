@@ -19,7 +19,7 @@ import os
 from typing import Iterable, List, NamedTuple, Optional, Tuple, Union
 
 __all__ = [
-    "Fault", "Status", "Text", "Verdict", "audit", "call", "decode", "encode", "gen", "names", "portals", "probe", "run", "upgrade", "version", "version_number",
+    "Fault", "Status", "Text", "Verdict", "audit", "call", "decode", "encode", "gen", "judge", "names", "portals", "probe", "run", "upgrade", "version", "version_number",
 ]
 
 Text = Union[str, bytes]
@@ -50,7 +50,9 @@ class Fault(ValueError):
 
 
 class Verdict(NamedTuple):
-    """What `audit` says: `yes`, or another word with the first line, counted from 1, up to which the text is none of its kind, and the reason."""
+    """What `audit` and `judge` say: `yes`, or another word with the first line, counted from 1, up to which the text is none of its kind, and the
+    reason; which is of `judge` what a tag answers there.
+    """
 
     word: str
     line: Optional[int]
@@ -115,6 +117,11 @@ def _lines(words: str, lines: Union[Text, Iterable[str]]) -> List[str]:
     return _answer(words, _whole(given)).splitlines()
 
 
+def _verdict(word: str, text: Text) -> Verdict:
+    said, *more = _answer(word, _whole(text)).rstrip("\n").split(" ", 2)
+    return Verdict(said, int(more[0]) if more else None, more[1] if more else "")
+
+
 def run(scenario: Text, report: str = "") -> str:
     """Plays a scenario, and gives its report: plain, or as `report` says `trace`, `json`, `exchanges`, `exchanges json` or `vcd`."""
     return _answer(f"run {report}" if report else "run", _whole(scenario))
@@ -137,8 +144,12 @@ def probe(text: Text) -> str:
 
 def audit(text: Text) -> Verdict:
     """Says whether the trace behind a scenario is what tags and channel make of the commands in it."""
-    word, *more = _answer("audit", _whole(text)).rstrip("\n").split(" ", 2)
-    return Verdict(word, int(more[0]) if more else None, more[1] if more else "")
+    return _verdict("audit", text)
+
+
+def judge(log: Text) -> Verdict:
+    """Says whether a log of one tag can be that of a tag that follows the standard's tables, whatever it drew."""
+    return _verdict("judge", log)
 
 
 def portals(scenario: Text) -> str:

@@ -55,6 +55,8 @@ impl OpRun {
         ensures next { (epc : List ℕ) (rn : ℕ) (moves : List Move) → OpRunStandsFor self.old list.now epc rn moves → option_copied answer.entry ≡ last_answer moves
             → IsNextOperation next.new self.new list.now epc rn moves }
         ensures turns { turns_left list.now self.new + turns_in next.new ≤ turns_left list.now self.old }
+        // Whatever it is given behind its end, that is answered again.
+        ensures again { self.old.stage ≡ Stage.Done → (next.new ≡ OpNext.End) × (self.new.stage ≡ Stage.Done) }
     {
         match self.stage {
             Stage::Open => self.open(list, next),

@@ -20,9 +20,9 @@ pub enum FaultReason {
     /// Line 1 doesn't name the text and its version.
     #[error("line 1 does not name the text and its version")]
     Version,
-    /// The first field is none that the line may begin with; or a field behind it, which has to be the name of something, is
+    /// The first field may not stand here, or no line of this text begins with it; or a field behind it, which has to be the name of something, is
     /// there and is the name of none.
-    #[error("the first field may not stand here, or a field is there and is no name")]
+    #[error("no line of this text begins so here, or a field is there and is no name")]
     Word,
     /// It stands where another line has to stand.
     #[error("another line has to stand here")]

@@ -13,7 +13,7 @@ use Rattle.report_lines.specs.declared.mode.Mode.TheVariants.{Plain, Trace, Json
 use Rattle.text_fields.specs.Lines.{fields_of}
 use Rattle.top_call.specs.Form.{AskFor, IsForm, words_of}
 use Rattle.top_call.specs.declared.forms.Form.{Form}
-use Rattle.top_call.specs.declared.forms.Form.TheVariants.{Decode, Encode, Run, Upgrade, Portals, Names, Probe, Audit, Objects, Gen, Help, Version}
+use Rattle.top_call.specs.declared.forms.Form.TheVariants.{Decode, Encode, Run, Upgrade, Portals, Names, Probe, Judge, Audit, Objects, Gen, Help, Version}
 
 decimal-readable : (n : ℕ) → n < 2 ^ 64 → IsUtf8 (decimal n)
 decimal-readable n small = IsUtf8-from_ascii (decimal n) (IsAscii-decimal n small)
@@ -48,9 +48,11 @@ words-readable Upgrade is = one-readable (codes "upgrade") (plain-readable (code
 words-readable Portals is = one-readable (codes "portals") (plain-readable (codes "portals") refl)
 words-readable Names is = one-readable (codes "names") (plain-readable (codes "names") refl)
 words-readable Probe is = one-readable (codes "probe") (plain-readable (codes "probe") refl)
+words-readable Judge is = one-readable (codes "judge") (plain-readable (codes "judge") refl)
 words-readable Audit is = one-readable (codes "audit") (plain-readable (codes "audit") refl)
 words-readable (Objects sets.Decode) is = json-readable (codes "decode") (plain-readable (codes "decode") refl)
 words-readable (Objects sets.Probe) is = json-readable (codes "probe") (plain-readable (codes "probe") refl)
+words-readable (Objects sets.Judge) is = json-readable (codes "judge") (plain-readable (codes "judge") refl)
 words-readable (Objects sets.Audit) is = json-readable (codes "audit") (plain-readable (codes "audit") refl)
 words-readable (Objects sets.Exchanges) is =
     All-cons IsUtf8 (codes "run") (codes "exchanges" ∷ codes "json" ∷ []) (plain-readable (codes "run") refl) (json-readable (codes "exchanges") (plain-readable (codes "exchanges") refl))

@@ -3,7 +3,7 @@ use Rattle.std.specs.Prelude.{ℕ, List, codes}
 use Rattle.line_objects.specs.declared.keys.Key.{Key}
 use Rattle.line_objects.specs.declared.keys.Key.TheVariants as keys
 use Rattle.line_objects.specs.declared.keys.Shape.{Shape}
-use Rattle.line_objects.specs.declared.keys.Shape.TheVariants.{Number, Text, EpcText, PlaceOrReason}
+use Rattle.line_objects.specs.declared.keys.Shape.TheVariants.{Number, Text, EpcText, PlaceOrReason, Joint}
 
 -- what a member is called; a place or a reason has the name of what it is
 abbrev pub key_name : Key → List ℕ
@@ -33,6 +33,8 @@ key_name keys.Locks = codes "locks"
 key_name keys.Mask = codes "mask"
 key_name keys.Payload = codes "payload"
 key_name keys.Pc = codes "pc"
+key_name keys.Or = codes "or"
+key_name keys.OrPreamble = codes "or"
 key_name keys.Place = codes "place"
 key_name keys.Pointer = codes "pointer"
 key_name keys.Preamble = codes "preamble"
@@ -64,6 +66,7 @@ key_name keys.UpDn = codes "updn"
 key_name keys.Uri = codes "uri"
 key_name keys.User = codes "user"
 key_name keys.Value = codes "value"
+key_name keys.Wanted = codes "preamble"
 key_name keys.Words = codes "words"
 
 -- what its value is made of
@@ -91,4 +94,5 @@ key_shape keys.TrExt = Number
 key_shape keys.Epc = EpcText
 key_shape keys.EpcWords = EpcText
 key_shape keys.Refused = PlaceOrReason
+key_shape keys.Or = Joint
 key_shape key = Text

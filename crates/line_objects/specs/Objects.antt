@@ -10,7 +10,7 @@ use Rattle.line_objects.specs.Values.{AreUris, number_in, number_value, text_val
 use Rattle.line_objects.specs.declared.keys.Key.{Key}
 use Rattle.line_objects.specs.declared.keys.Key.TheVariants as keys
 use Rattle.line_objects.specs.declared.keys.Shape.{Shape}
-use Rattle.line_objects.specs.declared.keys.Shape.TheVariants.{Number, Text, EpcText, PlaceOrReason}
+use Rattle.line_objects.specs.declared.keys.Shape.TheVariants.{Number, Text, EpcText, PlaceOrReason, Joint}
 use Rattle.line_objects.specs.declared.rows.LineSet.{LineSet}
 
 -- a name with its value
@@ -33,6 +33,7 @@ shaped_pairs uris Number name field = (name, number_value (number_in field)) ∷
 shaped_pairs uris Text name field = (name, text_value field) ∷ []
 shaped_pairs uris EpcText name field = (name, text_value field) ∷ uri_pairs (uris field)
 shaped_pairs uris PlaceOrReason name field = place_or_reason field (number_in field) ∷ []
+shaped_pairs uris Joint name field = []
 
 abbrev pub field_pairs : (uris : List ℕ → Option (List ℕ)) → Key → List ℕ → List Pair
 field_pairs uris key field = shaped_pairs uris (key_shape key) (key_name key) field

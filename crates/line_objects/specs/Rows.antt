@@ -1,7 +1,7 @@
 -- Profile: which members a line has behind its first field, by the words in it: tables of words, each with the members that stand behind it.
 use Rattle.std.specs.Prelude.{ℕ, List, [], ◌∷◌, codes, bytes_eq, if◌then◌else◌}
 use Rattle.line_objects.specs.declared.keys.Key.{Key}
-use Rattle.line_objects.specs.declared.keys.Key.TheVariants.{Action, Bank, Bits, Code, Command, Count, Cover, Covered, Dr, End, Epc, EpcBank, EpcWords, Error, Exchange, Flags, Given, Half, Handle, Index, Levels, Line, Locks, Mask, Payload, Pc, Place, Pointer, Preamble, Ptr, Q, Reason, Refused, Reply, Reserved, Result, Rn, Rn16, Round, RtCal, Sel, Session, Slot, Slots, State, StateOf, Tag, TagNumber, Target, Tari, Tid, TrCal, TrExt, UpDn, Uri, User, Value, Words}
+use Rattle.line_objects.specs.declared.keys.Key.TheVariants.{Action, Bank, Bits, Code, Command, Count, Cover, Covered, Dr, End, Epc, EpcBank, EpcWords, Error, Exchange, Flags, Given, Half, Handle, Index, Levels, Line, Locks, Mask, Or, OrPreamble, Payload, Pc, Place, Pointer, Preamble, Ptr, Q, Reason, Refused, Reply, Reserved, Result, Rn, Rn16, Round, RtCal, Sel, Session, Slot, Slots, State, StateOf, Tag, TagNumber, Target, Tari, Tid, TrCal, TrExt, UpDn, Uri, User, Value, Wanted, Words}
 use Rattle.line_objects.specs.declared.rows.LineSet.{LineSet}
 use Rattle.line_objects.specs.declared.rows.LineSet.TheVariants as sets
 use Rattle.line_objects.specs.declared.rows.Row.{Row}
@@ -98,6 +98,18 @@ audit_rows =
     ∷ (codes "no", Line ∷ Reason ∷ [])
     ∷ []
 
+-- the lines that say what is judged of a log
+abbrev pub judge_rows : List RowValue
+judge_rows =
+    (codes "yes", [])
+    ∷ (codes "profile", Line ∷ Wanted ∷ Reply ∷ [])
+    ∷ (codes "no", Line ∷ Wanted ∷ Reply ∷ [])
+    ∷ []
+
+-- what may stand behind nothing that had to be answered
+abbrev pub want_rows : List RowValue
+want_rows = (codes "-", Or ∷ OrPreamble ∷ Reply ∷ []) ∷ []
+
 -- the lines of a report that says who said what in an exchange
 abbrev pub report_rows : List RowValue
 report_rows =
@@ -123,14 +135,16 @@ abbrev pub line_keys : LineSet → List ℕ → List Key
 line_keys sets.Decode word = keys_in answer_rows word (keys_in reply_rows word (keys_in command_rows word []))
 line_keys sets.Probe word = keys_in probe_rows word []
 line_keys sets.Audit word = keys_in audit_rows word []
+line_keys sets.Judge word = keys_in judge_rows word []
 line_keys sets.Exchanges word = keys_in report_rows word []
 
--- The members behind a field: a command, a reply, a state, and what a channel gives, say by their words what stands behind them. A place may
--- stand behind a reason, and a reason behind a place.
+-- The members behind a field: a command, a reply, a state, and what a channel gives, say by their words what stands behind them. Behind nothing
+-- that had to be answered another answer may stand that could have come. A place may stand behind a reason, and a reason behind a place.
 abbrev pub keys_behind : Key → List ℕ → List Key → List Key
 keys_behind Command word others = keys_in command_rows word []
 keys_behind Reply word others = keys_in reply_rows word []
 keys_behind StateOf word others = keys_in state_rows word []
 keys_behind Given word others = keys_in given_rows word []
+keys_behind Wanted word others = keys_in want_rows word others
 keys_behind Refused word others = Refused ∷ []
 keys_behind key word others = others

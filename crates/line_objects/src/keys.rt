@@ -57,6 +57,10 @@ pub enum Key {
     Payload,
     /// The protocol-control word.
     Pc,
+    /// The word between two answers of which either could come.
+    Or,
+    /// The preamble of the second of them; its reply stands behind it.
+    OrPreamble,
     /// A place, counted from 0.
     Place,
     /// Where the mask of a Select is compared.
@@ -119,6 +123,8 @@ pub enum Key {
     User,
     /// What an operation brought.
     Value,
+    /// The preamble of what had to be answered, or that nothing had to be; what stands behind it says more.
+    Wanted,
     /// Words of memory.
     Words,
 }
@@ -134,6 +140,8 @@ pub enum Shape {
     EpcText,
     /// A field that is a place where it is a number, and else a reason.
     PlaceOrReason,
+    /// A word that joins what stands around it, and is no member.
+    Joint,
 }
 
 impl Key {
@@ -168,6 +176,8 @@ impl Key {
             Key::Mask => "mask",
             Key::Payload => "payload",
             Key::Pc => "pc",
+            Key::Or => "or",
+            Key::OrPreamble => "or",
             Key::Place => "place",
             Key::Pointer => "pointer",
             Key::Preamble => "preamble",
@@ -199,6 +209,7 @@ impl Key {
             Key::Uri => "uri",
             Key::User => "user",
             Key::Value => "value",
+            Key::Wanted => "preamble",
             Key::Words => "words",
         }
     }
@@ -230,6 +241,7 @@ impl Key {
             | Key::TrExt => Shape::Number,
             Key::Epc | Key::EpcWords => Shape::EpcText,
             Key::Refused => Shape::PlaceOrReason,
+            Key::Or => Shape::Joint,
             _ => Shape::Text,
         }
     }

@@ -67,6 +67,7 @@ fn push_field<'a>(
             push_uri(members, field)
         }
         Shape::PlaceOrReason => push_place_or_reason(members, field),
+        Shape::Joint => Ok(()),
     }
 }
 

@@ -1,6 +1,6 @@
 //! Which members a line has, by its words.
 ghost use Rattle.std.specs.Prelude.{◌≡◌, map};
-ghost use Rattle.line_objects.specs.Rows.{answer_rows, audit_rows, command_rows, given_rows, keys_behind, keys_in, line_keys, probe_rows, reply_rows, report_rows, row_of, state_rows};
+ghost use Rattle.line_objects.specs.Rows.{answer_rows, audit_rows, command_rows, given_rows, judge_rows, keys_behind, keys_in, line_keys, probe_rows, reply_rows, report_rows, row_of, state_rows, want_rows};
 
 use crate::keys::Key;
 
@@ -13,6 +13,8 @@ pub enum LineSet {
     Probe,
     /// Whether a trace is audited.
     Audit,
+    /// What is judged of a log.
+    Judge,
     /// A report that says who said what in each exchange.
     Exchanges,
 }
@@ -283,6 +285,28 @@ const AUDIT_ROWS: &[Row] = &[
     },
 ];
 
+/// The lines that say what is judged of a log.
+const JUDGE_ROWS: &[Row] = &[
+    Row {
+        word: b"yes",
+        keys: &[],
+    },
+    Row {
+        word: b"profile",
+        keys: &[Key::Line, Key::Wanted, Key::Reply],
+    },
+    Row {
+        word: b"no",
+        keys: &[Key::Line, Key::Wanted, Key::Reply],
+    },
+];
+
+/// What may stand behind nothing that had to be answered.
+const WANT_ROWS: &[Row] = &[Row {
+    word: b"-",
+    keys: &[Key::Or, Key::OrPreamble, Key::Reply],
+}];
+
 /// The lines of a report that says who said what in an exchange.
 const REPORT_ROWS: &[Row] = &[
     Row {
@@ -363,6 +387,7 @@ pub fn line_keys(set: LineSet, word: &[u8]) -> &'static [Key]
         }
         LineSet::Probe => keys_in(PROBE_ROWS, word, &[]),
         LineSet::Audit => keys_in(AUDIT_ROWS, word, &[]),
+        LineSet::Judge => keys_in(JUDGE_ROWS, word, &[]),
         LineSet::Exchanges => keys_in(REPORT_ROWS, word, &[]),
     }
 }
@@ -376,6 +401,7 @@ pub fn keys_behind(key: Key, word: &[u8], others: &'static [Key]) -> &'static [K
         Key::Reply => keys_in(REPLY_ROWS, word, &[]),
         Key::StateOf => keys_in(STATE_ROWS, word, &[]),
         Key::Given => keys_in(GIVEN_ROWS, word, &[]),
+        Key::Wanted => keys_in(WANT_ROWS, word, others),
         Key::Refused => &[Key::Refused],
         _ => others,
     }

@@ -1,5 +1,5 @@
 -- When words explain a log, or excuse it: put through the log, a tag that draws these words answers what the log says. What a tag makes
--- of a command is that of Annex B and Annex C; the two liberties are profile, since the standard leaves both to the tag.
+-- of a command is that of Annex B and Annex C. That two liberties are granted to it, and no others, is profile.
 use Rattle.std.specs.Prelude.{◌≡◌, ◌≢◌, ℕ, Bool, true, false, List, [], ◌∷◌, Option, Some, None, ◌⊎◌}
 use Rattle.command_grammar.specs.declared.commands.Command.{Command}
 use Rattle.command_grammar.specs.declared.commands.Command.TheVariants as commands
@@ -29,8 +29,8 @@ abbrev pub Explains : LogEntry → TagValue → TagValue → Type 0
 Explains (Exchange heard seen) tag behind = (answer_to heard tag ≡ seen) × (behind ≡ (outcome_of_heard heard tag).tag)
 Explains (Befalls event) tag behind = behind ≡ tag_after_event event tag.state tag.body
 
--- Annex I: which code an error has is the tag's choice. The tag answers an error; the entry says one with another code and the same
--- preamble.
+-- Annex I: a tag may send an error code of its own. The tag answers an error; the entry says one with another code, whichever (profile),
+-- and the same preamble.
 pub record IsOtherError (answer seen : Option Seen) : Type 0 where
   pub code : ℕ
   pub other : ℕ

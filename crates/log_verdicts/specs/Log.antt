@@ -40,7 +40,7 @@ pub record LoggedTag : Type 0 where
   pub image : BankImage
   pub locks : Locks
 
--- The words that a tag draws are any list of one word of 16 bits or more (6.3.2.5 Tag random or pseudo-random number generator).
+-- The words that a tag draws are any list of one or more words of 16 bits (6.3.2.5 Tag random or pseudo-random number generator).
 pub record AreDrawn (words : List ℕ) : Type 0 where
   pub some : 1 ≤ length words
   pub small : All (λ word. word < 2 ^ 16) words

@@ -44,11 +44,7 @@ fn effect_of_bits(digits: Digits<'_>, bits: &mut Bits, command: &mut Command) ->
 
 /// What is done to the tag, where bits are looked at. The room has the command that is sent, and then the one that the tag hears; the room
 /// for bits is lent.
-pub(crate) fn effect_of(
-    stimulus: SaidStimulus<'_>,
-    bits: &mut Bits,
-    command: &mut Command,
-) -> SaidEffect
+pub fn effect_of(stimulus: SaidStimulus<'_>, bits: &mut Bits, command: &mut Command) -> SaidEffect
     requires legal { IsProbeLine (Does (stimulus_with stimulus command.old)) }
     requires room { most_bits ≤ bits.old.capacity }
     ensures effect { HasEffect (stimulus_with stimulus.entry command.old) (effect_with result command.new) }

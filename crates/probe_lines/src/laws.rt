@@ -18,7 +18,7 @@ use scenario_lines::{lines_are_told_apart, lines_have_one_fault, spelled_lines_a
 use text_fields::bits_are_told_apart;
 
 /// What the laws of single lines say, together.
-pub(crate) fn line_laws()
+pub fn line_laws()
     ensures lines { LineLaws }
     ensures tags { TagLineLaws }
 {

@@ -13,11 +13,12 @@ mod reading;
 mod stimuli;
 
 pub use checked_lines::{FaultReason, FaultyLine, fault_text};
-pub use effect::SaidEffect;
+pub use effect::{SaidEffect, effect_of};
 pub use laws::{
-    probe_texts_are_not_faulty, probe_texts_have_one_fault, probes_are_told_apart,
+    line_laws, probe_texts_are_not_faulty, probe_texts_have_one_fault, probes_are_told_apart,
     probes_have_one_text, stimuli_have_one_effect,
 };
 pub use line::{LineWord, SaidLine, SaidStimulus};
 pub use playing::play;
 pub use probe::{Probe, read_probe};
+pub use reading::{read_behind, read_probe_line, read_tag_line};

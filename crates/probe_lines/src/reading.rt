@@ -78,7 +78,7 @@ fn read_end(others: Fields) -> Result<(), FieldsFault>
 /// # Errors
 ///
 /// The first reason for which it says nothing, whatever stands before it.
-pub(crate) fn read_probe_line<'a>(
+pub fn read_probe_line<'a>(
     line: &'a [u8],
     command: &mut Command,
 ) -> Result<SaidLine<'a>, FieldsFault>
@@ -135,7 +135,7 @@ fn is_too_much(line: &[u8], count: u32) -> bool
 ///
 /// The first reason for which it may not stand there.
 #[tactic(auto, using(crate::proofs::FaultyLines::one_too_many))]
-pub(crate) fn read_behind<'a>(
+pub fn read_behind<'a>(
     line: &'a [u8],
     count: u32,
     command: &mut Command,
@@ -194,7 +194,7 @@ fn behind_tag(line: &[u8]) -> Option<Fields<'_>>
 /// # Errors
 ///
 /// The first reason for which it says none.
-pub(crate) fn read_tag_line(line: &[u8]) -> Result<TagText<'_>, FaultReason>
+pub fn read_tag_line(line: &[u8]) -> Result<TagText<'_>, FaultReason>
     ensures ok { IfOk result (SpellsTag (fields_of line.now)) }
     ensures refused { IfErr result (IsFaultyTagLine (fields_of line.now)) }
 {

@@ -43,6 +43,14 @@ impl DrawWords {
         DrawWords { words }
     }
 
+    /// Has these words in place of those before, of which there are as many.
+    pub fn replace(&mut self, words: &[u16])
+        requires { length words.now ≡ length self.old }
+        ensures { self.new ≡ words.now }
+    {
+        self.words.copy_from_slice(words);
+    }
+
     /// The words.
     pub fn words(&self) -> &[u16]
         ensures value { result.now ≡ self.now }

@@ -1,5 +1,5 @@
 //! What a tag holds in every state.
-ghost use Rattle.std.specs.Prelude.{◌≡◌, ◌+◌, ◌^◌, ◌==◌, ◌<◌, if◌then◌else◌, IfOk};
+ghost use Rattle.std.specs.Prelude.{◌≡◌, ◌+◌, ◌^◌, ◌==◌, ◌<◌, if◌then◌else◌, length, IfOk};
 ghost use Rattle.session_flags.specs.Flags.{new_flags};
 ghost use Rattle.tag_body.specs.Draws.{draw_of, place_behind, slot_of_draw, body_after_draw};
 ghost use Rattle.tag_body.specs.BodyFlags.{selected_body};
@@ -101,6 +101,16 @@ impl Body {
         let parts = &mut *self.parts;
         parts.next_draw = place_behind(parts.next_draw, parts.words.words().len());
         word
+    }
+
+    /// Draws these words from now on, the first of them next. There are as many as before.
+    pub fn give_words(&mut self, words: &[u16])
+        requires { length words.now ≡ length self.old.words }
+        ensures { self.new ≡ record self.old { words = words.now; next_draw = 0 } }
+    {
+        let parts = &mut *self.parts;
+        parts.words.replace(words);
+        parts.next_draw = 0;
     }
 
     /// The words that are drawn.

@@ -1,5 +1,5 @@
 //! A tag in any state, and what it gives when it heard a command.
-ghost use Rattle.std.specs.Prelude.{◌≡◌, true, IfOk};
+ghost use Rattle.std.specs.Prelude.{◌≡◌, length, true, IfOk};
 ghost use Rattle.tag_machine.specs.TagValue.{is_present, IsLegalTag};
 ghost use Rattle.tag_machine.specs.Events.{new_tag, tag_of_image};
 ghost use Rattle.tag_machine.specs.Names.{name_of};
@@ -148,6 +148,24 @@ impl AnyTag {
     {
         let body = self.body();
         &body.parts.locks
+    }
+
+    /// Lets the tag draw these words from now on, the first of them next, where a test bench knows what it draws. There are as many as
+    /// before, so that no memory is taken.
+    pub fn give_words(&mut self, words: &[u16])
+        requires { length words.now ≡ length (tag_value_of self.old).body.words }
+        ensures { tag_value_of self.new ≡ record { state = (tag_value_of self.old).state; body = record (tag_value_of self.old).body { words = words.now; next_draw = 0 } } }
+    {
+        match self {
+            AnyTag::Ready(tag) => tag.body.give_words(words),
+            AnyTag::Arbitrate(tag) => tag.body.give_words(words),
+            AnyTag::InReply(tag) => tag.body.give_words(words),
+            AnyTag::Acknowledged(tag) => tag.body.give_words(words),
+            AnyTag::Opened(tag) => tag.body.give_words(words),
+            AnyTag::Secured(tag) => tag.body.give_words(words),
+            AnyTag::Killed(tag) => tag.body.give_words(words),
+            AnyTag::Unpowered(tag) => tag.body.give_words(words),
+        }
     }
 
     /// The words that the tag draws.

@@ -1,8 +1,7 @@
 //! The moves that the commands share: how a tag answers, and where it goes.
 ghost use Rattle.std.specs.Prelude.{◌≡◌, ◌≤◌};
-ghost use Rattle.lock_rules.specs.Codes.{error_number};
 ghost use Rattle.reply_grammar.specs.Table.{reply_room};
-ghost use Rattle.reply_grammar.specs.declared.expected.Reply.TheVariants.{Handle, Header, Error};
+ghost use Rattle.reply_grammar.specs.declared.expected.Reply.TheVariants.{Handle, Header};
 ghost use Rattle.tag_machine.specs.Answers.{silent, plain_answer, extended_answer};
 ghost use Rattle.tag_machine.specs.Draws.{begin_reply, enter, close, back, tag_back};
 ghost use Rattle.tag_machine.specs.Hearing.{GivesOutcome, tag_value_of};
@@ -11,8 +10,7 @@ use crate::any_tag::{Answered, AnyTag, Heard};
 use crate::states::{Arbitrate, InReply, Ready};
 use crate::tag::Tag;
 use bit_strings::{Bits, QValue, Session};
-use lock_rules::ErrorCode;
-use reply_grammar::{encode_error, encode_handle, encode_header, encode_rn16};
+use reply_grammar::{encode_handle, encode_header, encode_rn16};
 use tag_body::{Body, Slot};
 
 /// No answer.
@@ -44,18 +42,6 @@ pub fn answer_header(tag: AnyTag, handle: u16, out: &mut Bits) -> Heard
     ensures { GivesOutcome (extended_answer (tag_value_of tag).state (tag_value_of tag).body Header handle) result out.old out.new }
 {
     encode_header(handle, out);
-    Heard {
-        tag,
-        answered: Answered::Extended,
-    }
-}
-
-/// An answer that is an error, with the extended preamble.
-pub fn answer_error(tag: AnyTag, code: ErrorCode, handle: u16, out: &mut Bits) -> Heard
-    requires { reply_room ≤ out.old.capacity }
-    ensures { GivesOutcome (extended_answer (tag_value_of tag).state (tag_value_of tag).body (Error (error_number code)) handle) result out.old out.new }
-{
-    encode_error(code.code(), handle, out);
     Heard {
         tag,
         answered: Answered::Extended,

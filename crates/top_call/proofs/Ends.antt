@@ -3,7 +3,7 @@ use Rattle.std.proofs.Common.{◌≡◌, ◌≢◌, ◌⊎◌, ℕ, ◌+◌, ◌
 use Rattle.std.proofs.lemmas.List.{take-append-drop, append-nil}
 use Rattle.air_io.specs.Flow.{Reads, Adds, AtEnd, FaultsRose}
 use Rattle.top_call.specs.Job.{Job, Defines, IsLawful}
-use Rattle.top_call.specs.Outcome.{input_limit, ReadsWithin, TakesInput, AddsFront, EndsSo, SinkChange, SourceChange, Tells, WritesWhole}
+use Rattle.top_call.specs.Outcome.{input_limit, ReadsWithin, TakesInput, AddsFront, EndsSo, SinkChange, SourceChange, Tells, WritesWhole, NothingFailed, WritesFront}
 use Rattle.top_call.specs.declared.ending.Wrote.{Wrote}
 use Rattle.top_call.specs.declared.ending.WriteEnd.{WriteEnd}
 use Rattle.top_call.specs.declared.ending.WriteEnd.TheVariants.{Fault}
@@ -170,3 +170,37 @@ keeps job T part lawful left left' written written' whole = record {
 pub reads_none : (left : Option (List ℕ)) → ReadsWithin left left
 reads_none None = record { bytes = []; reads = refl; within = omega arith }
 reads_none (Some rest) = record { bytes = []; reads = refl; within = omega arith }
+
+-- a text that was added whole is a front of one that is defined
+whole_front : (job : Job) (T : List ℕ → List ℕ → Type 0) → ((bytes text : List ℕ) → T bytes text → Defines job bytes text)
+    → (left left' written written' : Option (List ℕ)) → WritesWhole job T left left' written written' → WritesFront job left left' written written'
+whole_front job T defined left left' written written' whole = record {
+  bytes = whole.bytes;
+  taken = whole.taken;
+  adds = record {
+    front = whole.adds.text;
+    rest = [];
+    named = subst (Defines job whole.bytes) (sym (append-nil whole.adds.text)) (defined whole.bytes whole.adds.text whole.adds.named);
+    added = whole.adds.added;
+  };
+}
+
+-- what a sink tells before and behind, and how many faults it had met and has met
+abbrev pub sink_from : (written written' : Option (List ℕ)) (writes writes' : ℕ) → SinkChange
+sink_from written written' writes writes' = record { written = written; written' = written'; writes = writes; writes' = writes' }
+
+-- a text was added whole, and then the sink handed on what it held back of it, or failed to
+pub flushed : (job : Job) (T : List ℕ → List ℕ → Type 0) (whole : Status) → ((bytes text : List ℕ) → T bytes text → Defines job bytes text)
+    → (source : SourceChange) (written written' now : Option (List ℕ)) (writes writes' faults : ℕ) (untouched : Type 0) (status : Status)
+    → (NothingFailed source (sink_from written now writes faults) × WritesWhole job T source.left source.left' written now
+    → Tells job source (sink_from written now writes faults) untouched whole)
+    → NothingFailed source (sink_from written written' writes writes') × WritesWhole job T source.left source.left' written written'
+    → now ≡ written' → ((status ≡ whole) × (faults ≡ writes')) ⊎ ((status ≡ WriteFault) × FaultsRose writes' faults)
+    → Tells job source (sink_from written now writes faults) untouched status
+flushed job T whole defined source written written' now writes writes' faults untouched status telling told same (inl handed) =
+    let added = subst (WritesWhole job T source.left source.left' written) (sym same) told.1 in
+    subst (Tells job source (sink_from written now writes faults) untouched) (sym handed.0) (telling ((told.0.0, handed.1 ∙ told.0.1), added))
+flushed job T whole defined source written written' now writes writes' faults untouched status telling told same (inr failed) =
+    let added = subst (WritesWhole job T source.left source.left' written) (sym same) told.1 in
+    subst (Tells job source (sink_from written now writes faults) untouched) (sym failed.0)
+    (told.0.0, subst (λ (before : ℕ). FaultsRose before faults) told.0.1 failed.1, whole_front job T defined source.left source.left' written now added)

@@ -4,6 +4,7 @@ pub mod RunEnds
 pub mod UpgradeEnds
 pub mod PortalEnds
 pub mod ProbeEnds
+pub mod JudgeEnds
 pub mod NamedLines
 pub mod EncodedLines
 pub mod Waits

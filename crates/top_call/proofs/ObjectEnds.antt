@@ -10,6 +10,7 @@ use Rattle.top_call.specs.Job.{Job, Defines, IsLawful}
 use Rattle.top_call.specs.Outcome.{EndsSo, ReadsWithin, SinkChange, SourceChange, TakesInput, Tells, status_of}
 use Rattle.top_call.specs.words.Audited.{audit_job}
 use Rattle.top_call.specs.words.Decoded.{decode_job}
+use Rattle.top_call.specs.words.Judged.{judge_job}
 use Rattle.top_call.specs.words.Objects.{objects_job, objects_of_job, plain_job}
 use Rattle.top_call.specs.words.Probed.{probe_job}
 use Rattle.top_call.specs.words.Reported.{run_job}
@@ -41,15 +42,16 @@ objects_lawful one_text set job lawful = record {
   kept = λ bytes text writes. record { plain = writes.plain; named = (writes.named, lawful.kept bytes writes.plain writes.named); objects = writes.objects };
 }
 
-plain_lawful : IsLawful decode_job → IsLawful probe_job → IsLawful audit_job → ((mode : Mode) → IsLawful (run_job mode)) → (set : LineSet) → IsLawful (plain_job set)
-plain_lawful decode probe audit run sets.Decode = decode
-plain_lawful decode probe audit run sets.Probe = probe
-plain_lawful decode probe audit run sets.Audit = audit
-plain_lawful decode probe audit run sets.Exchanges = run Exchanges
+plain_lawful : IsLawful decode_job → IsLawful probe_job → IsLawful audit_job → IsLawful judge_job → ((mode : Mode) → IsLawful (run_job mode)) → (set : LineSet) → IsLawful (plain_job set)
+plain_lawful decode probe audit judge run sets.Decode = decode
+plain_lawful decode probe audit judge run sets.Probe = probe
+plain_lawful decode probe audit judge run sets.Audit = audit
+plain_lawful decode probe audit judge run sets.Judge = judge
+plain_lawful decode probe audit judge run sets.Exchanges = run Exchanges
 
 -- the law of each word with `json` behind it
-pub all_lawful : AreOneText → IsLawful decode_job → IsLawful probe_job → IsLawful audit_job → ((mode : Mode) → IsLawful (run_job mode)) → (set : LineSet) → IsLawful (objects_job set)
-all_lawful one_text decode probe audit run set = objects_lawful one_text set (plain_job set) (plain_lawful decode probe audit run set)
+pub all_lawful : AreOneText → IsLawful decode_job → IsLawful probe_job → IsLawful audit_job → IsLawful judge_job → ((mode : Mode) → IsLawful (run_job mode)) → (set : LineSet) → IsLawful (objects_job set)
+all_lawful one_text decode probe audit judge run set = objects_lawful one_text set (plain_job set) (plain_lawful decode probe audit judge run set)
 
 defined_of : HaveObjects → (set : LineSet) (job : Job) (bytes plain : List ℕ) → Defines job bytes plain → (text : List ℕ) × Defines (objects_of_job set job) bytes text
 defined_of objects set job bytes plain (inl writes) =
@@ -131,4 +133,5 @@ pub objects_read : (set : LineSet) → (objects_job set).input ≡ true
 objects_read sets.Decode = refl
 objects_read sets.Probe = refl
 objects_read sets.Audit = refl
+objects_read sets.Judge = refl
 objects_read sets.Exchanges = refl

@@ -9,7 +9,7 @@ use Rattle.line_objects.specs.declared.rows.LineSet.TheVariants as sets
 use Rattle.report_lines.specs.declared.mode.Mode.TheVariants.{Plain, Trace, Json, Exchanges, Vcd}
 use Rattle.top_call.specs.Form.{words_of, IsForm, AskFor}
 use Rattle.top_call.specs.declared.forms.Form.{Form}
-use Rattle.top_call.specs.declared.forms.Form.TheVariants.{Decode, Encode, Run, Upgrade, Portals, Names, Probe, Audit, Objects, Gen, Help, Version}
+use Rattle.top_call.specs.declared.forms.Form.TheVariants.{Decode, Encode, Run, Upgrade, Portals, Names, Probe, Judge, Audit, Objects, Gen, Help, Version}
 
 -- the form that words spell, where they spell one
 form_spelled : List (List ℕ) → Form
@@ -20,6 +20,7 @@ form_spelled words =
     else if bytes_eq (get_or words 0 []) (codes "portals") then Portals
     else if bytes_eq (get_or words 0 []) (codes "names") then Names
     else if bytes_eq (get_or words 0 []) (codes "probe") then (if length words == 1 then Probe else Objects sets.Probe)
+    else if bytes_eq (get_or words 0 []) (codes "judge") then (if length words == 1 then Judge else Objects sets.Judge)
     else if bytes_eq (get_or words 0 []) (codes "audit") then (if length words == 1 then Audit else Objects sets.Audit)
     else if bytes_eq (get_or words 0 []) (codes "--help") then Help
     else if bytes_eq (get_or words 0 []) (codes "--version") then Version
@@ -49,9 +50,11 @@ spelled_back Upgrade fits = refl
 spelled_back Portals fits = refl
 spelled_back Names fits = refl
 spelled_back Probe fits = refl
+spelled_back Judge fits = refl
 spelled_back Audit fits = refl
 spelled_back (Objects sets.Decode) fits = refl
 spelled_back (Objects sets.Probe) fits = refl
+spelled_back (Objects sets.Judge) fits = refl
 spelled_back (Objects sets.Audit) fits = refl
 spelled_back (Objects sets.Exchanges) fits = refl
 spelled_back Help fits = refl

@@ -6,7 +6,7 @@ use Rattle.std.specs.String.{string_bytes}
 use Rattle.line_objects.specs.declared.rows.LineSet.TheVariants as sets
 use Rattle.report_lines.specs.declared.mode.Mode.TheVariants.{Plain, Trace, Json, Exchanges, Vcd}
 use Rattle.top_call.specs.declared.forms.Form.{Form}
-use Rattle.top_call.specs.declared.forms.Form.TheVariants.{Decode, Encode, Run, Upgrade, Portals, Names, Probe, Audit, Objects, Gen, Help, Version}
+use Rattle.top_call.specs.declared.forms.Form.TheVariants.{Decode, Encode, Run, Upgrade, Portals, Names, Probe, Judge, Audit, Objects, Gen, Help, Version}
 use Rattle.made_scenario.specs.Made.{most_made_tags}
 
 -- the bytes of each word
@@ -26,9 +26,11 @@ words_of Upgrade = codes "upgrade" ∷ []
 words_of Portals = codes "portals" ∷ []
 words_of Names = codes "names" ∷ []
 words_of Probe = codes "probe" ∷ []
+words_of Judge = codes "judge" ∷ []
 words_of Audit = codes "audit" ∷ []
 words_of (Objects sets.Decode) = codes "decode" ∷ codes "json" ∷ []
 words_of (Objects sets.Probe) = codes "probe" ∷ codes "json" ∷ []
+words_of (Objects sets.Judge) = codes "judge" ∷ codes "json" ∷ []
 words_of (Objects sets.Audit) = codes "audit" ∷ codes "json" ∷ []
 words_of (Objects sets.Exchanges) = codes "run" ∷ codes "exchanges" ∷ codes "json" ∷ []
 words_of (Gen seed tags) = codes "gen" ∷ decimal seed ∷ decimal tags ∷ []

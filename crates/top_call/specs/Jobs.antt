@@ -1,7 +1,7 @@
 -- Profile: what the words of each form do.
 use Rattle.top_call.specs.Job.{Job}
 use Rattle.top_call.specs.declared.forms.Form.{Form}
-use Rattle.top_call.specs.declared.forms.Form.TheVariants.{Decode, Encode, Run, Upgrade, Portals, Names, Probe, Audit, Objects, Gen, Help, Version}
+use Rattle.top_call.specs.declared.forms.Form.TheVariants.{Decode, Encode, Run, Upgrade, Portals, Names, Probe, Judge, Audit, Objects, Gen, Help, Version}
 use Rattle.top_call.specs.words.Audited.{audit_job}
 use Rattle.top_call.specs.words.Decoded.{decode_job}
 use Rattle.top_call.specs.words.Encoded.{encode_job}
@@ -10,6 +10,7 @@ use Rattle.top_call.specs.words.Upgraded.{upgrade_job}
 use Rattle.top_call.specs.words.Compared.{portals_job}
 use Rattle.top_call.specs.words.Named.{names_job}
 use Rattle.top_call.specs.words.Probed.{probe_job}
+use Rattle.top_call.specs.words.Judged.{judge_job}
 use Rattle.top_call.specs.words.Objects.{objects_job}
 use Rattle.top_call.specs.words.Generated.{gen_job}
 use Rattle.top_call.specs.words.OwnTexts.{text_job}
@@ -23,6 +24,7 @@ job_of Upgrade = upgrade_job
 job_of Portals = portals_job
 job_of Names = names_job
 job_of Probe = probe_job
+job_of Judge = judge_job
 job_of Audit = audit_job
 job_of (Objects set) = objects_job set
 job_of (Gen seed tags) = gen_job seed tags

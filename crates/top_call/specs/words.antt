@@ -5,6 +5,7 @@ pub mod Encoded
 pub mod Reported
 pub mod Named
 pub mod Probed
+pub mod Judged
 pub mod Generated
 pub mod OwnTexts
 pub mod Upgraded

@@ -24,13 +24,15 @@ pub enum Form {
     Upgrade,
     /// The word `probe`: do to the tag of the input what it says, line by line, and tell what the tag answers and what it is.
     Probe,
+    /// The word `judge`: say whether the log of the input can be that of a tag that follows the tables, whatever it drew.
+    Judge,
     /// The word `portals`: compare two portals that share the tags of the scenario of the input with each of them alone.
     Portals,
     /// The word `names`: copy lines, and add its name behind each line that has one.
     Names,
     /// The word `audit`: say whether the trace behind the scenario of the input is one of it, and else which line can't be.
     Audit,
-    /// The word `decode`, `probe` or `audit`, or the words `run exchanges`, and `json` behind them: the same, each line as a JSON object.
+    /// The word `decode`, `probe`, `judge` or `audit`, or the words `run exchanges`, and `json` behind them: the same, each line as a JSON object.
     Objects(LineSet),
     /// The word `--help`: write which words there are. Nothing is read.
     Help,
@@ -91,6 +93,9 @@ pub fn form_of_one(word: &[u8]) -> Option<Form>
     if is_word(word, "probe") {
         return Some(Form::Probe);
     }
+    if is_word(word, "judge") {
+        return Some(Form::Judge);
+    }
     if is_word(word, "audit") {
         return Some(Form::Audit);
     }
@@ -132,6 +137,9 @@ pub fn form_of_two(word: &[u8], behind: &[u8]) -> Option<Form>
     }
     if are_words(word, behind, "probe", "json") {
         return Some(Form::Objects(LineSet::Probe));
+    }
+    if are_words(word, behind, "judge", "json") {
+        return Some(Form::Objects(LineSet::Judge));
     }
     if are_words(word, behind, "audit", "json") {
         return Some(Form::Objects(LineSet::Audit));

@@ -10,6 +10,7 @@ use crate::words::audit::audit_is_lawful;
 use crate::words::decode::decode_is_lawful;
 use crate::words::encode::encode_is_lawful;
 use crate::words::generate::gen_is_lawful;
+use crate::words::judge::judge_is_lawful;
 use crate::words::names::names_are_lawful;
 use crate::words::objects::objects_are_lawful;
 use crate::words::own_texts::own_texts_are_lawful;
@@ -35,6 +36,7 @@ pub fn jobs_are_lawful()
     names_are_lawful();
     probe_is_lawful();
     audit_is_lawful();
+    judge_is_lawful();
     objects_are_lawful();
     gen_is_lawful();
     own_texts_are_lawful();

@@ -19,6 +19,7 @@ pub use words::audit::{audit_inputs_have_a_text, audit_is_lawful};
 pub use words::decode::decode_is_lawful;
 pub use words::encode::encode_is_lawful;
 pub use words::generate::gen_is_lawful;
+pub use words::judge::{judge_inputs_have_a_text, judge_is_lawful};
 pub use words::names::{names_are_lawful, names_inputs_have_a_text};
 pub use words::objects::objects_are_lawful;
 pub use words::own_texts::own_texts_are_lawful;

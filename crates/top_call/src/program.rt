@@ -13,7 +13,7 @@ use crate::forms::{Form, form_of};
 use crate::laws::jobs_are_lawful;
 use crate::status::Status;
 use crate::words::{
-    audit, decode, encode, generate, names, objects, own_texts, portals, probe, run, upgrade,
+    audit, decode, encode, generate, judge, names, objects, own_texts, portals, probe, run, upgrade,
 };
 use air_io::{Sink, Source, SureSink, SureSource};
 use program_texts::{help_text, version_text};
@@ -168,6 +168,7 @@ fn write_answer<I: Source, O: Sink>(
         Form::Portals => portals::answer(alloc, input, output),
         Form::Names => names::answer(alloc, input, output),
         Form::Probe => probe::answer(alloc, input, output),
+        Form::Judge => judge::answer(alloc, input, output),
         Form::Audit => audit::answer(alloc, input, output),
         Form::Objects(set) => objects::answer(alloc, set, input, output),
         Form::Gen { seed, tags } => generate::answer(alloc, seed, tags, input, output),

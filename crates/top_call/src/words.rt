@@ -4,6 +4,7 @@ pub mod audit;
 pub mod decode;
 pub mod encode;
 pub mod generate;
+pub mod judge;
 pub mod names;
 pub mod objects;
 pub mod own_texts;

@@ -5,7 +5,7 @@ ghost use Rattle.tag_machine.specs.Hearing.{GivesOutcome, tag_value_of};
 ghost use Rattle.reply_grammar.specs.Table.{reply_room};
 
 use crate::abilities::WithHandle;
-use crate::any_tag::{AnyTag, Heard};
+use crate::any_tag::{Answered, AnyTag, Heard};
 use crate::steps::Steps;
 use crate::tag::Tag;
 use bit_strings::{Bits, Count1, Pointer};
@@ -27,7 +27,15 @@ impl AnyTag {
         ensures { GivesOutcome (read bank pointer count rn (tag_value_of self).state (tag_value_of self).body) result out.old out.new }
     {
         match self.heeding(rn, None, out) {
-            Ok(tag) => tag.answer_read(bank, pointer, count, out),
+            Ok(tag) => {
+                let handle = tag.held.handle;
+                tag.body
+                    .encode_read(tag.level, bank, pointer, count, handle, out);
+                Heard {
+                    tag: tag.tag(),
+                    answered: Answered::Plain,
+                }
+            }
             Err(heard) => heard,
         }
     }

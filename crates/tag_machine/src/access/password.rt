@@ -8,7 +8,7 @@ ghost use Rattle.reply_grammar.specs.Table.{reply_room};
 use super::rules::TagWithHandle;
 use crate::abilities::WithHandle;
 use crate::any_tag::{AnyTag, Heard};
-use crate::moves::{answer_error, answer_header, go_back};
+use crate::moves::{answer_header, go_back};
 use crate::states::{Half, Held, Killed, Password};
 use crate::steps::Steps;
 use crate::tag::Tag;
@@ -37,11 +37,10 @@ impl TagWithHandle {
     {
         let TagWithHandle { level, held, body } = self;
         let own = body.parts.memory.kill_word();
-        let handle = held.handle;
         if own == 0 {
             let held = Held { half: None, ..held };
             let tag = TagWithHandle { level, held, body };
-            return answer_error(tag.tag(), ErrorCode::Other, handle, out);
+            return tag.answer_change(Err(ErrorCode::Other), out);
         }
         if own != password {
             return go_back(body, held.session, held.q, out);
@@ -50,7 +49,7 @@ impl TagWithHandle {
             state: Killed,
             body,
         };
-        answer_header(AnyTag::Killed(tag), handle, out)
+        answer_header(AnyTag::Killed(tag), held.handle, out)
     }
 
     /// What both halves of an Access give.

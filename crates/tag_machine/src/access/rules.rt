@@ -7,18 +7,18 @@ ghost use Rattle.tag_machine.specs.TagValue.{BodyValue};
 ghost use Rattle.reply_grammar.specs.Table.{reply_room};
 ghost use Rattle.reply_grammar.specs.declared.expected.Reply.TheVariants.{Handle};
 ghost use Rattle.tag_machine.specs.Answers.{Outcome, plain_answer, extended_answer};
-ghost use Rattle.tag_machine.specs.Access.{change_answer, held_state, outcome_where_heeded, in_access, read_outcome, uncover, unless_ended};
+ghost use Rattle.tag_machine.specs.Access.{change_answer, held_state, outcome_where_heeded, in_access, uncover, unless_ended};
 ghost use Rattle.tag_machine.specs.Draws.{back};
 ghost use Rattle.tag_machine.specs.Hearing.{GivesOutcome, tag_value_of};
 
 use crate::abilities::Present;
 use crate::any_tag::{Answered, AnyTag, Heard};
-use crate::moves::{answer_error, answer_handle, answer_header, go_back, unanswered};
+use crate::moves::{answer_handle, answer_header, go_back, unanswered};
 use crate::states::{Held, Opened, Password, Secured};
 use crate::tag::Tag;
-use bit_strings::{Bits, Pointer, xor16};
-use command_grammar::Bank;
+use bit_strings::{Bits, xor16};
 use lock_rules::{ErrorCode, Level};
+use reply_grammar::encode_error;
 use tag_body::Body;
 
 /// A tag in open or secured. What it permits goes by the level.
@@ -57,19 +57,6 @@ impl TagWithHandle {
         }
     }
 
-    /// What a Read answers, with the preamble of the Query's TRext: the words, or an error. The tag stays as it is.
-    pub fn answer_read(self, bank: Bank, pointer: Pointer, count: u8, out: &mut Bits) -> Heard
-        requires { reply_room ≤ out.old.capacity }
-        ensures { GivesOutcome (read_outcome bank pointer count self.level self.held self.body) result out.old out.new }
-    {
-        self.body
-            .encode_read(self.level, bank, pointer, count, self.held.handle, out);
-        Heard {
-            tag: self.tag(),
-            answered: Answered::Plain,
-        }
-    }
-
     /// An answer that is the handle alone, with the same preamble.
     pub fn answer_handle(self, out: &mut Bits) -> Heard
         requires { reply_room ≤ out.old.capacity }
@@ -88,7 +75,13 @@ impl TagWithHandle {
         let handle = self.held.handle;
         match change {
             Ok(()) => answer_header(self.tag(), handle, out),
-            Err(code) => answer_error(self.tag(), code, handle, out),
+            Err(code) => {
+                encode_error(code.code(), handle, out);
+                Heard {
+                    tag: self.tag(),
+                    answered: Answered::Extended,
+                }
+            }
         }
     }
 

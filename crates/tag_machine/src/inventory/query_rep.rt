@@ -1,6 +1,6 @@
 //! QueryRep (6.3.2.11.2.3).
 ghost use Rattle.std.specs.Prelude.{◌≡◌, ◌+◌, ◌≤◌};
-ghost use Rattle.tag_machine.specs.Inventory.{query_rep, count_down, end_turn};
+ghost use Rattle.tag_machine.specs.Inventory.{query_rep, end_turn};
 ghost use Rattle.tag_machine.specs.Hearing.{GivesOutcome, tag_value_of};
 ghost use Rattle.reply_grammar.specs.Table.{reply_room};
 
@@ -10,27 +10,9 @@ use crate::moves::{begin_reply, close, go_back, unanswered};
 use crate::states::{Arbitrate, Held};
 use crate::steps::Steps;
 use crate::tag::Tag;
-use bit_strings::{Bits, QValue, Session};
+use bit_strings::{Bits, Session};
 use std::sync::ledger::Ledger;
 use tag_body::{Body, Slot};
-
-/// What a QueryRep of the tag's session does in arbitrate: the counter falls by one, and where it becomes 0
-/// the tag draws an RN16 and answers it.
-#[inline(always)]
-fn count_down(body: Body, session: Session, q: QValue, slot: Slot, out: &mut Bits) -> Heard
-    requires room { reply_room ≤ out.old.capacity }
-    ensures { GivesOutcome (count_down session q slot body) result out.old out.new }
-{
-    let slot = slot.below();
-    if slot.get() == 0 {
-        return begin_reply(body, session, q, out);
-    }
-    let tag = Tag {
-        state: Arbitrate { session, q, slot },
-        body,
-    };
-    unanswered(AnyTag::Arbitrate(tag), out)
-}
 
 /// The end of the turn of a tag that has a handle: CLOSE, or BACK where a Kill or Access is not finished.
 fn end_turn(body: Body, session: Session, held: Held, out: &mut Bits) -> Heard
@@ -54,7 +36,13 @@ impl AnyTag {
                 if state.session != session {
                     return unanswered(state.tag(body), out);
                 }
-                count_down(body, session, state.q, state.slot, out)
+                let q = state.q;
+                let slot = state.slot.below();
+                if slot.get() == 0 {
+                    return begin_reply(body, session, q, out);
+                }
+                let state = Arbitrate { session, q, slot };
+                unanswered(state.tag(body), out)
             }
             AnyTag::InReply(Tag { state, body }) => {
                 if state.session != session {

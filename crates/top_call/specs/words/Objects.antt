@@ -7,6 +7,7 @@ use Rattle.report_lines.specs.declared.mode.Mode.TheVariants.{Exchanges}
 use Rattle.top_call.specs.Job.{Job}
 use Rattle.top_call.specs.words.Audited.{audit_job}
 use Rattle.top_call.specs.words.Decoded.{decode_job}
+use Rattle.top_call.specs.words.Judged.{judge_job}
 use Rattle.top_call.specs.words.Probed.{probe_job}
 use Rattle.top_call.specs.words.Reported.{run_job}
 
@@ -15,6 +16,7 @@ abbrev pub plain_job : LineSet → Job
 plain_job sets.Decode = decode_job
 plain_job sets.Probe = probe_job
 plain_job sets.Audit = audit_job
+plain_job sets.Judge = judge_job
 plain_job sets.Exchanges = run_job Exchanges
 
 -- the text is the objects of the lines of a text that T names

@@ -9,6 +9,7 @@ use crate::ending::{WriteEnd, Wrote, status_of};
 use crate::status::Status;
 use crate::words::audit::{self, audit_is_lawful};
 use crate::words::decode::{self, decode_is_lawful};
+use crate::words::judge::{self, judge_is_lawful};
 use crate::words::probe::{self, probe_is_lawful};
 use crate::words::run::{self, run_is_lawful};
 use air_io::{Sink, Source, write_all};
@@ -48,6 +49,7 @@ fn answer_plain<I: Source, O: Sink>(
         LineSet::Decode => decode::answer(alloc, input, output),
         LineSet::Probe => probe::answer(alloc, input, output),
         LineSet::Audit => audit::answer(alloc, input, output),
+        LineSet::Judge => judge::answer(alloc, input, output),
         LineSet::Exchanges => run::answer(alloc, Mode::Exchanges, input, output),
     }
 }
@@ -86,5 +88,6 @@ pub fn objects_are_lawful()
     decode_is_lawful();
     probe_is_lawful();
     audit_is_lawful();
+    judge_is_lawful();
     run_is_lawful();
 }

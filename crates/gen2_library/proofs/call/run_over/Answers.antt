@@ -71,3 +71,10 @@ returns-clause-whole c form asks few text defined =
 
 pub returns-clause-unread : goal.returns-clause-unread
 returns-clause-unread c form asks none = (c.gen2run.ensures.unread form asks none).1
+
+pub returns-clause-out_of_memory : goal.returns-clause-out_of_memory
+returns-clause-out_of_memory c form asks none =
+    elim (c.gen2run.ensures.out_of_memory form asks none) [
+      | inl kept ↦ inl (let same = kept.1 in let empty = c.requires in cc)
+      | inr begun ↦ inr (front (job_of form) _ _ _ _ _ (record { told_is = c.new-source.ensures; unwritten = c.requires }) begun)
+    ]

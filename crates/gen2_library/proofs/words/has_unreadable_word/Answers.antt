@@ -17,10 +17,10 @@ loop-field-init c = (
   λ word has. subst (λ (words : List (List ℕ)). Contains words word) c.new-fields.ensures has,
 )
 
-pub returns-in_default-clause-one : goal.returns-in_default-clause-one
-returns-in_default-clause-one c = λ told.
+pub returns-in_default-from_utf8-clause-one : goal.returns-in_default-from_utf8-clause-one
+returns-in_default-from_utf8-clause-one c = λ told.
     let word = c.in-Some.field.now in
-    (word, c.loop-field.invariant.1 word (first _ c.next.new.self word c.in-Some.ensures.steps), c.in_default.ensures.cases.0)
+    (word, c.loop-field.invariant.1 word (first _ c.next.new.self word c.in-Some.ensures.steps), c.in_default-from_utf8.ensures.cases.0)
 
 pub loop-field-preserved : goal.loop-field-preserved
 loop-field-preserved c = (

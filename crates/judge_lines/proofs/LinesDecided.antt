@@ -1,0 +1,244 @@
+-- A line of a log says something, or there is a reason for which it says nothing, wherever it stands.
+use Rattle.std.proofs.Common.{◌≡◌, ◌≢◌, ◌⊎◌, ◌≤◌, ℕ, Bool, true, false, List, [], ◌∷◌, length, refl, sym, ◌∙◌, ap, subst, inl, inr, arith}
+use Rattle.std.specs.Prelude.{Option, Some, None}
+use Rattle.air_events.specs.declared.Event.{Event}
+use Rattle.air_events.specs.declared.Event.TheVariants as events
+use Rattle.command_fields.specs.declared.choices.FlagName.TheVariants.{S0}
+use Rattle.command_grammar.specs.Commands.{IsLegalCommand}
+use Rattle.command_text.specs.CommandText.{commands, flag_word}
+use Rattle.command_text.specs.laws.FieldTexts.{flag_is}
+use Rattle.scenario_lines.proofs.ToldNames.{event_word_told}
+use Rattle.text_fields.specs.laws.FilledFields.{none_filled, one_more}
+use Rattle.log_verdicts.specs.Log.{Seen}
+use Rattle.probe_lines.specs.LineFaults.{BeginsWith, IsFaultyProbeLine}
+use Rattle.probe_lines.specs.ProbeLine.{IsProbeEvent, SpellsProbeLine, SpellsTag, line_word, probe_events}
+use Rattle.probe_lines.specs.ProbeText.{BeginsAsTag, IsFaultyTagLine}
+use Rattle.probe_lines.specs.Said.{ProbeLine}
+use Rattle.probe_lines.specs.Said as said
+use Rattle.probe_lines.specs.declared.line.LineWord.{LineWord}
+use Rattle.probe_lines.specs.declared.line.LineWord.TheVariants as words
+use Rattle.reply_text.specs.ReplyText.{IsReplyForm, replies}
+use Rattle.scenario_lines.specs.Names.{keyword_text}
+use Rattle.scenario_lines.specs.declared.first_fields.EventKind.{EventKind}
+use Rattle.scenario_lines.specs.declared.first_fields.EventKind.TheVariants as kinds
+use Rattle.scenario_lines.specs.declared.first_fields.Keyword.TheVariants as keywords
+use Rattle.scenario_lines.specs.declared.tag.TagSpec.{TagSpec}
+use Rattle.scenario_lines.proofs.Decisions.{Any, Decided, Spelled, behind_decided as then, nothing_decided as end, same_answer, text_decided}
+use Rattle.scenario_lines.proofs.FieldsDecided.{IsLasting, bits_decided, lasting_decided, tried}
+use Rattle.scenario_lines.proofs.LinesDecided.{FormedBehind, event_kind_decided, formed_behind}
+use Rattle.scenario_lines.specs.declared.line.Line.TheVariants as lines
+use Rattle.tag_machine.specs.declared.any_tag.Answered.{Answered}
+use Rattle.tag_machine.specs.declared.any_tag.Answered.TheVariants.{Silent, Plain, Extended}
+use Rattle.tag_memory.specs.Image.{pc_fits}
+use Rattle.checked_lines.specs.declared.fault.FaultReason.{FaultReason}
+use Rattle.checked_lines.specs.declared.fault.FaultReason.TheVariants as faults
+use Rattle.text_fields.specs.Binary.{binary}
+use Rattle.text_fields.specs.NamedFields.{AreFaulty, AreFilled, AreSpelling, SpellBehind}
+use Rattle.text_fields.specs.declared.fields_fault.FieldsFault.{FieldsFault}
+use Rattle.text_fields.specs.declared.fields_fault.FieldsFault.TheVariants.{Word, Shape, Number}
+use Rattle.judge_lines.proofs.CommandsDecided.{commands_decided}
+use Rattle.judge_lines.proofs.RepliesDecided.{replies_decided}
+use Rattle.judge_lines.proofs.VocabularyDecided.{AreDecided, SpellOrAreFaulty, filled_decided, spell_or_are_faulty}
+use Rattle.judge_lines.specs.SeenLine.{AreFaultySeen, SpellSeen, mark_word}
+
+-- no more fields
+abbrev nothing : Unit {0} → List (List ℕ)
+nothing none = []
+
+-- one field alone
+abbrev alone : {V : Type 0} → (V → List ℕ) → V × Unit {0} → List (List ℕ)
+alone one value = one value.0 ∷ nothing value.1
+
+-- an event: its kind, and the flag of an expiry
+abbrev HasEvent : EventKind → List (List ℕ) → Type 0
+HasEvent kind fields = (event : Event) × SpellBehind probe_events IsProbeEvent kind fields event
+
+timeout_there : (fields : List (List ℕ)) → HasEvent kinds.Timeout fields → Spelled nothing Any fields
+timeout_there fields (events.Timeout, is) = (tt, tt, is.spelling)
+timeout_there fields (event, is) = let kind = is.same_kind in cc
+
+off_there : (fields : List (List ℕ)) → HasEvent kinds.Off fields → Spelled nothing Any fields
+off_there fields (events.Off, is) = (tt, tt, is.spelling)
+off_there fields (event, is) = let kind = is.same_kind in cc
+
+on_there : (fields : List (List ℕ)) → HasEvent kinds.On fields → Spelled nothing Any fields
+on_there fields (events.On, is) = (tt, tt, is.spelling)
+on_there fields (event, is) = let kind = is.same_kind in cc
+
+expire_there : (fields : List (List ℕ)) → HasEvent kinds.Expire fields → Spelled (alone flag_word) (λ value. IsLasting value.0 × Any value.1) fields
+expire_there fields (events.Expire flag, is) = ((flag, tt), (λ same. is.in_range (ap events.Expire same), tt), is.spelling)
+expire_there fields (event, is) = let kind = is.same_kind in cc
+
+same_flag : (flag other : _) → events.Expire flag ≡ events.Expire other → flag ≡ other
+same_flag flag other same = cc
+
+event_behind : (kind : EventKind) (fields : List (List ℕ)) → Decided (HasEvent kind fields)
+event_behind kinds.Timeout fields =
+    same_answer (λ found. (events.Timeout, record { same_kind = refl; in_range = λ same. cc; spelling = found.2 })) (timeout_there fields) (end fields)
+event_behind kinds.Off fields = same_answer (λ found. (events.Off, record { same_kind = refl; in_range = λ same. cc; spelling = found.2 })) (off_there fields) (end fields)
+event_behind kinds.On fields = same_answer (λ found. (events.On, record { same_kind = refl; in_range = λ same. cc; spelling = found.2 })) (on_there fields) (end fields)
+event_behind kinds.Expire fields =
+    same_answer (λ found. (
+      events.Expire found.0.0,
+      record { same_kind = refl; in_range = λ same. found.1.0 (same_flag found.0.0 S0 same); spelling = found.2 },
+    )) (expire_there fields) (then lasting_decided end fields)
+
+-- behind the kind of an event stand as many fields as it has
+event_filled : (event : Event) → AreFilled (probe_events.count (probe_events.kind event)) (probe_events.others event)
+event_filled events.Timeout = none_filled
+event_filled events.Off = none_filled
+event_filled events.On = none_filled
+event_filled (events.Expire flag) = one_more 0 (flag_word flag) [] (flag_is flag).filled none_filled
+
+events_decided : AreDecided probe_events IsProbeEvent
+events_decided = record { is = record { told = event_word_told; filled = λ event is. event_filled event }; names = event_kind_decided; behind = event_behind }
+
+-- what a line of a probe does or is
+abbrev pub SaysOrIsFaulty : List (List ℕ) → Type 0
+SaysOrIsFaulty fields = ((line : ProbeLine) × SpellsProbeLine fields line) ⊎ ((fault : FieldsFault) × IsFaultyProbeLine fields fault)
+
+bits_or_faulty : (others : List (List ℕ)) → SaysOrIsFaulty (line_word words.Bits ∷ others)
+bits_or_faulty others =
+    let begins : BeginsWith (line_word words.Bits ∷ others) words.Bits = record { others = others; first = refl } in
+    elim (filled_decided 1 others) [
+      | inr unfilled ↦ inr (Shape, inl (record { word = words.Bits; begins = begins; behind = unfilled }))
+      | inl filled ↦ elim (then (bits_decided 0 8240) end others) [
+        | inl found ↦ inl (
+          said.Does (said.SendsBits found.0.0),
+          record { spelling = ap (λ (rest : List (List ℕ)). line_word words.Bits ∷ rest) found.2; is = found.1.0.1 },
+        )
+        | inr never ↦ inr (
+          Number,
+          inl (record { word = words.Bits; begins = begins; behind = (filled, λ bits few is. never ((bits, tt), ((omega arith, few), tt), is)) }),
+        )
+      ]
+    ]
+
+event_or_faulty : (others : List (List ℕ)) → SpellOrAreFaulty probe_events IsProbeEvent others → SaysOrIsFaulty (line_word words.Event ∷ others)
+event_or_faulty others (inl found) =
+    inl (
+      said.Does (said.Brings found.0),
+      record { spelling = ap (λ (rest : List (List ℕ)). line_word words.Event ∷ rest) found.1.spelling; is = found.1.in_range },
+    )
+event_or_faulty others (inr faulty) =
+    inr (faulty.0, inl (record { word = words.Event; begins = record { others = others; first = refl }; behind = faulty.1 }))
+
+end_or_faulty : (others : List (List ℕ)) → SaysOrIsFaulty (line_word words.End ∷ others)
+end_or_faulty [] = inl (said.End, record { spelling = refl; is = tt })
+end_or_faulty (field ∷ others) =
+    inr (Shape, inl (record { word = words.End; begins = record { others = field ∷ others; first = refl }; behind = λ same. cc }))
+
+command_or_faulty : (fields : List (List ℕ)) → ((word : LineWord) → ¬ BeginsWith fields word) → SpellOrAreFaulty commands IsLegalCommand fields → SaysOrIsFaulty fields
+command_or_faulty fields other (inl found) = inl (said.Does (said.SendsCommand found.0), record { spelling = found.1.spelling; is = found.1.in_range })
+command_or_faulty fields other (inr faulty) = inr (faulty.0, inr (record { other = other; faulty = faulty.1 }))
+
+worded_or_faulty : (word : LineWord) (others : List (List ℕ)) → SaysOrIsFaulty (line_word word ∷ others)
+worded_or_faulty words.Bits others = bits_or_faulty others
+worded_or_faulty words.Event others = event_or_faulty others (spell_or_are_faulty probe_events IsProbeEvent events_decided others)
+worded_or_faulty words.End others = end_or_faulty others
+
+no_word : (field : List ℕ) → field ≢ line_word words.Bits → field ≢ line_word words.Event → field ≢ line_word words.End → (word : LineWord) → field ≡ line_word word → ⊥
+no_word field bits event end words.Bits is = bits is
+no_word field bits event end words.Event is = event is
+no_word field bits event end words.End is = end is
+
+word_decided : (field : List ℕ) → Decided (Spelled line_word Any field)
+word_decided field =
+    tried words.Bits tt (λ bits. tried words.Event tt (λ event. tried words.End tt (λ end. inr (λ found. no_word field bits event end found.0 found.2))))
+
+pub head_same : (a b : List ℕ) (rest rest' : List (List ℕ)) → a ∷ rest ≡ b ∷ rest' → a ≡ b
+head_same a b rest rest' same = cc
+
+pub says_or_is_faulty : (fields : List (List ℕ)) → SaysOrIsFaulty fields
+says_or_is_faulty [] =
+    command_or_faulty [] (λ word begins. let same = begins.first in cc) (spell_or_are_faulty commands IsLegalCommand commands_decided [])
+says_or_is_faulty (first ∷ others) = elim (word_decided first) [
+  | inl found ↦ subst (λ (field : List ℕ). SaysOrIsFaulty (field ∷ others)) (sym found.2) (worded_or_faulty found.0 others)
+  | inr none ↦ command_or_faulty (first ∷ others)
+      (λ word begins. none (word, tt, head_same first (line_word word) others begins.others begins.first))
+      (spell_or_are_faulty commands IsLegalCommand commands_decided (first ∷ others))
+]
+
+-- what an answer line does or is, behind its first field
+abbrev pub TellsOrIsFaulty : List (List ℕ) → Type 0
+TellsOrIsFaulty others = ((seen : Option Seen) × SpellSeen others seen) ⊎ ((fault : FieldsFault) × AreFaultySeen others fault)
+
+silent_or_faulty : (behind : List (List ℕ)) → TellsOrIsFaulty (mark_word Silent ∷ behind)
+silent_or_faulty [] = inl (None, record { spelling = refl; is = tt })
+silent_or_faulty (field ∷ behind) =
+    inr (Shape, inl (record { mark = Silent; behind = field ∷ behind; marked = refl; faulty = λ same. cc }))
+
+plain_or_faulty : (behind : List (List ℕ)) → SpellOrAreFaulty replies IsReplyForm behind → TellsOrIsFaulty (mark_word Plain ∷ behind)
+plain_or_faulty behind (inl found) =
+    inl (
+      Some (record { reply = found.0; extended = false }),
+      record { spelling = ap (λ (rest : List (List ℕ)). mark_word Plain ∷ rest) found.1.spelling; is = found.1.in_range },
+    )
+plain_or_faulty behind (inr faulty) = inr (faulty.0, inl (record { mark = Plain; behind = behind; marked = refl; faulty = faulty.1 }))
+
+extended_or_faulty : (behind : List (List ℕ)) → SpellOrAreFaulty replies IsReplyForm behind → TellsOrIsFaulty (mark_word Extended ∷ behind)
+extended_or_faulty behind (inl found) =
+    inl (
+      Some (record { reply = found.0; extended = true }),
+      record { spelling = ap (λ (rest : List (List ℕ)). mark_word Extended ∷ rest) found.1.spelling; is = found.1.in_range },
+    )
+extended_or_faulty behind (inr faulty) = inr (faulty.0, inl (record { mark = Extended; behind = behind; marked = refl; faulty = faulty.1 }))
+
+marked_or_faulty : (mark : Answered) (behind : List (List ℕ)) → TellsOrIsFaulty (mark_word mark ∷ behind)
+marked_or_faulty Silent behind = silent_or_faulty behind
+marked_or_faulty Plain behind = plain_or_faulty behind (spell_or_are_faulty replies IsReplyForm replies_decided behind)
+marked_or_faulty Extended behind = extended_or_faulty behind (spell_or_are_faulty replies IsReplyForm replies_decided behind)
+
+no_mark : (field : List ℕ) → field ≢ mark_word Silent → field ≢ mark_word Plain → field ≢ mark_word Extended → (mark : Answered) → field ≡ mark_word mark → ⊥
+no_mark field silent plain extended Silent is = silent is
+no_mark field silent plain extended Plain is = plain is
+no_mark field silent plain extended Extended is = extended is
+
+mark_decided : (field : List ℕ) → Decided (Spelled mark_word Any field)
+mark_decided field =
+    tried Silent tt (λ silent. tried Plain tt (λ plain. tried Extended tt (λ extended. inr (λ found. no_mark field silent plain extended found.0 found.2))))
+
+pub tells_or_is_faulty : (others : List (List ℕ)) → TellsOrIsFaulty others
+tells_or_is_faulty [] = inr (Shape, inr (inr (refl, refl)))
+tells_or_is_faulty (first ∷ behind) = elim (mark_decided first) [
+  | inl found ↦ subst (λ (field : List ℕ). TellsOrIsFaulty (field ∷ behind)) (sym found.2) (marked_or_faulty found.0 behind)
+  | inr none ↦ inr (Word, inr (inl (refl, λ mark is. none (mark, tt, is))))
+]
+
+-- what a tag line does or is
+abbrev pub TellsTagOrIsFaulty : List (List ℕ) → Type 0
+TellsTagOrIsFaulty fields = ((tag : TagSpec) × SpellsTag fields tag) ⊎ ((fault : FaultReason) × IsFaultyTagLine fields fault)
+
+-- either way of a test
+tested : (test : Bool) → (test ≡ true) ⊎ (test ≡ false)
+tested true = inl refl
+tested false = inr refl
+
+-- fields that are each of their form and range are those of a tag, but for its PC
+formed_or_not : (others : List (List ℕ)) → FormedBehind keywords.Tag others → TellsTagOrIsFaulty (keyword_text keywords.Tag ∷ others)
+formed_or_not others (lines.Tag tag, form, same, is) = elim (tested (pc_fits tag.image)) [
+  | inl fits ↦ inl (
+    tag,
+    record { spelling = ap (λ (rest : List (List ℕ)). keyword_text keywords.Tag ∷ rest) is; is = record { form = form; pc = fits } },
+  )
+  | inr broken ↦ inr (faults.Pc, (record { others = others; first = refl }, record { tag = tag; spelling = is; form = form; broken = broken }))
+]
+formed_or_not others (line, form, same, is) = cc
+
+tag_behind : (others : List (List ℕ)) → TellsTagOrIsFaulty (keyword_text keywords.Tag ∷ others)
+tag_behind others =
+    let begins : BeginsAsTag (keyword_text keywords.Tag ∷ others) = record { others = others; first = refl } in
+    elim (filled_decided 7 others) [
+      | inr unfilled ↦ inr (faults.Shape, (begins, unfilled))
+      | inl filled ↦ elim (formed_behind keywords.Tag others) [
+        | inl formed ↦ formed_or_not others formed
+        | inr never ↦ inr (faults.Number, (begins, (filled, λ tag form is. never (lines.Tag tag, form, refl, is))))
+      ]
+    ]
+
+pub tag_or_faulty : (fields : List (List ℕ)) → TellsTagOrIsFaulty fields
+tag_or_faulty [] = inr (faults.Word, λ begins. let same = begins.first in cc)
+tag_or_faulty (first ∷ others) = elim (text_decided first (keyword_text keywords.Tag)) [
+  | inl is ↦ subst (λ (field : List ℕ). TellsTagOrIsFaulty (field ∷ others)) (sym is) (tag_behind others)
+  | inr other ↦ inr (faults.Word, λ begins. other (head_same first (keyword_text keywords.Tag) others begins.others begins.first))
+]

@@ -1,0 +1,94 @@
+-- Fields spell a reply, or there is a reason for which they spell none.
+use Rattle.std.proofs.Common.{◌≡◌, ◌≢◌, ◌<◌, ◌^◌, ℕ, List, [], ◌∷◌, refl, inl, inr}
+use Rattle.reply_grammar.specs.declared.expected.Reply.{Reply}
+use Rattle.reply_grammar.specs.declared.expected.Reply.TheVariants.{Rn16, Epc, Handle, Words, Header, Error}
+use Rattle.reply_text.specs.ReplyText.{IsReplyBehind, IsReplyForm, replies, reply_name}
+use Rattle.reply_text.specs.declared.kinds.ReplyKind.{ReplyKind}
+use Rattle.reply_text.specs.declared.kinds.ReplyKind.TheVariants as kinds
+use Rattle.reply_text.specs.laws.ReplyTexts.{replies_are}
+use Rattle.scenario_lines.proofs.Decisions.{Any, Decided, Spelled, behind_decided as then, below_decided, nothing_decided as end, same_answer, text_decided}
+use Rattle.scenario_lines.proofs.FieldsDecided.{tried, word_decided, words_decided}
+use Rattle.text_fields.specs.Hexadecimal.{hex_byte, hex_word, hex_words}
+use Rattle.text_fields.specs.WordLists.{IsWordList}
+use Rattle.judge_lines.proofs.VocabularyDecided.{AreDecided}
+
+-- no more fields
+abbrev nothing : Unit {0} → List (List ℕ)
+nothing none = []
+
+-- one field, and those behind it
+abbrev with : {V W : Type 0} → (V → List ℕ) → (W → List (List ℕ)) → V × W → List (List ℕ)
+with one others value = one value.0 ∷ others value.1
+
+abbrev Both : {V W : Type 0} → (V → Type 0) → (W → Type 0) → V × W → Type 0
+Both May Might value = May value.0 × Might value.1
+
+abbrev IsWord : ℕ → Type 0
+IsWord number = number < 2 ^ 16
+
+abbrev IsByte : ℕ → Type 0
+IsByte number = number < 2 ^ 8
+
+byte_decided : (field : List ℕ) → Decided (Spelled hex_byte IsByte field)
+byte_decided field = below_decided (λ n. field ≡ hex_byte n) (λ n. text_decided field (hex_byte n)) (2 ^ 8)
+
+no_name : (field : List ℕ) → field ≢ reply_name kinds.Rn16 → field ≢ reply_name kinds.Epc → field ≢ reply_name kinds.Handle → field ≢ reply_name kinds.Words
+    → field ≢ reply_name kinds.Header → field ≢ reply_name kinds.Error → (kind : ReplyKind) → field ≡ reply_name kind → ⊥
+no_name field rn16 epc handle words header error kinds.Rn16 is = rn16 is
+no_name field rn16 epc handle words header error kinds.Epc is = epc is
+no_name field rn16 epc handle words header error kinds.Handle is = handle is
+no_name field rn16 epc handle words header error kinds.Words is = words is
+no_name field rn16 epc handle words header error kinds.Header is = header is
+no_name field rn16 epc handle words header error kinds.Error is = error is
+
+name_decided : (field : List ℕ) → Decided (Spelled reply_name Any field)
+name_decided field =
+    tried kinds.Rn16 tt (λ rn16. tried kinds.Epc tt (λ epc. tried kinds.Handle tt (λ handle. tried kinds.Words tt (λ words.
+    tried kinds.Header tt (λ header. tried kinds.Error tt (λ error. inr (λ found. no_name field rn16 epc handle words header error found.0 found.2)))))))
+
+-- behind the name of this reply, the fields spell one
+abbrev HasReply : ReplyKind → List (List ℕ) → Type 0
+HasReply kind fields = (reply : Reply) × IsReplyBehind kind fields reply
+
+rn16_there : (fields : List (List ℕ)) → HasReply kinds.Rn16 fields → Spelled (with hex_word nothing) (Both IsWord Any) fields
+rn16_there fields (Rn16 rn, is) = ((rn, tt), (is.in_range, tt), is.spelling)
+rn16_there fields (reply, is) = let kind = is.same_kind in cc
+
+epc_there : (fields : List (List ℕ)) → HasReply kinds.Epc fields → Spelled (with hex_word (with hex_words nothing)) (Both IsWord (Both (IsWordList 0 31) Any)) fields
+epc_there fields (Epc pc epc, is) = ((pc, (epc, tt)), (is.in_range.0, (is.in_range.1, tt)), is.spelling)
+epc_there fields (reply, is) = let kind = is.same_kind in cc
+
+handle_there : (fields : List (List ℕ)) → HasReply kinds.Handle fields → Spelled (with hex_word nothing) (Both IsWord Any) fields
+handle_there fields (Handle rn, is) = ((rn, tt), (is.in_range, tt), is.spelling)
+handle_there fields (reply, is) = let kind = is.same_kind in cc
+
+words_there : (fields : List (List ℕ)) → HasReply kinds.Words fields → Spelled (with hex_words nothing) (Both (IsWordList 1 512) Any) fields
+words_there fields (Words words, is) = ((words, tt), (is.in_range, tt), is.spelling)
+words_there fields (reply, is) = let kind = is.same_kind in cc
+
+header_there : (fields : List (List ℕ)) → HasReply kinds.Header fields → Spelled nothing Any fields
+header_there fields (Header, is) = (tt, tt, is.spelling)
+header_there fields (reply, is) = let kind = is.same_kind in cc
+
+error_there : (fields : List (List ℕ)) → HasReply kinds.Error fields → Spelled (with hex_byte nothing) (Both IsByte Any) fields
+error_there fields (Error code, is) = ((code, tt), (is.in_range, tt), is.spelling)
+error_there fields (reply, is) = let kind = is.same_kind in cc
+
+reply_behind : (kind : ReplyKind) (fields : List (List ℕ)) → Decided (HasReply kind fields)
+reply_behind kinds.Rn16 fields =
+    same_answer (λ found. (Rn16 found.0.0, record { same_kind = refl; in_range = found.1.0; spelling = found.2 })) (rn16_there fields) (then word_decided end fields)
+reply_behind kinds.Epc fields =
+    same_answer (λ found. (Epc found.0.0 found.0.1.0, record { same_kind = refl; in_range = (found.1.0, found.1.1.0); spelling = found.2 })) (epc_there fields)
+    (then word_decided (then (words_decided 0 31) end) fields)
+reply_behind kinds.Handle fields =
+    same_answer (λ found. (Handle found.0.0, record { same_kind = refl; in_range = found.1.0; spelling = found.2 })) (handle_there fields) (then word_decided end fields)
+reply_behind kinds.Words fields =
+    same_answer (λ found. (Words found.0.0, record { same_kind = refl; in_range = found.1.0; spelling = found.2 })) (words_there fields)
+    (then (words_decided 1 512) end fields)
+reply_behind kinds.Header fields =
+    same_answer (λ found. (Header, record { same_kind = refl; in_range = tt; spelling = found.2 })) (header_there fields) (end fields)
+reply_behind kinds.Error fields =
+    same_answer (λ found. (Error found.0.0, record { same_kind = refl; in_range = found.1.0; spelling = found.2 })) (error_there fields) (then byte_decided end fields)
+
+pub replies_decided : AreDecided replies IsReplyForm
+replies_decided = record { is = replies_are; names = name_decided; behind = reply_behind }

@@ -1,0 +1,15 @@
+use Rattle.checked_lines.specs.laws.OneOutcome.{one_fault}
+use Rattle.judge_lines.specs.LogText.{log_rules}
+use Rattle.judge_lines.proofs.LogLaws.{logs_unambiguous}
+use Rattle.judge_lines.proofs.laws.log_texts_have_one_fault.Goals as goal
+
+pub returns : goal.returns
+returns c bytes one other fault reason first first' =
+    one_fault log_rules
+    (logs_unambiguous (record {
+      lines = c.line_laws.ensures.lines;
+      tags = c.line_laws.ensures.tags;
+      seen = c.seen_laws.ensures;
+      one_effect = c.stimuli_have_one_effect.ensures.one;
+    }))
+    bytes one other fault reason first first'

@@ -1,0 +1,6 @@
+pub mod SeenLine
+pub mod LogText
+pub mod VerdictLine
+pub mod Judged
+pub mod Reading
+pub mod laws

@@ -1,0 +1,156 @@
+-- Profile: the text of a log of one tag, by its rules: where it stands behind some of its lines says which tag and which log they tell.
+use Rattle.std.specs.Prelude.{◌≡◌, ◌≢◌, ◌⊎◌, ℕ, ◌+◌, ◌<◌, ◌≤◌, List, [], ◌∷◌, ◌++◌, codes, Option, Some, None}
+use Rattle.checked_lines.specs.TextRules.{TextRules, IsFirstFault as HasFirstFault, IsText}
+use Rattle.command_grammar.specs.declared.commands.Command.{Command}
+use Rattle.log_verdicts.specs.Log.{LogEntry, LoggedTag, Seen, lines_in}
+use Rattle.log_verdicts.specs.Log as entries
+use Rattle.probe_lines.specs.Answers.{HasEffect}
+use Rattle.probe_lines.specs.LineFaults.{IsFaultyProbeLine}
+use Rattle.probe_lines.specs.ProbeLine.{SpellsProbeLine, SpellsTag}
+use Rattle.probe_lines.specs.ProbeText.{IsFaultyTagLine, IsTooMuch, most_stimuli}
+use Rattle.probe_lines.specs.Said.{ProbeLine, Stimulus, StimulusEffect}
+use Rattle.probe_lines.specs.Said as said
+use Rattle.scenario_lines.specs.declared.tag.TagSpec.{TagSpec}
+use Rattle.text_fields.specs.Lines.{fields_of}
+use Rattle.text_fields.specs.declared.fields_fault.FieldsFault.{FieldsFault}
+use Rattle.text_fields.specs.declared.fields_fault.FieldsFault.TheVariants as reasons
+use Rattle.judge_lines.specs.SeenLine.{AreFaultySeen, BeginsAsAnswer, SpellSeen}
+use Rattle.checked_lines.specs.declared.fault.FaultReason.{FaultReason}
+use Rattle.checked_lines.specs.declared.fault.FaultReason.TheVariants.{Extra, End, Version, Word, Order, Limit, Shape, Number, Pc}
+
+-- the first line
+abbrev pub version_line : List ℕ
+version_line = codes "judge 1"
+
+-- where a text stands behind some of its lines
+pub data Standing : Type 0 where
+  -- before the first line
+  start : Standing
+  -- behind the version
+  begun : Standing
+  -- behind the line of this tag and those of this log
+  within : (tag : LoggedTag) (log : List LogEntry) → Standing
+  -- ... and a line more, with which this was sent, or bits that spell no command: an answer line is needed
+  asked : (tag : LoggedTag) (log : List LogEntry) (heard : Option Command) → Standing
+  -- behind the end
+  ended : (tag : LoggedTag) (log : List LogEntry) → Standing
+
+-- The line of the tag is that of a probe, but for the words that the tag draws, which nobody knows: with one word behind them, its fields
+-- are those of a tag line.
+abbrev pub with_word : List (List ℕ) → List (List ℕ)
+with_word fields = fields ++ codes "0000" ∷ []
+
+abbrev pub logged : TagSpec → LoggedTag
+logged tag = record { image = tag.image; locks = tag.locks }
+
+-- the line says the tag, and leads there
+pub record TellsTag (line : List ℕ) (to : Standing) : Type 0 where
+  pub tag : TagSpec
+  pub spells : SpellsTag (with_word (fields_of line)) tag
+  pub leads : to ≡ within (logged tag) []
+
+-- what is sent waits for its answer; an event has none
+abbrev pub behind_effect : LoggedTag → List LogEntry → StimulusEffect → Standing
+behind_effect tag log (said.Hears command) = asked tag log (Some command)
+behind_effect tag log said.Nothing = asked tag log None
+behind_effect tag log (said.Befalls event) = within tag (log ++ entries.Befalls event ∷ [])
+
+-- there is room for a line more, and this is done to the tag
+pub record DoesNext (tag : LoggedTag) (log : List LogEntry) (stimulus : Stimulus) (to : Standing) : Type 0 where
+  pub room : lines_in log < most_stimuli
+  pub effect : StimulusEffect
+  pub has : HasEffect stimulus effect
+  pub leads : to ≡ behind_effect tag log effect
+
+-- what a line of a probe leads to behind this log
+abbrev pub LeadsTo : LoggedTag → List LogEntry → ProbeLine → Standing → Type 0
+LeadsTo tag log (said.Does stimulus) to = DoesNext tag log stimulus to
+LeadsTo tag log said.End to = to ≡ ended tag log
+
+-- The fields are those of a line of a probe, and lead there. A line that begins as an answer is none of these.
+pub record TellsNext (tag : LoggedTag) (log : List LogEntry) (fields : List (List ℕ)) (to : Standing) : Type 0 where
+  pub other : ¬ BeginsAsAnswer fields
+  pub says : ProbeLine
+  pub spells : SpellsProbeLine fields says
+  pub leads : LeadsTo tag log says to
+
+-- the fields say what the tag was seen to answer, and lead there
+pub record TellsSeen (tag : LoggedTag) (log : List LogEntry) (heard : Option Command) (fields : List (List ℕ)) (to : Standing) : Type 0 where
+  pub begins : BeginsAsAnswer fields
+  pub seen : Option Seen
+  pub spells : SpellSeen begins.others seen
+  pub room : lines_in log + 1 < most_stimuli
+  pub leads : to ≡ within tag (log ++ entries.Exchange heard seen ∷ [])
+
+-- the line may stand here, and leads there
+abbrev pub GoesTo : Standing → List ℕ → Standing → Type 0
+GoesTo start line to = (line ≡ version_line) × (to ≡ begun)
+GoesTo begun line to = TellsTag line to
+GoesTo (within tag log) line to = TellsNext tag log (fields_of line) to
+GoesTo (asked tag log heard) line to = TellsSeen tag log heard (fields_of line) to
+GoesTo (ended tag log) line to = ⊥
+
+-- the first reason for which a line says no tag
+abbrev pub IsFaultyTag : List (List ℕ) → FaultReason → Type 0
+IsFaultyTag fields fault = IsFaultyTagLine (with_word fields) fault
+
+-- the line begins as an answer, and is faulty for this reason, wherever it stands
+pub record IsFaultyAsAnswer (fields : List (List ℕ)) (fault : FieldsFault) : Type 0 where
+  pub begins : BeginsAsAnswer fields
+  pub faulty : AreFaultySeen begins.others fault
+
+-- the line doesn't begin so, and is faulty for this reason, wherever it stands
+pub record IsFaultyAsOther (fields : List (List ℕ)) (fault : FieldsFault) : Type 0 where
+  pub other : ¬ BeginsAsAnswer fields
+  pub faulty : IsFaultyProbeLine fields fault
+
+-- a word of the line is unknown
+abbrev pub HasUnknownWord : List (List ℕ) → Type 0
+HasUnknownWord fields = IsFaultyAsAnswer fields reasons.Word ⊎ IsFaultyAsOther fields reasons.Word
+
+-- the first reason for which a line is faulty that stands where no answer is awaited, behind the tag and so many lines
+abbrev pub IsFaultyNext : ℕ → List (List ℕ) → FaultReason → Type 0
+IsFaultyNext count fields Word = HasUnknownWord fields
+IsFaultyNext count fields Order = (¬ HasUnknownWord fields) × BeginsAsAnswer fields
+IsFaultyNext count fields Limit = (¬ HasUnknownWord fields) × (¬ BeginsAsAnswer fields) × IsTooMuch count fields
+IsFaultyNext count fields Shape = (¬ IsTooMuch count fields) × IsFaultyAsOther fields reasons.Shape
+IsFaultyNext count fields Number = (¬ IsTooMuch count fields) × IsFaultyAsOther fields reasons.Number
+IsFaultyNext count fields fault = ⊥
+
+-- ... where an answer is awaited
+abbrev pub IsFaultySeen : ℕ → List (List ℕ) → FaultReason → Type 0
+IsFaultySeen count fields Word = HasUnknownWord fields
+IsFaultySeen count fields Order = (¬ HasUnknownWord fields) × (¬ BeginsAsAnswer fields)
+IsFaultySeen count fields Limit = (¬ HasUnknownWord fields) × BeginsAsAnswer fields × (most_stimuli ≤ count)
+IsFaultySeen count fields Shape = (count < most_stimuli) × IsFaultyAsAnswer fields reasons.Shape
+IsFaultySeen count fields Number = (count < most_stimuli) × IsFaultyAsAnswer fields reasons.Number
+IsFaultySeen count fields fault = ⊥
+
+-- the first reason for which a line with its line feed is faulty
+abbrev pub IsFaultyHere : Standing → List ℕ → FaultReason → Type 0
+IsFaultyHere start line fault = (fault ≡ Version) × (line ≢ version_line)
+IsFaultyHere begun line fault = IsFaultyTag (fields_of line) fault
+IsFaultyHere (within tag log) line fault = IsFaultyNext (lines_in log) (fields_of line) fault
+IsFaultyHere (asked tag log heard) line fault = IsFaultySeen (lines_in log + 1) (fields_of line) fault
+IsFaultyHere (ended tag log) line fault = fault ≡ Extra
+
+-- a text ends behind its end
+abbrev pub MayEnd : Standing → Type 0
+MayEnd (ended tag log) = Unit {0}
+MayEnd standing = ⊥
+
+-- behind it nothing may stand, and before it a line is needed
+abbrev pub unended_reason : Standing → FaultReason
+unended_reason (ended tag log) = Extra
+unended_reason standing = End
+
+abbrev pub log_rules : TextRules Standing FaultReason
+log_rules = record { start = start; leads = GoesTo; is_faulty = IsFaultyHere; may_end = MayEnd; unended = unended_reason }
+
+-- the bytes are the text of this log of this tag
+abbrev pub IsLogText : List ℕ → LoggedTag → List LogEntry → Type 0
+IsLogText bytes tag log = IsText log_rules bytes (ended tag log)
+
+-- the first faulty line of the bytes, counted from 1, with its first reason
+abbrev pub IsFirstFault : List ℕ → ℕ → FaultReason → Type 0
+IsFirstFault bytes line fault = HasFirstFault log_rules bytes line fault

@@ -1,0 +1,125 @@
+//! A log, judged as its text is read.
+ghost use Rattle.std.specs.Prelude.{◌≡◌, ◌↔◌, ℕ, List, [], IfErr, IfOk, IsTrue};
+ghost use Rattle.log_judge.specs.Answers.{verdict_in};
+ghost use Rattle.scenario_lines.specs.TagForm.{IsTag};
+ghost use Rattle.text_fields.specs.Lines.{lines_of};
+ghost use Rattle.judge_lines.specs.Judged.{IsJudged, IsRefusedFor};
+ghost use Rattle.judge_lines.specs.LogText.{logged, version_line};
+ghost use Rattle.judge_lines.specs.Reading.{HasReadLog};
+
+use crate::entry::{Rooms, SaidEntry, read_entry};
+use crate::tag_line::read_logged_tag;
+use bit_strings::OutOfMemory;
+use checked_lines::{FaultReason, FaultyLine};
+use log_judge::{Judge, Verdict};
+use scenario_lines::{TagSpec, tag_lines_fit_memories};
+use std::alloc::Global;
+use std::marker::Brand;
+use std::sync::ledger::{Blank, Ledger};
+use tag_machine::Steps;
+use text_fields::split_line;
+
+/// Why a text has no verdict.
+#[derive(Clone, Copy, Debug, PartialEq, Eq)]
+pub enum Refusal {
+    /// It is no log: this is its first faulty line.
+    Line(FaultyLine),
+    /// There was no memory.
+    OutOfMemory,
+}
+
+impl From<OutOfMemory> for Refusal {
+    ghost use Rattle.std.specs.Prelude.{◌≡◌};
+    ghost use Rattle.judge_lines.specs.declared.judging.Refusal.TheVariants.{OutOfMemory};
+
+    ghost from_gives = { λ _ refusal. refusal ≡ OutOfMemory };
+
+    fn from(_none: OutOfMemory) -> Refusal {
+        Refusal::OutOfMemory
+    }
+}
+
+impl From<FaultyLine> for Refusal {
+    ghost use Rattle.std.specs.Prelude.{◌≡◌};
+    ghost use Rattle.judge_lines.specs.declared.judging.Refusal.TheVariants.{Line};
+
+    ghost from_gives = { λ fault refusal. refusal ≡ Line fault };
+
+    fn from(fault: FaultyLine) -> Refusal {
+        Refusal::Line(fault)
+    }
+}
+
+/// A fault of the line of this number.
+fn fault_at(line: u32, reason: FaultReason) -> Refusal
+    ensures { result ≡ Refusal.Line (record { line = line; reason = reason }) }
+{
+    Refusal::Line(FaultyLine { line, reason })
+}
+
+/// Whether a line is the first one of a log.
+fn is_version(line: &[u8]) -> bool
+    ensures { IsTrue result ↔ (line.now ≡ version_line) }
+{
+    line == b"judge 1".as_slice()
+}
+
+/// The tag that a text tells, and what stands behind its line.
+fn read_tag(alloc: Global, text: &[u8]) -> Result<(TagSpec, &[u8]), Refusal>
+    ensures ok { IfOk result (λ it. HasReadLog text.now (logged it.0) [] (lines_of it.1.now) × IsTag it.0) }
+    ensures refused { IfErr result (IsRefusedFor text.now) }
+{
+    let Some((line, behind)) = split_line(text) else {
+        return Err(fault_at(1, FaultReason::End));
+    };
+    if !is_version(line) {
+        return Err(fault_at(1, FaultReason::Version));
+    }
+    let Some((line, behind)) = split_line(behind) else {
+        return Err(fault_at(2, FaultReason::End));
+    };
+    let tag = read_logged_tag(alloc, line)?;
+    Ok((tag, behind))
+}
+
+/// What is judged of the log that a text says. The blank is for the counter of steps.
+fn judge_text<L: Ledger>(blank: Blank, alloc: Global, text: &[u8]) -> Result<Verdict, Refusal>
+    requires name { blank.name ≡ L.name }
+    requires parts { blank.parts ≡ L.parts }
+    requires one { blank.parts ≡ 1 }
+    ensures ok { IfOk result (λ verdict. IsJudged text.now (verdict_in verdict)) }
+    ensures refused { IfErr result (IsRefusedFor text.now) }
+{
+    // By this law a memory can be made of the tag.
+    tag_lines_fit_memories();
+    let (tag, behind) = read_tag(alloc, text)?;
+    let mut judge = Judge::new(alloc, &tag.image, tag.locks)?;
+    let mut rooms = Rooms::new(alloc)?;
+    let mut steps = Steps::<L>::new(blank);
+    let mut rest = behind;
+    let mut count = 0;
+    loop {
+        let (entry, left) = read_entry(rest, count, &mut rooms)?;
+        match entry {
+            SaidEntry::End => return Ok(judge.verdict()),
+            entry => {
+                count += entry.line_count();
+                judge = rooms.tell(judge, entry, &mut steps);
+                rest = left;
+            }
+        }
+    }
+}
+
+/// What is judged of the log that a text says. The text is read once, and no memory is taken for a line but that of the tag.
+///
+/// # Errors
+///
+/// - `Line`: the first faulty line, counted from 1, with the first reason that applies to it.
+/// - `OutOfMemory`: there was no memory.
+pub fn judge_log(alloc: Global, text: &[u8]) -> Result<Verdict, Refusal>
+    ensures ok { IfOk result (λ verdict. IsJudged text.now (verdict_in verdict)) }
+    ensures refused { IfErr result (IsRefusedFor text.now) }
+{
+    judge_text::<Brand>(Blank::new(1), alloc, text)
+}

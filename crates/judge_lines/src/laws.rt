@@ -1,0 +1,70 @@
+//! What holds of the texts of logs and of what is judged of them. Each function here states one law by its contract, and does nothing but
+//! call the laws that it follows from.
+ghost use Rattle.std.specs.Prelude.{◌≡◌, ◌⊎◌, ℕ, List};
+ghost use Rattle.log_verdicts.specs.Log.{LogEntry, LoggedTag};
+ghost use Rattle.log_verdicts.specs.Verdicts.{Verdict};
+ghost use Rattle.checked_lines.specs.declared.fault.FaultReason.{FaultReason};
+ghost use Rattle.judge_lines.specs.Judged.{IsJudged};
+ghost use Rattle.judge_lines.specs.laws.SeenLaws.{SeenLaws};
+ghost use Rattle.judge_lines.specs.LogText.{IsFirstFault, IsLogText};
+
+use log_verdicts::logs_have_one_verdict;
+use probe_lines::{line_laws, stimuli_have_one_effect};
+use reply_text::{replies_are_told_apart, replies_have_one_fault, spelled_replies_are_not_faulty};
+
+/// What the laws of single answer lines say, together.
+pub(crate) fn seen_laws()
+    ensures { SeenLaws }
+{
+    replies_are_told_apart();
+    spelled_replies_are_not_faulty();
+    replies_have_one_fault();
+}
+
+/// Bytes are the text of one log of one tag at most.
+pub fn logs_are_told_apart()
+    ensures { (bytes : List ℕ) (tag other_tag : LoggedTag) (log other_log : List LogEntry) → IsLogText bytes tag log → IsLogText bytes other_tag other_log
+        → (tag ≡ other_tag) × (log ≡ other_log) }
+{
+    line_laws();
+    stimuli_have_one_effect();
+    seen_laws();
+}
+
+/// The text of a log has no faulty line.
+pub fn log_texts_are_not_faulty()
+    ensures { (bytes : List ℕ) (tag : LoggedTag) (log : List LogEntry) (number : ℕ) (fault : FaultReason) → IsLogText bytes tag log → IsFirstFault bytes number fault → ⊥ }
+{
+    line_laws();
+    stimuli_have_one_effect();
+    seen_laws();
+}
+
+/// A text has at most one first faulty line, which has one first reason.
+pub fn log_texts_have_one_fault()
+    ensures { (bytes : List ℕ) (one other : ℕ) (fault reason : FaultReason) → IsFirstFault bytes one fault → IsFirstFault bytes other reason
+        → (one ≡ other) × (fault ≡ reason) }
+{
+    line_laws();
+    stimuli_have_one_effect();
+    seen_laws();
+}
+
+/// Each text is that of a log, or has a first faulty line.
+pub fn texts_are_logs_or_faulty()
+    ensures { (bytes : List ℕ) → ((tag : LoggedTag) × (log : List LogEntry) × IsLogText bytes tag log)
+        ⊎ ((number : ℕ) × (fault : FaultReason) × IsFirstFault bytes number fault) }
+{
+    line_laws();
+    stimuli_have_one_effect();
+    seen_laws();
+}
+
+/// The text of a log has one verdict, and one only.
+pub fn log_texts_have_one_verdict()
+    ensures some { (bytes : List ℕ) (tag : LoggedTag) (log : List LogEntry) → IsLogText bytes tag log → (verdict : Verdict) × IsJudged bytes verdict }
+    ensures one { (bytes : List ℕ) (one other : Verdict) → IsJudged bytes one → IsJudged bytes other → one ≡ other }
+{
+    logs_are_told_apart();
+    logs_have_one_verdict();
+}

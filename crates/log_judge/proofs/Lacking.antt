@@ -1,0 +1,188 @@
+-- When a tag answers a command that it need not have, and what it is when that is undone.
+use Rattle.std.proofs.Common.{◌≡◌, ◌≢◌, ℕ, ◌==◌, ◌&&◌, Bool, true, false, is_some, is_none, List, Option, Some, None, bit_xor, if◌then◌else◌, refl, sym, ◌∙◌}
+use Rattle.command_fields.specs.declared.choices.Bank.{Bank}
+use Rattle.command_grammar.specs.declared.commands.Command.{Command}
+use Rattle.command_grammar.specs.declared.commands.Command.TheVariants as commands
+use Rattle.lock_rules.specs.declared.terms.Level.{Level}
+use Rattle.lock_rules.specs.declared.terms.Level.TheVariants as levels
+use Rattle.reply_grammar.specs.declared.expected.Reply.TheVariants.{Handle}
+use Rattle.tag_memory.specs.Memory.{access_word_of}
+use Rattle.tag_machine.specs.Access.{access_whole, half_outcome, held_state, is_password, uncover, unless_other_half, whole_of, block_write_outcome, block_erase_outcome}
+use Rattle.tag_machine.specs.Answers.{Outcome, Sent, plain_answer, silent}
+use Rattle.tag_machine.specs.Draws.{back}
+use Rattle.tag_machine.specs.Inventory.{unless_half}
+use Rattle.tag_machine.specs.Numbers.{numbers_of}
+use Rattle.tag_machine.specs.Step.{step}
+use Rattle.tag_machine.specs.TagValue.{StateValue, ReadyState, ArbitrateState, ReplyState, AcknowledgedState, OpenState, SecuredState, KilledState, UnpoweredState, BodyValue, TagValue}
+use Rattle.tag_machine.specs.declared.numbers.StateNumbers.{StateNumbers}
+use Rattle.tag_machine.specs.declared.numbers.StateNumbers.TheVariants as numbers
+use Rattle.tag_machine.specs.declared.states.Half.{Half}
+use Rattle.tag_machine.specs.declared.states.Held.{Held}
+use Rattle.tag_machine.specs.declared.states.Password.{Password}
+use Rattle.tag_machine.specs.declared.states.Password.TheVariants as passwords
+use Rattle.log_verdicts.specs.Explaining.{is_optional, seen_of}
+use Rattle.log_judge.proofs.KindsMoved.{some_or_none}
+use Rattle.log_judge.proofs.Tests.{not_so}
+use Rattle.log_judge.specs.Optional.{AnswersOptional, answers_held, answers_now, answers_with, takes_cover, takes_half, takes_second}
+
+-- with the handle, or without it
+heeded : (test answered : Bool) (outcome : Outcome) (state : StateValue) (body : BodyValue) → is_some outcome.answer ≡ answered → is_some (if test then outcome else silent state body).answer ≡ (test && answered)
+heeded true answered outcome state body is = is
+heeded false answered outcome state body is = refl
+
+-- Access
+module _ (level : Level) (held : Held) (body : BodyValue) (covered : ℕ) where
+  abbrev bare : Held
+  bare = record held { cover = None }
+
+  abbrev gone : Outcome
+  gone = back held.session held.q body
+
+  by_password : (password : Password) (both : ℕ) → is_some (if is_password passwords.Access password then access_whole both bare body else gone).answer ≡ takes_second password both (access_word_of body.memory)
+  by_password passwords.Kill both = refl
+  by_password passwords.Access both = by (access_word_of body.memory == both)
+    where
+      by : (test : Bool) → is_some (if test then plain_answer (SecuredState (record bare { half = None })) body (Handle bare.handle) bare.handle else back bare.session bare.q body).answer ≡ test
+      by true = refl
+      by false = refl
+
+  by_half : (half : Option Half) (value : ℕ) → is_some (unless_other_half passwords.Access half gone (half_outcome passwords.Access level half value bare body)).answer ≡ takes_half half value (access_word_of body.memory)
+  by_half None value = refl
+  by_half (Some half) value = by_password half.password (whole_of half.value value)
+
+  uncovered : (half : Option Half) → is_some (unless_other_half passwords.Access half gone (silent (held_state level held) body)).answer ≡ false
+  uncovered None = refl
+  uncovered (Some half) = by (is_password passwords.Access half.password)
+    where
+      by : (test : Bool) → is_some (if test then silent (held_state level held) body else gone).answer ≡ false
+      by true = refl
+      by false = refl
+
+  pub by_cover : (cover : Option ℕ) → is_some (unless_other_half passwords.Access held.half gone (uncover level held body covered cover (λ it value. half_outcome passwords.Access level it.half value it body))).answer
+      ≡ takes_cover cover held.half covered (access_word_of body.memory)
+  by_cover None = uncovered held.half
+  by_cover (Some cover) = by_half held.half (bit_xor covered cover)
+
+-- BlockWrite and BlockErase
+block_answers : (half : Option Half) (outcome instead : Outcome) → is_some outcome.answer ≡ true → is_some instead.answer ≡ false → is_some (unless_half half instead outcome).answer ≡ is_none half
+block_answers None outcome instead answers other = answers
+block_answers (Some half) outcome instead answers other = other
+
+access_held : (level : Level) (covered rn : ℕ) (held : Held) (body : BodyValue)
+    → is_some (step (commands.Access covered rn) (held_state level held) body).answer ≡ (held.handle == rn && takes_cover held.cover held.half covered (access_word_of body.memory))
+access_held levels.Opened covered rn held body =
+    heeded (held.handle == rn) (takes_cover held.cover held.half covered (access_word_of body.memory))
+    (unless_other_half passwords.Access held.half (back held.session held.q body) (uncover levels.Opened held body covered held.cover (λ it value. half_outcome passwords.Access levels.Opened it.half value it body)))
+    (OpenState held) body (by_cover levels.Opened held body covered held.cover)
+access_held levels.Secured covered rn held body =
+    heeded (held.handle == rn) (takes_cover held.cover held.half covered (access_word_of body.memory))
+    (unless_other_half passwords.Access held.half (back held.session held.q body) (uncover levels.Secured held body covered held.cover (λ it value. half_outcome passwords.Access levels.Secured it.half value it body)))
+    (SecuredState held) body (by_cover levels.Secured held body covered held.cover)
+
+blocked : (state : StateValue) (rn : ℕ) (held : Held) (body : BodyValue) (outcome : Outcome) → is_some outcome.answer ≡ true
+    → is_some (if held.handle == rn then unless_half held.half (back held.session held.q body) outcome else silent state body).answer ≡ (held.handle == rn && is_none held.half)
+blocked state rn held body outcome answers =
+    heeded (held.handle == rn) (is_none held.half) (unless_half held.half (back held.session held.q body) outcome) state body
+    (block_answers held.half outcome (back held.session held.q body) answers refl)
+
+write_held : (level : Level) (bank : Bank) (pointer : ℕ) (words : List ℕ) (rn : ℕ) (held : Held) (body : BodyValue)
+    → is_some (step (commands.BlockWrite bank pointer words rn) (held_state level held) body).answer ≡ (held.handle == rn && is_none held.half)
+write_held levels.Opened bank pointer words rn held body = blocked (OpenState held) rn held body (block_write_outcome bank pointer words levels.Opened held body) refl
+write_held levels.Secured bank pointer words rn held body = blocked (SecuredState held) rn held body (block_write_outcome bank pointer words levels.Secured held body) refl
+
+erase_held : (level : Level) (bank : Bank) (pointer count rn : ℕ) (held : Held) (body : BodyValue)
+    → is_some (step (commands.BlockErase bank pointer count rn) (held_state level held) body).answer ≡ (held.handle == rn && is_none held.half)
+erase_held levels.Opened bank pointer count rn held body = blocked (OpenState held) rn held body (block_erase_outcome bank pointer count levels.Opened held body) refl
+erase_held levels.Secured bank pointer count rn held body = blocked (SecuredState held) rn held body (block_erase_outcome bank pointer count levels.Secured held body) refl
+
+-- whether such a command is answered
+not_optional : {test : Bool} → test ≡ false → test ≡ true → ⊥
+not_optional other is = not_so (sym other ∙ is)
+
+in_held : (level : Level) (command : Command) (held : Held) (body : BodyValue) → is_optional (Some command) ≡ true → is_some (step command (held_state level held) body).answer ≡ answers_held command held (access_word_of body.memory)
+in_held level (commands.QueryRep session) held body optional = absurd (not_optional refl optional)
+in_held level (commands.Ack rn) held body optional = absurd (not_optional refl optional)
+in_held level (commands.Query dr line_code trext sel session target q) held body optional = absurd (not_optional refl optional)
+in_held level (commands.QueryAdjust session updn) held body optional = absurd (not_optional refl optional)
+in_held level (commands.Select target action bank pointer mask) held body optional = absurd (not_optional refl optional)
+in_held level commands.Nak held body optional = absurd (not_optional refl optional)
+in_held level (commands.ReqRn rn) held body optional = absurd (not_optional refl optional)
+in_held level (commands.Read bank pointer count rn) held body optional = absurd (not_optional refl optional)
+in_held level (commands.Write bank pointer covered rn) held body optional = absurd (not_optional refl optional)
+in_held level (commands.Kill covered rn) held body optional = absurd (not_optional refl optional)
+in_held level (commands.Lock payload rn) held body optional = absurd (not_optional refl optional)
+in_held level (commands.Access covered rn) held body optional = access_held level covered rn held body
+in_held level (commands.BlockWrite bank pointer words rn) held body optional = write_held level bank pointer words rn held body
+in_held level (commands.BlockErase bank pointer count rn) held body optional = erase_held level bank pointer count rn held body
+
+-- elsewhere there is no answer
+abbrev SilentElsewhere : Command → StateValue → Type 0
+SilentElsewhere command state = (body : BodyValue) → is_some (step command state body).answer ≡ false
+
+module _ (state : StateValue) (access : (covered rn : ℕ) → SilentElsewhere (commands.Access covered rn) state) (write : (bank : Bank) (pointer : ℕ) (words : List ℕ) (rn : ℕ) → SilentElsewhere (commands.BlockWrite bank pointer words rn) state)
+    (erase : (bank : Bank) (pointer count rn : ℕ) → SilentElsewhere (commands.BlockErase bank pointer count rn) state) where
+  elsewhere : (command : Command) → is_optional (Some command) ≡ true → SilentElsewhere command state
+  elsewhere (commands.QueryRep session) optional = absurd (not_optional refl optional)
+  elsewhere (commands.Ack rn) optional = absurd (not_optional refl optional)
+  elsewhere (commands.Query dr line_code trext sel session target q) optional = absurd (not_optional refl optional)
+  elsewhere (commands.QueryAdjust session updn) optional = absurd (not_optional refl optional)
+  elsewhere (commands.Select target action bank pointer mask) optional = absurd (not_optional refl optional)
+  elsewhere commands.Nak optional = absurd (not_optional refl optional)
+  elsewhere (commands.ReqRn rn) optional = absurd (not_optional refl optional)
+  elsewhere (commands.Read bank pointer count rn) optional = absurd (not_optional refl optional)
+  elsewhere (commands.Write bank pointer covered rn) optional = absurd (not_optional refl optional)
+  elsewhere (commands.Kill covered rn) optional = absurd (not_optional refl optional)
+  elsewhere (commands.Lock payload rn) optional = absurd (not_optional refl optional)
+  elsewhere (commands.Access covered rn) optional = access covered rn
+  elsewhere (commands.BlockWrite bank pointer words rn) optional = write bank pointer words rn
+  elsewhere (commands.BlockErase bank pointer count rn) optional = erase bank pointer count rn
+
+in_state : (command : Command) (state : StateValue) (body : BodyValue) → is_optional (Some command) ≡ true → is_some (step command state body).answer ≡ answers_with command (numbers_of state) (access_word_of body.memory)
+in_state command ReadyState body optional = elsewhere ReadyState (λ covered rn b. refl) (λ bank pointer words rn b. refl) (λ bank pointer count rn b. refl) command optional body
+in_state command (ArbitrateState session q slot) body optional =
+    elsewhere (ArbitrateState session q slot) (λ covered rn b. refl) (λ bank pointer words rn b. refl) (λ bank pointer count rn b. refl) command optional body
+in_state command (ReplyState session q rn) body optional = elsewhere (ReplyState session q rn) (λ covered rn b. refl) (λ bank pointer words rn b. refl) (λ bank pointer count rn b. refl) command optional body
+in_state command (AcknowledgedState session q rn) body optional =
+    elsewhere (AcknowledgedState session q rn) (λ covered rn b. refl) (λ bank pointer words rn b. refl) (λ bank pointer count rn b. refl) command optional body
+in_state command (OpenState held) body optional = in_held levels.Opened command held body optional
+in_state command (SecuredState held) body optional = in_held levels.Secured command held body optional
+in_state command KilledState body optional = elsewhere KilledState (λ covered rn b. refl) (λ bank pointer words rn b. refl) (λ bank pointer count rn b. refl) command optional body
+in_state command UnpoweredState body optional = elsewhere UnpoweredState (λ covered rn b. refl) (λ bank pointer words rn b. refl) (λ bank pointer count rn b. refl) command optional body
+
+held_optional : (command : Command) (held : Held) (password : ℕ) → answers_held command held password ≡ true → is_optional (Some command) ≡ true
+held_optional (commands.QueryRep session) held password is = absurd (not_optional refl is)
+held_optional (commands.Ack rn) held password is = absurd (not_optional refl is)
+held_optional (commands.Query dr line_code trext sel session target q) held password is = absurd (not_optional refl is)
+held_optional (commands.QueryAdjust session updn) held password is = absurd (not_optional refl is)
+held_optional (commands.Select target action bank pointer mask) held password is = absurd (not_optional refl is)
+held_optional commands.Nak held password is = absurd (not_optional refl is)
+held_optional (commands.ReqRn rn) held password is = absurd (not_optional refl is)
+held_optional (commands.Read bank pointer count rn) held password is = absurd (not_optional refl is)
+held_optional (commands.Write bank pointer covered rn) held password is = absurd (not_optional refl is)
+held_optional (commands.Kill covered rn) held password is = absurd (not_optional refl is)
+held_optional (commands.Lock payload rn) held password is = absurd (not_optional refl is)
+held_optional (commands.Access covered rn) held password is = refl
+held_optional (commands.BlockWrite bank pointer words rn) held password is = refl
+held_optional (commands.BlockErase bank pointer count rn) held password is = refl
+
+with_optional : (command : Command) (it : StateNumbers) (password : ℕ) → answers_with command it password ≡ true → is_optional (Some command) ≡ true
+with_optional command numbers.None password is = absurd (not_optional refl is)
+with_optional command (numbers.Waiting session q slot) password is = absurd (not_optional refl is)
+with_optional command (numbers.Replied session q rn) password is = absurd (not_optional refl is)
+with_optional command (numbers.Held held) password is = held_optional command held password is
+
+some_seen : (answer : Option Sent) → is_some answer ≡ true → seen_of answer ≢ None
+some_seen None is = absurd (not_optional refl is)
+some_seen (Some sent) is = λ wrong. some_or_none wrong
+
+none_seen : (answer : Option Sent) → is_some answer ≡ false → seen_of answer ≡ None
+none_seen None is = refl
+none_seen (Some sent) is = absurd (not_optional is refl)
+
+pub answers_so : (command : Command) (tag : TagValue) → answers_now command tag ≡ true → AnswersOptional command tag
+answers_so command tag is =
+    let optional = with_optional command (numbers_of tag.state) (access_word_of tag.body.memory) is in
+    record { optional = optional; answered = some_seen (step command tag.state tag.body).answer (in_state command tag.state tag.body optional ∙ is) }
+
+pub answers_not : (command : Command) (tag : TagValue) → answers_now command tag ≡ false → ¬ AnswersOptional command tag
+answers_not command tag is answers = answers.answered (none_seen (step command tag.state tag.body).answer (in_state command tag.state tag.body answers.optional ∙ is))

@@ -1,0 +1,13 @@
+pub mod Tests
+pub mod Fitting
+pub mod KindsMoved
+pub mod Moving
+pub mod Judged
+pub mod HeardAnswers
+pub mod Showing
+pub mod Undoing
+pub mod Lacking
+pub mod Undone
+pub mod SameAnswers
+pub mod ShownBy
+pub mod Asked

@@ -1,0 +1,47 @@
+-- The texts of `judge`, by the laws of logs and of verdicts.
+use Rattle.std.proofs.Common.{◌≡◌, ℕ, List, sym, ◌∙◌, ap}
+use Rattle.checked_lines.specs.FaultWords.{reason_word}
+use Rattle.checked_lines.specs.TextRules.{IsFaultText}
+use Rattle.checked_lines.specs.declared.fault.FaultReason.{FaultReason}
+use Rattle.judge_lines.specs.Judged.{IsJudged}
+use Rattle.judge_lines.specs.LogText.{IsFirstFault, IsLogText, log_rules}
+use Rattle.judge_lines.specs.VerdictLine.{verdict_line}
+use Rattle.log_verdicts.specs.Log.{AreDrawn, LogEntry, LoggedTag, tag_with}
+use Rattle.log_verdicts.specs.Verdicts.{IsVerdict, Verdict, Yes}
+use Rattle.log_verdicts.specs.laws.Logs.{Deed, log_made}
+use Rattle.text_fields.specs.FaultLine.{fault_line}
+use Rattle.top_call.specs.words.Judged.{IsSomeLog, Judges, SaysYesOfTags}
+
+-- what the laws of logs say: a log that bytes say has one verdict,
+abbrev pub HasOneVerdict : Type 0
+HasOneVerdict = (bytes : List ℕ) (one other : Verdict) → IsJudged bytes one → IsJudged bytes other → one ≡ other
+
+-- and no fault,
+abbrev pub AreNotFaulty : Type 0
+AreNotFaulty = (bytes : List ℕ) (tag : LoggedTag) (log : List LogEntry) (number : ℕ) (fault : FaultReason) → IsLogText bytes tag log → IsFirstFault bytes number fault → ⊥
+
+-- bytes have one first fault,
+abbrev pub HaveOneFault : Type 0
+HaveOneFault = (bytes : List ℕ) (one other : ℕ) (fault reason : FaultReason) → IsFirstFault bytes one fault → IsFirstFault bytes other reason → (one ≡ other) × (fault ≡ reason)
+
+-- and a log that a tag makes is judged yes
+abbrev pub AreExplained : Type 0
+AreExplained = (tag : LoggedTag) (words : List ℕ) (deeds : List Deed) → AreDrawn words → IsVerdict tag (log_made deeds (tag_with tag words)) Yes
+
+pub same_text : HasOneVerdict → (bytes one other : List ℕ) → Judges bytes one → Judges bytes other → one ≡ other
+same_text once bytes one other left right =
+    left.line ∙ ap (λ (verdict : Verdict). verdict_line verdict) (once bytes left.verdict right.verdict left.judged right.judged) ∙ sym right.line
+
+pub same_refusal : HaveOneFault → (bytes one other : List ℕ) → IsFaultText log_rules bytes one → IsFaultText log_rules bytes other → one ≡ other
+same_refusal one_fault bytes one other left right =
+    let faults = one_fault bytes left.number right.number left.reason right.reason left.first right.first in
+    left.line ∙ ap (λ number. fault_line number (reason_word left.reason)) faults.0 ∙ ap (λ reason. fault_line right.number (reason_word reason)) faults.1 ∙ sym right.line
+
+pub text_not_refused : AreNotFaulty → (bytes text : List ℕ) → IsSomeLog bytes → IsFaultText log_rules bytes text → ⊥
+text_not_refused not_faulty bytes text allowed refused =
+    not_faulty bytes allowed.tag allowed.log refused.number refused.reason allowed.is refused.first
+
+pub says_yes : HasOneVerdict → AreExplained → (bytes text : List ℕ) → Judges bytes text → SaysYesOfTags bytes text
+says_yes once explained bytes text judges tag words deeds drawn is =
+    let yes : IsJudged bytes Yes = record { tag = tag; log = log_made deeds (tag_with tag words); is = is; right = explained tag words deeds drawn } in
+    judges.line ∙ ap (λ (verdict : Verdict). verdict_line verdict) (once bytes judges.verdict Yes judges.judged yes)

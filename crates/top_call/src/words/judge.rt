@@ -1,0 +1,64 @@
+//! The word `judge`: whether a log of one tag can be that of a tag that follows the tables, whatever it drew.
+ghost use Rattle.std.specs.Prelude.{◌≡◌, ◌⊎◌, ℕ, List};
+ghost use Rattle.top_call.specs.Job.{Defines, IsLawful};
+ghost use Rattle.top_call.specs.Outcome.{EndsSo, Tells, source_change, sink_change};
+ghost use Rattle.top_call.specs.words.Judged.{judge_job};
+
+use crate::ending::{MOST_INPUT_BYTES, WriteEnd, Wrote, status_of, unread_status};
+use crate::status::Status;
+use air_io::{Sink, Source, read_to_end, write_all};
+use judge_lines::{
+    Refusal, fault_text, judge_log, log_texts_are_not_faulty, log_texts_have_one_fault,
+    log_texts_have_one_verdict, push_verdict, texts_are_logs_or_faulty,
+};
+use log_verdicts::logs_that_tags_make_are_explained;
+use std::alloc::Global;
+
+/// Reads the input to its end, and writes what is defined for it. The whole input is read before anything is written.
+pub fn answer<I: Source, O: Sink>(alloc: Global, input: &mut I, output: &mut O) -> Status
+    ensures { Tells judge_job (source_change I.left I.faults input.old input.new) (sink_change O.written O.faults output.old output.new) (output.new ≡ output.old) result }
+{
+    match read_to_end(alloc, input, MOST_INPUT_BYTES) {
+        Ok(bytes) => status_of(write_judged(alloc, bytes.as_slice(), output)),
+        Err(end) => unread_status(end),
+    }
+}
+
+/// Writes what is defined for the bytes of an input: what is judged of the log that they say, or the one line that reports the first faulty
+/// line.
+fn write_judged<O: Sink>(alloc: Global, input: &[u8], output: &mut O) -> Result<Wrote, WriteEnd>
+    ensures { EndsSo judge_job input.now (sink_change O.written O.faults output.old output.new) result }
+{
+    match judge_log(alloc, input) {
+        Ok(verdict) => {
+            let mut line = String::new(alloc);
+            push_verdict(&mut line, &verdict)?;
+            write_all(output, line.as_bytes())?;
+            Ok(Wrote::Text)
+        }
+        Err(Refusal::Line(fault)) => {
+            let line = fault_text(fault);
+            write_all(output, line.as_slice())?;
+            Ok(Wrote::FaultLine)
+        }
+        Err(Refusal::OutOfMemory) => Err(WriteEnd::OutOfMemory),
+    }
+}
+
+/// An input has one verdict or one fault line at most, and never both; and a log that a tag makes by the tables is judged yes.
+pub fn judge_is_lawful()
+    ensures { IsLawful judge_job }
+{
+    log_texts_have_one_verdict();
+    log_texts_have_one_fault();
+    log_texts_are_not_faulty();
+    logs_that_tags_make_are_explained();
+}
+
+/// Each list of bytes has a defined text: the verdict on the log that it says, or its fault line.
+pub fn judge_inputs_have_a_text()
+    ensures { (bytes : List ℕ) → (text : List ℕ) × Defines judge_job bytes text }
+{
+    texts_are_logs_or_faulty();
+    log_texts_have_one_verdict();
+}
