@@ -7,7 +7,7 @@ use Rattle.access_ops.specs.declared.op_next.OpNext.TheVariants.{Send, Result, E
 use Rattle.access_ops.specs.declared.op_next.OpResult.TheVariants as results
 use Rattle.access_ops.specs.Operations.{Dialogue, sends, tells, done, denials, operations_from_rn16, is_for, dialogue_of, first_of, Move, answered, told, reception_in, dialogue_behind, dialogue_after, next_operation, IsMoveFor, AreMoves}
 use Rattle.access_ops.specs.laws.OperationLaws.{commands_in, results_in, commands_sent, results_told}
-use Rattle.access_ops.specs.laws.Running.{Runs, commands_of, operations_from_rn16-runs}
+use Rattle.access_ops.proofs.Running.{Runs, commands_of, operations_from_rn16-runs}
 
 -- the operations of the list up to one have their results
 pub record IsSplit (list : OpList) (epc : List ℕ) (rn : ℕ) (moves : List Move) (rest : List Op) : Type 0 where

@@ -13,8 +13,8 @@ use Rattle.access_ops.specs.declared.op_next.OpResult.{OpResult}
 use Rattle.access_ops.specs.declared.op_next.OpResult.TheVariants as results
 use Rattle.access_ops.specs.Operations.{Dialogue, sends, tells, done, denials, is_for, first_of, Move, told, dialogue_behind, dialogue_after, next_operation, AreMoves}
 use Rattle.access_ops.specs.laws.OperationLaws.{commands_in, results_in, commands_sent, results_told, EndsRun, Serves, Expects}
-use Rattle.access_ops.specs.laws.DialogueLaws.{first-done}
-use Rattle.access_ops.specs.laws.Running.{Runs, ServesFirst, commands-are}
+use Rattle.access_ops.proofs.DialogueLaws.{first-done}
+use Rattle.access_ops.proofs.Running.{Runs, ServesFirst, commands-are}
 use Rattle.access_ops.proofs.BehindMoves.{IsSplit, split-within, behind-done, running, denying}
 
 -- how many commands and results the first thing of a dialogue is

@@ -1,3 +1,1 @@
 pub mod OperationLaws
-pub mod DialogueLaws
-pub mod Running

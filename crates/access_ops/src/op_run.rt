@@ -52,11 +52,15 @@ impl OpRun {
     /// exactly behind a command; a whole reply in it is one that the command expects. What comes next has room for
     /// the longest list of words, and is never copied.
     pub fn next(&mut self, list: &OpList, answer: Option<&Answer>, next: &mut OpNext)
-        ensures next { (epc : List ℕ) (rn : ℕ) (moves : List Move) → OpRunStandsFor self.old list.now epc rn moves → option_copied answer.entry ≡ last_answer moves
+        ensures next { (epc : List ℕ) (rn : ℕ) (moves : List Move)
+            → OpRunStandsFor self.old list.now epc rn moves
+            → option_copied answer.entry ≡ last_answer moves
             → IsNextOperation next.new self.new list.now epc rn moves }
-        ensures turns { turns_left list.now self.new + turns_in next.new ≤ turns_left list.now self.old }
+        ensures turns { turns_left list.now self.new + turns_in next.new
+            ≤ turns_left list.now self.old }
         // Whatever it is given behind its end, that is answered again.
-        ensures again { self.old.stage ≡ Stage.Done → (next.new ≡ OpNext.End) × (self.new.stage ≡ Stage.Done) }
+        ensures again { self.old.stage ≡ Stage.Done → (next.new ≡ OpNext.End)
+            × (self.new.stage ≡ Stage.Done) }
     {
         match self.stage {
             Stage::Open => self.open(list, next),
@@ -70,8 +74,10 @@ impl OpRun {
 
     /// Asks the tag for its handle, where there is an operation.
     fn open(&mut self, list: &OpList, next: &mut OpNext)
-        ensures does { Does next.new self.new list.now (operations_from_rn16 (drop self.old.begun list.now.ops) self.old.rn) }
-        ensures turns { turns_left list.now self.new + turns_in next.new ≤ 2 + 5 * (length list.now.ops - self.old.begun) }
+        ensures does { Does next.new self.new list.now
+            (operations_from_rn16 (drop self.old.begun list.now.ops) self.old.rn) }
+        ensures turns { turns_left list.now self.new + turns_in next.new ≤ 2
+            + 5 * (length list.now.ops - self.old.begun) }
     {
         if self.begun >= list.ops.len() {
             return self.end(next);
@@ -82,8 +88,10 @@ impl OpRun {
     /// Denies the next operation, where there is one.
     fn deny(&mut self, list: &OpList, next: &mut OpNext)
         requires { self.old.stage ≡ Stage.Deny }
-        ensures does { Does next.new self.new list.now (denials (drop self.old.begun list.now.ops)) }
-        ensures turns { turns_left list.now self.new + turns_in next.new ≤ 5 * (length list.now.ops - self.old.begun) }
+        ensures does { Does next.new self.new list.now
+            (denials (drop self.old.begun list.now.ops)) }
+        ensures turns { turns_left list.now self.new + turns_in next.new
+            ≤ 5 * (length list.now.ops - self.old.begun) }
     {
         if self.begun >= list.ops.len() {
             return self.end(next);
@@ -95,7 +103,8 @@ impl OpRun {
     /// Begins the next operation, where there is one.
     fn begin(&mut self, list: &OpList, next: &mut OpNext)
         ensures does { Does next.new self.new list.now (later_of list.now self.old) }
-        ensures turns { turns_left list.now self.new + turns_in next.new ≤ 5 * (length list.now.ops - self.old.begun) }
+        ensures turns { turns_left list.now self.new + turns_in next.new
+            ≤ 5 * (length list.now.ops - self.old.begun) }
     {
         let Some(op) = list.ops.as_slice().get(self.begun as usize) else {
             return self.end(next);
@@ -106,7 +115,8 @@ impl OpRun {
 
     /// Sends the first command of an operation.
     fn begin_operation(&mut self, op: &Op, next: &mut OpNext)
-        ensures does { (list : OpList) → Does next.new self.new list (operation op.now self.old.rn (later_of list self.old)) }
+        ensures does { (list : OpList)
+            → Does next.new self.new list (operation op.now self.old.rn (later_of list self.old)) }
         ensures begun { self.new.begun ≡ self.old.begun }
         ensures turns { turns_at self.new.stage + turns_in next.new ≤ 5 }
     {
@@ -189,8 +199,11 @@ impl OpRun {
         answer: Option<&Answer>,
         next: &mut OpNext,
     )
-        ensures does { Does next.new self.new list.now (behind_heard (behind_number (behind_purpose purpose list.now self.old)) (option_copied answer.entry)) }
-        ensures turns { turns_left list.now self.new + turns_in next.new ≤ turns_at (Stage.Number purpose) + 5 * (length list.now.ops - self.old.begun) }
+        ensures does { Does next.new self.new list.now
+            (behind_heard (behind_number (behind_purpose purpose list.now self.old))
+            (option_copied answer.entry)) }
+        ensures turns { turns_left list.now self.new + turns_in next.new
+            ≤ turns_at (Stage.Number purpose) + 5 * (length list.now.ops - self.old.begun) }
     {
         match answer {
             Some(Answer::Got(Received::Whole(Reply::Handle(number)))) => {
@@ -203,8 +216,10 @@ impl OpRun {
 
     /// Goes on with a number that the tag was asked for.
     fn go_on(&mut self, list: &OpList, purpose: Purpose, number: u16, next: &mut OpNext)
-        ensures does { Does next.new self.new list.now (behind_purpose purpose list.now self.old number) }
-        ensures turns { turns_left list.now self.new + turns_in next.new ≤ turns_at (Stage.Number purpose) + 5 * (length list.now.ops - self.old.begun) }
+        ensures does { Does next.new self.new list.now
+            (behind_purpose purpose list.now self.old number) }
+        ensures turns { turns_left list.now self.new + turns_in next.new
+            ≤ turns_at (Stage.Number purpose) + 5 * (length list.now.ops - self.old.begun) }
     {
         match purpose {
             Purpose::Handle => {
@@ -220,9 +235,12 @@ impl OpRun {
 
     /// Sends what goes under this cover.
     fn send_covered(&mut self, covered: Covered, cover: u16, next: &mut OpNext)
-        ensures does { (list : OpList) → Does next.new self.new list (behind_cover covered self.old.rn (later_of list self.old) cover) }
+        ensures does { (list : OpList)
+            → Does next.new self.new list
+            (behind_cover covered self.old.rn (later_of list self.old) cover) }
         ensures begun { self.new.begun ≡ self.old.begun }
-        ensures turns { turns_at self.new.stage + turns_in next.new ≤ turns_at (Stage.Number (Purpose.Cover covered)) }
+        ensures turns { turns_at self.new.stage + turns_in next.new
+            ≤ turns_at (Stage.Number (Purpose.Cover covered)) }
     {
         let handle = self.rn;
         match covered {
@@ -289,7 +307,9 @@ impl OpRun {
 
     /// Ends an operation with what was heard of its last command.
     fn end_operation(&mut self, answer: Option<&Answer>, next: &mut OpNext)
-        ensures does { (list : OpList) → Does next.new self.new list (behind_heard (behind_last (later_of list self.old)) (option_copied answer.entry)) }
+        ensures does { (list : OpList)
+            → Does next.new self.new list
+            (behind_heard (behind_last (later_of list self.old)) (option_copied answer.entry)) }
         ensures begun { self.new.begun ≡ self.old.begun }
         ensures turns { turns_at self.new.stage + turns_in next.new ≤ 1 }
     {

@@ -5,7 +5,7 @@ use Rattle.std.proofs.lemmas.List.Splits.{join_with_byte-slice_split}
 use Rattle.std.specs.List.{join_with_byte}
 use Rattle.std.specs.Str.{bytes_eq}
 use Rattle.text_fields.specs.Lines.{line_feed, lines_of}
-use Rattle.text_fields.specs.laws.LineLaws.{some_line}
+use Rattle.text_fields.proofs.LineLaws.{some_line}
 use Rattle.air_audit.specs.TraceBehind.{behind_end, scenario_part, trace_part, up_to_end}
 
 -- the lines before the rest are of the scenario, and none is `end`

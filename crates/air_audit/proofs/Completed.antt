@@ -11,8 +11,8 @@ use Rattle.runs.specs.Report.{list_line, tag_lines}
 use Rattle.pie_line.specs.Link.{blf_of}
 use Rattle.tag_machine.specs.TagValue.{TagValue}
 use Rattle.air_audit.specs.declared.verdict.AuditReason.{AuditReason}
-use Rattle.air_audit.specs.FirstRefusal.{IsFirstRefusal, FirstLinesBegin, IsFirstThatBeginsNone}
-use Rattle.air_audit.specs.Standing.{Standing, begun, between, sending, listing, telling, ended, behind_exchange, rx_line, told_line, behind_told, next_tag, TellsNext, GoesOn, Leads}
+use Rattle.air_audit.specs.FirstRefusal.{IsFirstRefusal, FirstTraceLinesBegin, IsFirstThatBeginsNone}
+use Rattle.air_audit.specs.Standing.{TraceStanding, begun, between, sending, listing, telling, ended, behind_exchange, rx_line, told_line, behind_told, next_tag, TellsNextTag, TraceGoesOn, TraceLeads}
 use Rattle.report_lines.specs.ReadLines.{text_of}
 use Rattle.air_audit.proofs.Leading.{leads-on, leads-off}
 use Rattle.air_audit.proofs.OneReason.{more-unrefused}
@@ -28,19 +28,19 @@ abbrev pub rest_lines : ℕ → List TagValue → List (List ℕ)
 rest_lines told rest = map text_of (tag_lines told rest ++ DoneLine ∷ [])
 
 -- a standing behind the lines of so many tags: the line of the next may follow
-abbrev pub TellsFrom : Start → List Item → ℕ → Standing → Type 0
-TellsFrom start past told from = (line : List ℕ) (to : Standing) → TellsNext start past told line to → GoesOn start from line to
+abbrev pub TellsFrom : Start → List Item → ℕ → TraceStanding → Type 0
+TellsFrom start past told from = (line : List ℕ) (to : TraceStanding) → TellsNextTag start past told line to → TraceGoesOn start from line to
 
 tells-next : (start : Start) (past : List Item) (told : ℕ) (next : Option TagValue) → next ≡ next_tag start past told
-    → TellsNext start past told (text_of (told_line told next)) (behind_told past told next)
+    → TellsNextTag start past told (text_of (told_line told next)) (behind_told past told next)
 tells-next start past told next is = record {
   text = ap (λ (tag : Option TagValue). text_of (told_line told tag)) is;
   leads = ap (λ (tag : Option TagValue). behind_told past told tag) is;
 }
 
 -- the lines of the tags from one on lead to the end
-pub rest-leads : (start : Start) (past : List Item) (told : ℕ) (rest : List TagValue) (from : Standing)
-    → ((place : ℕ) → slice_get rest place ≡ next_tag start past (told + place)) → TellsFrom start past told from → Leads start from (rest_lines told rest) (ended past)
+pub rest-leads : (start : Start) (past : List Item) (told : ℕ) (rest : List TagValue) (from : TraceStanding)
+    → ((place : ℕ) → slice_get rest place ≡ next_tag start past (told + place)) → TellsFrom start past told from → TraceLeads start from (rest_lines told rest) (ended past)
 rest-leads start past told [] from are goes =
     let same : told + 0 ≡ told = omega arith in
     (ended past, goes (text_of DoneLine) (ended past) (tells-next start past told None (are 0 ∙ ap (λ (n : ℕ). next_tag start past n) same)), refl)
@@ -54,15 +54,15 @@ rest-leads start past told (tag ∷ rest) from are goes =
     )
 
 -- a standing and lines that lead from it to the end of a trace
-record Completes (start : Start) (from : Standing) : Type 0 where
+record Completes (start : Start) (from : TraceStanding) : Type 0 where
   pub more : List (List ℕ)
   pub past : List Item
-  pub leads : Leads start from more (ended past)
+  pub leads : TraceLeads start from more (ended past)
 
-completes-more : (start : Start) (from : Standing) (line : List ℕ) (behind : Standing) → GoesOn start from line behind → Completes start behind → Completes start from
+completes-more : (start : Start) (from : TraceStanding) (line : List ℕ) (behind : TraceStanding) → TraceGoesOn start from line behind → Completes start behind → Completes start from
 completes-more start from line behind goes rest = record { more = line ∷ rest.more; past = rest.past; leads = (behind, goes, rest.leads) }
 
-completes-told : (start : Start) (past : List Item) (told : ℕ) (from : Standing) → TellsFrom start past told from → Completes start from
+completes-told : (start : Start) (past : List Item) (told : ℕ) (from : TraceStanding) → TellsFrom start past told from → Completes start from
 completes-told start past told from goes = record {
   more = rest_lines told (drop told (tags_behind start past));
   past = past;
@@ -77,7 +77,7 @@ completes-listed start past [] = completes-between start past
 completes-listed start past (listed ∷ others) =
     completes-more start (listing past listed) (text_of (list_line listed)) (between past) (record { text = refl; leads = refl }) (completes-between start past)
 
-completes : (start : Start) (from : Standing) → Completes start from
+completes : (start : Start) (from : TraceStanding) → Completes start from
 completes start begun =
     completes-more start begun (text_of (BlfLine (blf_of start.link).0 (blf_of start.link).1)) (between []) (record { text = refl; leads = refl }) (completes-between start [])
 completes start (between past) = completes-between start past
@@ -90,7 +90,7 @@ completes start (ended past) = record { more = []; past = past; leads = refl }
 
 -- the lines before a refused one begin a trace, and so does each front of them
 fewer-begin : (start : Start) (bytes : List ℕ) (number : ℕ) (reason : AuditReason) → IsFirstRefusal start bytes number reason → (fewer : ℕ) → fewer < number
-    → FirstLinesBegin start bytes fewer
+    → FirstTraceLinesBegin start bytes fewer
 fewer-begin start bytes number reason first fewer less =
     let rest = completes start first.standing in
     let place : number ≡ length first.before + 1 = first.place in
@@ -106,12 +106,12 @@ fewer-begin start bytes number reason first fewer less =
       whole = omega arith;
       more = drop fewer first.before ++ rest.more;
       past = rest.past;
-      leads = subst (λ (all : List (List ℕ)). Leads start begun all (ended rest.past)) lines
+      leads = subst (λ (all : List (List ℕ)). TraceLeads start begun all (ended rest.past)) lines
           (leads-on start begun first.standing (ended rest.past) first.before rest.more first.leads rest.leads);
     }
 
 -- ... and with it none does
-none-begins : Laws → (start : Start) (bytes : List ℕ) (number : ℕ) (reason : AuditReason) → IsFirstRefusal start bytes number reason → FirstLinesBegin start bytes number → ⊥
+none-begins : Laws → (start : Start) (bytes : List ℕ) (number : ℕ) (reason : AuditReason) → IsFirstRefusal start bytes number reason → FirstTraceLinesBegin start bytes number → ⊥
 none-begins laws start bytes number reason first begins =
     let place : number ≡ length first.before + 1 = first.place in
     let whole : number < length (lines_of bytes) = begins.whole in
@@ -124,7 +124,7 @@ none-begins laws start bytes number reason first begins =
     ∙ ap (λ (front : List (List ℕ)). front ++ begins.more) (take-append-add first.before (first.line ∷ first.behind) 1)
     ∙ append_assoc first.before (first.line ∷ []) begins.more in
     let goes = leads-off laws start begun first.standing (ended begins.past) first.before (first.line ∷ begins.more) first.leads
-    (subst (λ (all : List (List ℕ)). Leads start begun all (ended begins.past)) taken begins.leads) in
+    (subst (λ (all : List (List ℕ)). TraceLeads start begun all (ended begins.past)) taken begins.leads) in
     more-unrefused start first.standing first.line first.behind goes.0 reason (λ none. let count_of_none = ap length none in omega arith) goes.1 first.refused
 
 pub first-that-begins-none : Laws → (start : Start) (bytes : List ℕ) (number : ℕ) (reason : AuditReason) → IsFirstRefusal start bytes number reason

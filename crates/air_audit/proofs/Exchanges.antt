@@ -2,7 +2,7 @@
 use Rattle.std.proofs.Common.{◌≡◌, ℕ, ◌+◌, ◌<◌, List, ◌∷◌, length, Result, Ok, Err, refl, sym, ap, ◌∙◌, subst}
 use Rattle.std.specs.List.{All}
 use Rattle.std.specs.Prelude.{IfErr, IsErrAnd}
-use Rattle.air_events.specs.Cursor.{IsLeft}
+use Rattle.air_events.specs.Cursor.{AreEntriesLeft}
 use Rattle.air_events.specs.Entries.{entry_at}
 use Rattle.air_events.specs.declared.Entry.{Entry}
 use Rattle.air_events.specs.declared.Event.{Event}
@@ -14,7 +14,7 @@ use Rattle.tag_machine.specs.Exchange.{AreLegalTags, outcomes_in, replies_from, 
 use Rattle.tag_machine.specs.TagValue.{TagValue}
 use Rattle.air_model.specs.Channel.{given_of, heard_levels}
 use Rattle.air_model.specs.Past.{Start, Item, exchanged, exchanges_in, next_entry, tags_behind}
-use Rattle.runs.specs.laws.Tags.{length-tags, tags-exchanged}
+use Rattle.runs.proofs.Tags.{length-tags, tags-exchanged}
 use Rattle.tag_population.specs.Hearing.{tags_after_events}
 use Rattle.air_audit.specs.Auditing.{AreAsGiven, AuditorValue, IsHearing, KeepsUp}
 use Rattle.air_audit.specs.Standing.{Place, place_in, place_of_command, record_of}
@@ -57,7 +57,7 @@ pub record Exchange (start : Start) (past : List Item) (command : Command) (afte
   pub levels : after.answers.levels ≡ heard_levels before.answers.link (given_of before.answers.link (replies_from 0 outcomes) entry.choice before.several)
   pub link : after.answers.link ≡ before.answers.link
   pub several : after.several ≡ before.several
-  pub entries : IsLeft after.entries start.entries (exchanges_in past + 1)
+  pub entries : AreEntriesLeft after.entries start.entries (exchanges_in past + 1)
   pub exchanges : after.exchanges ≡ before.exchanges + 1
   pub round : after.round ≡ (place_of_command (record { round = before.round; slot = before.slot }) command).round
   pub slot : after.slot ≡ (place_of_command (record { round = before.round; slot = before.slot }) command).slot
@@ -136,8 +136,8 @@ parts-of seen before is = record {
   exchanges_are = ap (λ (a : AuditorValue). a.exchanges) is;
 }
 
-pub left-before : (start : Start) (past : List Item) (before : AuditorValue) (parts : Parts before) → KeepsUp start past before → IsLeft parts.entries start.entries (exchanges_in past)
-left-before start past before parts keeps = subst (λ (l : List (ℕ × Entry)). IsLeft l start.entries (exchanges_in past)) (sym parts.entries_are) keeps.entries
+pub left-before : (start : Start) (past : List Item) (before : AuditorValue) (parts : Parts before) → KeepsUp start past before → AreEntriesLeft parts.entries start.entries (exchanges_in past)
+left-before start past before parts keeps = subst (λ (l : List (ℕ × Entry)). AreEntriesLeft l start.entries (exchanges_in past)) (sym parts.entries_are) keeps.entries
 
 pub next-number : (start : Start) (past : List Item) (before : AuditorValue) (parts : Parts before) (exchange : ℕ) → KeepsUp start past before → exchange ≡ parts.exchanges + 1
     → exchange ≡ exchanges_in past + 1
@@ -145,7 +145,7 @@ next-number start past before parts exchange keeps is = is ∙ ap (λ n. n + 1) 
 
 -- what is said of the next exchange, by the cursor of the auditor
 pub next-known : (start : Start) (past : List Item) (before : AuditorValue) (parts : Parts before) (exchange : ℕ) (entry : Entry) → KeepsUp start past before → exchange ≡ parts.exchanges + 1
-    → ((entries : List (ℕ × Entry)) (played : ℕ) → IsLeft parts.entries entries played → exchange ≡ played + 1 → entry ≡ entry_at entries exchange)
+    → ((entries : List (ℕ × Entry)) (played : ℕ) → AreEntriesLeft parts.entries entries played → exchange ≡ played + 1 → entry ≡ entry_at entries exchange)
     → NextEntry start past parts.tags entry
 next-known start past before parts exchange entry keeps is says =
     let number = next-number start past before parts exchange keeps is in

@@ -9,13 +9,13 @@ use Rattle.tag_machine.specs.TagValue.{TagValue}
 use Rattle.air_model.specs.Channel.{Given, heard_levels}
 use Rattle.air_model.specs.Past.{Start, Record, Item, exchanges_in, next_entry, tags_behind}
 use Rattle.air_model.specs.Reception.{IsGiven}
-use Rattle.air_model.specs.laws.ReceptionLaws.{heard_most}
+use Rattle.air_model.proofs.ReceptionLaws.{heard_most}
 use Rattle.report_lines.specs.ReportLine.{ReportLine, BlfLine, RxLine, report_line_text}
 use Rattle.runs.proofs.Answering.{TagLaws, given-of-answers}
-use Rattle.air_audit.specs.Auditing.{AuditorValue, GoesOnOrStops, GoesOnWith, IsAt, IsHearing, KeepsUp, SendsTo, StandsAt, StopsAt, Tells, TellsOther, position_behind}
+use Rattle.air_audit.specs.Auditing.{AuditorValue, GoesOnOrStops, GoesOnWith, AuditorIsAt, IsHearing, KeepsUp, SendsTo, AuditorStandsAt, StopsAt, TellsLine, TellsOther, position_behind}
 use Rattle.air_audit.specs.LineRefusals.{DiffersFirst, IsNoTxLine, IsRefusedHere}
-use Rattle.air_audit.specs.Standing.{begun, between, sending, telling, TellsNext, behind_told, next_tag, record_of, rx_line, told_line}
-use Rattle.report_lines.specs.ReadLines.{first_field, most_levels, text_of}
+use Rattle.air_audit.specs.Standing.{begun, between, sending, telling, TellsNextTag, behind_told, next_tag, record_of, rx_line, told_line}
+use Rattle.report_lines.specs.ReadLines.{first_field, most_rx_levels, text_of}
 use Rattle.air_audit.specs.TraceLines.{IsOfTags, IsUnjudged}
 use Rattle.air_audit.specs.declared.auditor.Position.{Position}
 use Rattle.air_audit.specs.declared.auditor.Position.TheVariants as positions
@@ -83,7 +83,7 @@ sends-not start past line exchange reasons.Word word number refused = absurd ref
 sends-not start past line exchange reason word number refused = inl (word, subst (λ n. IsNoTxLine n line reason) number refused)
 
 -- nothing in the line is judged
-pub passes-by : (start : Start) (past : List Item) (line : List ℕ) (auditor : AuditorValue) → IsUnjudged (first_field line) → IsAt positions.Between start past auditor
+pub passes-by : (start : Start) (past : List Item) (line : List ℕ) (auditor : AuditorValue) → IsUnjudged (first_field line) → AuditorIsAt positions.Between start past auditor
     → GoesOnWith start (between past) line auditor
 passes-by start past line auditor unjudged at = record {
   next = between past;
@@ -93,19 +93,19 @@ passes-by start past line auditor unjudged at = record {
 
 -- the line of the next tag, or the last line
 tells-next : (start : Start) (past : List Item) (told : ℕ) (line : List ℕ) (before after : AuditorValue) → KeepsUp start past before
-    → Tells told (slice_get before.tags told) line before after → TellsNext start past told line (behind_told past told (next_tag start past told))
+    → TellsLine told (slice_get before.tags told) line before after → TellsNextTag start past told line (behind_told past told (next_tag start past told))
 tells-next start past told line before after keeps tells = record {
   text = tells.text_is ∙ ap (λ (tags : List TagValue). text_of (told_line told (slice_get tags told))) keeps.tags;
   leads = refl;
 }
 
 stands-told : (start : Start) (past : List Item) (told : ℕ) (next : Option TagValue) (after : AuditorValue) → KeepsUp start past after → after.position ≡ position_behind told next
-    → StandsAt start (behind_told past told next) after
+    → AuditorStandsAt start (behind_told past told next) after
 stands-told start past told None after keeps position = record { position_is = position; keeps = keeps }
 stands-told start past told (Some tag) after keeps position = record { position_is = position; keeps = keeps }
 
 pub told-on : (start : Start) (past : List Item) (told : ℕ) (line : List ℕ) (before after : AuditorValue) → KeepsUp start past before
-    → Tells told (slice_get before.tags told) line before after → GoesOnWith start (telling past told) line after
+    → TellsLine told (slice_get before.tags told) line before after → GoesOnWith start (telling past told) line after
 told-on start past told line before after keeps tells =
     let position : after.position ≡ position_behind told (slice_get before.tags told) = ap (λ (a : AuditorValue). a.position) tells.moves in
     record {
@@ -133,7 +133,7 @@ first-not start past line before (stops.Refused reason) keeps word other =
     subst (λ (r : AuditReason). IsRefusedHere start (between past) line r) (sym other.0) (inr (word, tag-not start past 0 line before keeps other.1))
 
 -- no levels come that are too many for a line
-pub levels-few : TagLaws → (start : Start) (past : List Item) (sent : Record) (auditor : AuditorValue) → IsHearing start past sent auditor → length auditor.answers.levels ≤ most_levels
+pub levels-few : TagLaws → (start : Start) (past : List Item) (sent : Record) (auditor : AuditorValue) → IsHearing start past sent auditor → length auditor.answers.levels ≤ most_rx_levels
 levels-few laws start past sent auditor is =
     let given : IsGiven sent.given =
     subst (λ (g : Given). IsGiven g) (sym (ap (λ (r : Record). r.given) is.made))
@@ -178,7 +178,7 @@ rx-not start past sent line auditor reason is not =
 
 -- the line of the first tag, or the last line, or why it is none
 pub record TellsFirst (line : List ℕ) (before after : AuditorValue) (result : Result (Unit {0}) Stop) : Type 0 where
-  pub told : IsOk result → Tells 0 (slice_get before.tags 0) line before after
+  pub told : IsOk result → TellsLine 0 (slice_get before.tags 0) line before after
   pub other : IfErr result (TellsOther (told_line 0 (slice_get before.tags 0)) line)
 
 -- the answer to a line that begins as the line of a tag, or as the last one

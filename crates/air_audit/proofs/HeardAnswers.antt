@@ -8,23 +8,23 @@ use Rattle.line_code.specs.Stream.{stream_of}
 use Rattle.line_code.specs.TableFacts.{with_level_flipped}
 use Rattle.line_codes.specs.Codes.{table_of}
 use Rattle.pie_line.specs.Link.{LinkValue}
-use Rattle.reply_grammar.specs.laws.Suiting.{spelling-within}
+use Rattle.reply_grammar.proofs.Suiting.{spelling-within}
 use Rattle.tag_machine.specs.Answers.{IsSent}
 use Rattle.tag_machine.specs.Exchange.{Replied}
 use Rattle.tag_population.specs.Answers.{AnswerValue, answer_of, answers_of}
 use Rattle.air_model.specs.Channel.{default_given, first_broken, heard_levels, whole_or_silence}
-use Rattle.air_model.specs.laws.ReceptionLaws.{few_words, levels_least}
-use Rattle.air_audit.specs.Rooms.{IsShort}
+use Rattle.air_model.proofs.ReceptionLaws.{few_words, levels_least}
+use Rattle.air_audit.specs.Rooms.{IsShortAnswer}
 
 abbrev IsSentReply : Replied → Type 0
 IsSentReply replied = IsSent (Some replied.sent)
 
 -- what tags send is no longer than the longest reply
-pub short-answers : (replies : List Replied) → All (λ (replied : Replied). IsSent (Some replied.sent)) replies → All IsShort (answers_of replies)
-short-answers [] sent = All-nil IsShort
+pub short-answers : (replies : List Replied) → All (λ (replied : Replied). IsSent (Some replied.sent)) replies → All IsShortAnswer (answers_of replies)
+short-answers [] sent = All-nil IsShortAnswer
 short-answers (replied ∷ others) sent =
     let range : IsSent (Some replied.sent) = All-head IsSentReply replied others sent in
-    All-cons IsShort (answer_of replied) (answers_of others)
+    All-cons IsShortAnswer (answer_of replied) (answers_of others)
     (spelling-within replied.sent.reply replied.sent.handle range.0 (few_words replied.sent.reply range.2)).1
     (short-answers others (All-tail IsSentReply replied others sent))
 

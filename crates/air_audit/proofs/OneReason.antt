@@ -11,7 +11,7 @@ use Rattle.air_audit.specs.declared.verdict.AuditReason.TheVariants as reasons
 use Rattle.air_audit.specs.FirstRefusal.{IsRefusedBefore}
 use Rattle.report_lines.specs.ReadLines.{HasTxShape, HasRxShape}
 use Rattle.air_audit.specs.LineRefusals.{IsNoTxLine, DiffersFirst, IsNoRxLine, IsNoNextTag, IsBetweenWord, IsRefusedHere}
-use Rattle.air_audit.specs.Standing.{Standing, begun, between, sending, listing, telling, ended, rx_line, SendsNext, TellsNext, GoesOn}
+use Rattle.air_audit.specs.Standing.{TraceStanding, begun, between, sending, listing, telling, ended, rx_line, SendsNext, TellsNextTag, TraceGoesOn}
 use Rattle.report_lines.specs.ReadLines.{text_of, first_field, TxFields, RxFields}
 use Rattle.air_audit.specs.TraceLines.{IsOfTags, IsUnjudged, AreFrameOf, Sends}
 use Rattle.air_audit.proofs.FirstPart.{FailsAt, Narrows, one-first}
@@ -150,7 +150,7 @@ tag-reason : (start : Start) (past : List Item) (told : ℕ) (line : List ℕ) (
 tag-reason start past told line reasons.Tag none = refl
 tag-reason start past told line reason none = absurd none
 
-tag-told : (start : Start) (past : List Item) (told : ℕ) (line : List ℕ) (reason : AuditReason) (to : Standing) → TellsNext start past told line to
+tag-told : (start : Start) (past : List Item) (told : ℕ) (line : List ℕ) (reason : AuditReason) (to : TraceStanding) → TellsNextTag start past told line to
     → IsNoNextTag start past told line reason → ⊥
 tag-told start past told line reasons.Tag to tells none = none tells.text
 tag-told start past told line reason to tells none = absurd none
@@ -250,7 +250,7 @@ telling-one start past told line one other (inr (inr tag)) (inl list) = absurd (
 telling-one start past told line one other (inr (inr tag)) (inr (inl word)) = absurd (word.no_word tag.0)
 telling-one start past told line one other (inr (inr tag)) (inr (inr tag')) = tag-reason-one start past told line one other tag.1 tag'.1
 
-pub reason-one : (start : Start) (from : Standing) (line : List ℕ) (one other : AuditReason) → IsRefusedHere start from line one
+pub reason-one : (start : Start) (from : TraceStanding) (line : List ℕ) (one other : AuditReason) → IsRefusedHere start from line one
     → IsRefusedHere start from line other → one ≡ other
 reason-one start begun line one other first second = first.0 ∙ sym second.0
 reason-one start (between past) line one other first second =
@@ -262,7 +262,7 @@ reason-one start (telling past told) line one other first second =
     telling-one start past told line one other (telling-kind start past told line one first) (telling-kind start past told line other second)
 reason-one start (ended past) line one other first second = first ∙ sym second
 
-sends-unrefused : (start : Start) (past : List Item) (line : List ℕ) (to : Standing) (reason : AuditReason) → SendsNext start past line to
+sends-unrefused : (start : Start) (past : List Item) (line : List ℕ) (to : TraceStanding) (reason : AuditReason) → SendsNext start past line to
     → BetweenRefusal start past line reason → ⊥
 sends-unrefused start past line to reason sends (inl list) = list-tx (first_field line) list.list (tx-word line sends.sends.tx)
 sends-unrefused start past line to reason sends (inr (inl word)) = word.no_word (inl (tx-word line sends.sends.tx))
@@ -277,14 +277,14 @@ passes-unrefused start past line reason unjudged (inr (inl word)) = word.no_word
 passes-unrefused start past line reason unjudged (inr (inr (inl tx))) = tx-unjudged (first_field line) tx.0 unjudged
 passes-unrefused start past line reason unjudged (inr (inr (inr tag))) = unjudged-tags (first_field line) unjudged tag.0
 
-tells-unrefused : (start : Start) (past : List Item) (line : List ℕ) (to : Standing) (reason : AuditReason) → TellsNext start past 0 line to
+tells-unrefused : (start : Start) (past : List Item) (line : List ℕ) (to : TraceStanding) (reason : AuditReason) → TellsNextTag start past 0 line to
     → BetweenRefusal start past line reason → ⊥
 tells-unrefused start past line to reason tells (inl list) = list-tags (first_field line) list.list (tells-word start past 0 line to tells)
 tells-unrefused start past line to reason tells (inr (inl word)) = word.no_word (inr (inr (tells-word start past 0 line to tells)))
 tells-unrefused start past line to reason tells (inr (inr (inl tx))) = tx-tags (first_field line) tx.0 (tells-word start past 0 line to tells)
 tells-unrefused start past line to reason tells (inr (inr (inr tag))) = tag-told start past 0 line reason to tells tag.1
 
-between-unrefused : (start : Start) (past : List Item) (line : List ℕ) (to : Standing) (reason : AuditReason) → GoesOn start (between past) line to
+between-unrefused : (start : Start) (past : List Item) (line : List ℕ) (to : TraceStanding) (reason : AuditReason) → TraceGoesOn start (between past) line to
     → BetweenRefusal start past line reason → ⊥
 between-unrefused start past line to reason (inl sends) refused = sends-unrefused start past line to reason sends refused
 between-unrefused start past line to reason (inr (inl passes)) refused = passes-unrefused start past line reason passes.unjudged refused
@@ -296,14 +296,14 @@ heard-unrefused start sent line reason is (inl list) = list-rx (first_field line
 heard-unrefused start sent line reason is (inr (inl word)) = word.no_word (rx-word start sent line is)
 heard-unrefused start sent line reason is (inr (inr rx)) = rx.1.other is
 
-told-unrefused : (start : Start) (past : List Item) (told : ℕ) (line : List ℕ) (to : Standing) (reason : AuditReason) → TellsNext start past told line to
+told-unrefused : (start : Start) (past : List Item) (told : ℕ) (line : List ℕ) (to : TraceStanding) (reason : AuditReason) → TellsNextTag start past told line to
     → TellingRefusal start past told line reason → ⊥
 told-unrefused start past told line to reason tells (inl list) = list-tags (first_field line) list.list (tells-word start past told line to tells)
 told-unrefused start past told line to reason tells (inr (inl word)) = word.no_word (tells-word start past told line to tells)
 told-unrefused start past told line to reason tells (inr (inr tag)) = tag-told start past told line reason to tells tag.1
 
 -- a line that follows isn't refused
-pub follows-unrefused : (start : Start) (from : Standing) (line : List ℕ) (to : Standing) (reason : AuditReason) → GoesOn start from line to
+pub follows-unrefused : (start : Start) (from : TraceStanding) (line : List ℕ) (to : TraceStanding) (reason : AuditReason) → TraceGoesOn start from line to
     → IsRefusedHere start from line reason → ⊥
 follows-unrefused start begun line to reason goes refused = refused.1 goes.text
 follows-unrefused start (between past) line to reason goes refused = between-unrefused start past line to reason goes (between-kind start past line reason refused)
@@ -315,7 +315,7 @@ follows-unrefused start (telling past told) line to reason goes refused =
 follows-unrefused start (ended past) line to reason goes refused = goes
 
 -- ... nor is it where more lines stand behind it
-pub more-unrefused : (start : Start) (from : Standing) (line : List ℕ) (more : List (List ℕ)) (to : Standing) (reason : AuditReason) → more ≢ []
-    → GoesOn start from line to → IsRefusedBefore more start from line reason → ⊥
+pub more-unrefused : (start : Start) (from : TraceStanding) (line : List ℕ) (more : List (List ℕ)) (to : TraceStanding) (reason : AuditReason) → more ≢ []
+    → TraceGoesOn start from line to → IsRefusedBefore more start from line reason → ⊥
 more-unrefused start from line [] to reason some goes refused = some refl
 more-unrefused start from line (next ∷ more) to reason some goes refused = follows-unrefused start from line to reason goes refused

@@ -4,13 +4,13 @@ use Rattle.std.specs.Prelude.{All}
 use Rattle.std.specs.Fmt.{decimal}
 use Rattle.text_fields.specs.Binary.{binary}
 use Rattle.std.proofs.lemmas.List.Elements.{All-head, All-tail}
-use Rattle.text_fields.specs.laws.ToldApart.{binary_told, decimal_told}
+use Rattle.text_fields.proofs.ToldApart.{binary_told, decimal_told}
 use Rattle.command_grammar.specs.Commands.{SpellsCommand}
 use Rattle.command_grammar.specs.declared.commands.Command.{Command}
 use Rattle.pie_line.specs.Pie.{IsFrame, longest_interval}
 use Rattle.pie_line.specs.declared.frame.FrameKind.{FrameKind}
 use Rattle.air_model.specs.Past.{Start, Item, exchanges_in}
-use Rattle.air_audit.specs.Standing.{Standing, begun, between, sending, listing, telling, ended, TellsNext, GoesOn, record_of, next_tag}
+use Rattle.air_audit.specs.Standing.{TraceStanding, begun, between, sending, listing, telling, ended, TellsNextTag, TraceGoesOn, record_of, next_tag}
 use Rattle.report_lines.specs.ReadLines.{first_field, TxFields, RxFields}
 use Rattle.air_audit.specs.TraceLines.{IsOfTags, AreFrameOf, Sends}
 use Rattle.air_audit.proofs.Words.{told-word, tx-unjudged, tx-tags, unjudged-tags}
@@ -62,11 +62,11 @@ pub tx-word : (line : List ℕ) → TxFields line → first_field line ≡ codes
 tx-word line tx = ap (λ (fields : List (List ℕ)). get_or fields 0 []) tx.are
 
 -- ... and one that tells of a tag with tag or done
-pub tells-word : (start : Start) (past : List Item) (told : ℕ) (line : List ℕ) (to : Standing) → TellsNext start past told line to → IsOfTags (first_field line)
+pub tells-word : (start : Start) (past : List Item) (told : ℕ) (line : List ℕ) (to : TraceStanding) → TellsNextTag start past told line to → IsOfTags (first_field line)
 tells-word start past told line to tells =
     subst (λ (text : List ℕ). IsOfTags (first_field text)) (sym tells.text) (told-word told (next_tag start past told))
 
-pub goes-one : Laws → (start : Start) (from : Standing) (line : List ℕ) (to other : Standing) → GoesOn start from line to → GoesOn start from line other → to ≡ other
+pub goes-one : Laws → (start : Start) (from : TraceStanding) (line : List ℕ) (to other : TraceStanding) → TraceGoesOn start from line to → TraceGoesOn start from line other → to ≡ other
 goes-one laws start begun line to other one second = one.leads ∙ sym second.leads
 goes-one laws start (between past) line to other (inl one) (inl second) =
     let same = sends-one laws (exchanges_in past + 1) line one.command second.command one.sends second.sends in

@@ -16,7 +16,7 @@ use Rattle.reply_grammar.specs.Reception.{Reception, whole_reply}
 use Rattle.reply_grammar.specs.declared.expected.Reply.TheVariants as replies
 use Rattle.report_lines.specs.Kept.{keeps}
 use Rattle.report_lines.specs.ReportLine.{ReportLine, MissedLine, GivenLine, TxLine, OpLine, RoundLine, SeenLine, DoneLine}
-use Rattle.report_lines.specs.SeenCounts.{Seen}
+use Rattle.report_lines.specs.SeenCounts.{SeenCount}
 use Rattle.report_lines.specs.declared.mode.Mode.TheVariants.{Trace}
 use Rattle.runs.specs.Headline.{AreLegalSteps, IsRecordOf}
 use Rattle.runs.specs.History.{history_of}
@@ -32,7 +32,7 @@ use Rattle.tag_machine.specs.Exchange.{outcome_in}
 use Rattle.tag_machine.specs.TagValue.{TagValue}
 use Rattle.air_audit.specs.AuditedTrace.{IsAudited}
 use Rattle.air_audit.specs.OwnTraces.{HasNoEventStep}
-use Rattle.air_audit.specs.Standing.{Place, Standing, begun, between, sending, ended, behind_exchange, place_in, place_of_command, record_of, rx_line, Leads}
+use Rattle.air_audit.specs.Standing.{Place, TraceStanding, begun, between, sending, ended, behind_exchange, place_in, place_of_command, record_of, rx_line, TraceLeads}
 use Rattle.report_lines.specs.ReadLines.{text_of, first_field}
 use Rattle.air_audit.specs.TraceLines.{IsUnjudged, Sends}
 use Rattle.air_audit.proofs.Completed.{rest_lines, rest-leads}
@@ -112,7 +112,7 @@ listed-same sent other command is is' same =
 
 -- the list lines of an exchange, one or none
 lists-lead : (start : Start) (past : List Item) (sent : Record) (reception : Reception)
-    → Leads start (behind_exchange past (listed_from sent reception)) (map text_of (map list_line (listed_from sent reception))) (between past)
+    → TraceLeads start (behind_exchange past (listed_from sent reception)) (map text_of (map list_line (listed_from sent reception))) (between past)
 lists-lead start past sent (whole_reply (replies.Epc pc epc)) = (between past, record { text = refl; leads = refl }, refl)
 lists-lead start past sent reception = refl
 
@@ -123,7 +123,7 @@ judged-ack start own sent (commands.Ack rn) ack place = ap (λ (p : Place). next
 judged-ack start own sent command ack place = absurd ack
 
 exchange-leads : WrittenLaws → (start : Start) (past own : List Item) (sent : Record) → IsLegalLink start.link → IsSame past own → IsOwnRecord start past sent
-    → Leads start (between own) (map text_of (wave_lines start.link sent ++ map list_line (listed_by sent))) (between (exchanged (record_of start own sent.command) ∷ own))
+    → TraceLeads start (between own) (map text_of (wave_lines start.link sent ++ map list_line (listed_by sent))) (between (exchanged (record_of start own sent.command) ∷ own))
 exchange-leads laws start past own sent lawful same is =
     let judge : Record = record_of start own sent.command in
     let made = made-same start past own sent same is in
@@ -139,14 +139,14 @@ exchange-leads laws start past own sent lawful same is =
       (
         behind_exchange (exchanged judge ∷ own) (listed_by judge),
         record { text = ap (λ (r : Record). text_of (rx_line start r)) made; leads = refl },
-        subst (λ (listed : List Listed). Leads start (behind_exchange (exchanged judge ∷ own) (listed_by judge)) (map text_of (map list_line listed)) (between (exchanged judge ∷ own)))
+        subst (λ (listed : List Listed). TraceLeads start (behind_exchange (exchanged judge ∷ own) (listed_by judge)) (map text_of (map list_line listed)) (between (exchanged judge ∷ own)))
             (sym listed) (lists-lead start (exchanged judge ∷ own) judge (reception_of_ack judge judge.command)),
       ),
     )
 
 -- lines that aren't judged
 unjudged-lead : (start : Start) (past : List Item) (lines : List ReportLine) → AllByRecursion (λ line. IsUnjudged (first_field (text_of line))) lines
-    → Leads start (between past) (map text_of lines) (between past)
+    → TraceLeads start (between past) (map text_of lines) (between past)
 unjudged-lead start past [] are = refl
 unjudged-lead start past (line ∷ lines) are = (between past, inr (inl (record { unjudged = are.0; leads = refl })), unjudged-lead start past lines are.1)
 
@@ -195,25 +195,25 @@ exchange-kept link sent =
     ∙ ap₂ (λ (one other : List ReportLine). one ++ other) (waves-kept link sent) (all-kept (map list_line (listed_by sent)) (lists-of-trace (listed_by sent)))
 
 -- the lines of what happened once follow those of the past
-more-lead : (start : Start) (past : List Item) (item : Item) (own : List Item) (to : Standing)
-    → Leads start begun (map text_of (kept_lines (past_lines start.link past))) (between own)
-    → Leads start (between own) (map text_of (kept_lines (item_lines start.link item))) to
-    → Leads start begun (map text_of (kept_lines (past_lines start.link (item ∷ past)))) to
+more-lead : (start : Start) (past : List Item) (item : Item) (own : List Item) (to : TraceStanding)
+    → TraceLeads start begun (map text_of (kept_lines (past_lines start.link past))) (between own)
+    → TraceLeads start (between own) (map text_of (kept_lines (item_lines start.link item))) to
+    → TraceLeads start begun (map text_of (kept_lines (past_lines start.link (item ∷ past)))) to
 more-lead start past item own to first then =
     let one = kept_lines (past_lines start.link past) in
     let other = kept_lines (item_lines start.link item) in
     let lines : map text_of one ++ map text_of other ≡ map text_of (kept_lines (past_lines start.link (item ∷ past))) =
     sym (map-append text_of one other) ∙ ap (map text_of) (sym (filter-append (keeps Trace) (past_lines start.link past) (item_lines start.link item))) in
-    subst (λ (all : List (List ℕ)). Leads start begun all to) lines (leads-on start begun (between own) to (map text_of one) (map text_of other) first then)
+    subst (λ (all : List (List ℕ)). TraceLeads start begun all to) lines (leads-on start begun (between own) to (map text_of one) (map text_of other) first then)
 
 -- the lines of a past
 past-leads : WrittenLaws → (start : Start) (past : List Item) → IsLegalLink start.link → AreOwn start past
-    → Leads start begun (map text_of (kept_lines (past_lines start.link past))) (between (judged start past))
+    → TraceLeads start begun (map text_of (kept_lines (past_lines start.link past))) (between (judged start past))
 past-leads laws start [] lawful are = (between [], record { text = refl; leads = refl }, refl)
 past-leads laws start (befell event number ∷ past) lawful are = absurd are.0
 past-leads laws start (exchanged sent ∷ past) lawful are =
     more-lead start past (exchanged sent) (judged start past) (between (judged start (exchanged sent ∷ past))) (past-leads laws start past lawful are.1)
-    (subst (λ (lines : List ReportLine). Leads start (between (judged start past)) (map text_of lines) (between (judged start (exchanged sent ∷ past))))
+    (subst (λ (lines : List ReportLine). TraceLeads start (between (judged start past)) (map text_of lines) (between (judged start (exchanged sent ∷ past))))
     (sym (exchange-kept start.link sent)) (exchange-leads laws start past (judged start past) sent lawful (judged-same start past are.1) are.0))
 past-leads laws start (operated round slot index result ∷ past) lawful are =
     more-lead start past (operated round slot index result) (judged start past) (between (judged start past)) (past-leads laws start past lawful are.1)
@@ -222,7 +222,7 @@ past-leads laws start (round_ended round end slots ∷ past) lawful are =
     more-lead start past (round_ended round end slots) (judged start past) (between (judged start past)) (past-leads laws start past lawful are.1)
     (unjudged-lead start (judged start past) (RoundLine round end slots ∷ []) (round-unjudged round end slots, tt))
 
-seen-all : (seen : List Seen) → AllByRecursion (λ line. IsUnjudged (first_field (text_of line))) (map (λ (each : Seen). SeenLine each.count each.pc each.epc) seen)
+seen-all : (seen : List SeenCount) → AllByRecursion (λ line. IsUnjudged (first_field (text_of line))) (map (λ (each : SeenCount). SeenLine each.count each.pc each.epc) seen)
 seen-all [] = tt
 seen-all (each ∷ seen) = (seen-unjudged each.count each.pc each.epc, seen-all seen)
 
@@ -231,7 +231,7 @@ all-joined : (one other : List ReportLine) → AllByRecursion IsOfTrace one → 
 all-joined [] other here there = there
 all-joined (line ∷ one) other here there = (here.0, all-joined one other here.1 there)
 
-seen-of-trace : (seen : List Seen) → AllByRecursion IsOfTrace (map (λ (each : Seen). SeenLine each.count each.pc each.epc) seen)
+seen-of-trace : (seen : List SeenCount) → AllByRecursion IsOfTrace (map (λ (each : SeenCount). SeenLine each.count each.pc each.epc) seen)
 seen-of-trace [] = tt
 seen-of-trace (each ∷ seen) = (refl, seen-of-trace seen)
 
@@ -248,7 +248,7 @@ last-kept start past =
 
 -- the lines of a trace of a run
 run-leads : WrittenLaws → (start : Start) (steps : List Step) → IsLegalLink start.link → AreOwn start (history_of start steps)
-    → Leads start begun (map text_of (report_of Trace start steps)) (ended (judged start (history_of start steps)))
+    → TraceLeads start begun (map text_of (report_of Trace start steps)) (ended (judged start (history_of start steps)))
 run-leads laws start steps lawful are =
     let past : List Item = history_of start steps in
     let own : List Item = judged start past in
@@ -260,7 +260,7 @@ run-leads laws start steps lawful are =
     ∙ sym (map-append text_of first (seen ++ (tags ++ DoneLine ∷ [])))
     ∙ ap (λ (more : List ReportLine). map text_of (first ++ more)) (sym (append_assoc seen tags (DoneLine ∷ [])) ∙ sym (last-kept start past))
     ∙ ap (map text_of) (sym (filter-append (keeps Trace) (past_lines start.link past) (last_lines start past))) in
-    subst (λ (all : List (List ℕ)). Leads start begun all (ended own)) lines
+    subst (λ (all : List (List ℕ)). TraceLeads start begun all (ended own)) lines
     (leads-on start begun (between own) (ended own) (map text_of first) (map text_of seen ++ rest_lines 0 (tags_behind start past))
     (past-leads laws start past lawful are)
     (leads-on start (between own) (between own) (ended own) (map text_of seen) (rest_lines 0 (tags_behind start past))

@@ -4,7 +4,7 @@ use Rattle.std.specs.Prelude.{if◌then◌else◌}
 use Rattle.std.proofs.lemmas.List.{length-map}
 use Rattle.access_ops.specs.declared.OpList.{OpList}
 use Rattle.access_ops.specs.declared.op_next.OpResult.{OpResult}
-use Rattle.access_ops.specs.laws.DialogueLaws.{AwaitsReplies}
+use Rattle.access_ops.proofs.DialogueLaws.{AwaitsReplies}
 use Rattle.access_ops.specs.laws.OperationLaws.{Expects}
 use Rattle.access_ops.specs.Operations.{Dialogue, sends, tells, done}
 use Rattle.air_model.specs.Past.{Start, Record, Item, befell, exchanged, operated, ended, next_record, rounds_in}
@@ -12,7 +12,7 @@ use Rattle.command_grammar.specs.declared.commands.Command.{Command}
 use Rattle.command_grammar.specs.declared.commands.Command.TheVariants as commands
 use Rattle.pie_line.specs.Link.{LinkValue}
 use Rattle.command_fields.specs.declared.choices.UpDn.TheVariants.{Up, Same, Down}
-use Rattle.q_round.specs.Rounds.{Turn, query, adjust, rep, quiet, limit, all_silent, answer_of, course_of, goes_down, goes_up, next_command, qfp_of, refused_in, turn_after, turn_of}
+use Rattle.q_round.specs.Rounds.{Turn, query, adjust, rep, quiet, limit, all_silent, next_of_turn, course_of, goes_down, goes_up, next_command, qfp_of, refused_in, turn_after, turn_of}
 use Rattle.q_round.specs.SpecValue.{SpecValue}
 use Rattle.q_round.specs.declared.frame.Outcome.{Outcome}
 use Rattle.q_round.specs.declared.round.Next.{Next}
@@ -21,7 +21,7 @@ use Rattle.q_round.specs.declared.round.RoundEnd.{RoundEnd}
 use Rattle.reply_grammar.specs.declared.expected.Expect.{Expect}
 use Rattle.runs.specs.Headline.{IsSelect, IsLegalStep, AreLegalSteps, begins_slot, slot_records}
 use Rattle.runs.specs.NextItem.{GrowsByNext, dialogue_left, dialogue_behind_exchange, dialogue_behind_record, dialogue_behind_result, item_by_rule, item_in_round, item_of_slots, item_of_step, outcomes_of_round, reception_of_slot, rn_of, rn_received, finished_in}
-use Rattle.runs.specs.laws.Growth.{begun-awaits}
+use Rattle.runs.proofs.Growth.{begun-awaits}
 use Rattle.scenario.specs.declared.values.Step.{Step}
 use Rattle.scenario.specs.declared.values.Step.TheVariants as steps
 use Rattle.air_audit.specs.OwnTraces.{IsToldByLines, HasNoEventStep}
@@ -160,7 +160,7 @@ later-turn spec outcome before =
     later-after spec (length before + 1) course.q (qfp_of spec (outcome ∷ before)) (outcome ∷ course.frame)
 
 later-sends : (spec : SpecValue) (link : LinkValue) (turn : Turn) (slots : ℕ) (command : Command) → IsLaterTurn turn
-    → answer_of spec link turn ≡ nexts.Send command → IsSlotTurn (suc slots) command
+    → next_of_turn spec link turn ≡ nexts.Send command → IsSlotTurn (suc slots) command
 later-sends spec link query slots command later is = absurd later
 later-sends spec link (adjust updn) slots command later is =
     let same : commands.QueryAdjust spec.session updn ≡ command = cc in subst (IsSlotTurn (suc slots)) same tt

@@ -19,7 +19,7 @@ use Rattle.air_model.specs.Channel.{Given, IsOfStreamLength, whole_or_silence, f
 use Rattle.air_model.specs.Past.{Start, Record, Item, next_entry, next_record, tags_behind}
 use Rattle.air_model.specs.Reception.{IsGivenFor, reception_of}
 use Rattle.air_model.specs.declared.got.Got.TheVariants.{Silence}
-use Rattle.air_model.specs.laws.ReceptionLaws.{stream_reception}
+use Rattle.air_model.proofs.ReceptionLaws.{stream_reception}
 use Rattle.runs.proofs.Answering.{TagLaws, given-in-expected}
 use Rattle.runs.proofs.MadeRecords.{made-read}
 use Rattle.runs.specs.Listing.{listed_by, listed_from, reception_of_ack}

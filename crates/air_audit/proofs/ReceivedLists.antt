@@ -18,7 +18,7 @@ use Rattle.tag_machine.specs.TagValue.{TagValue, StateValue, BodyValue, IsLegalT
 use Rattle.air_model.specs.Channel.{Given, heard_levels}
 use Rattle.air_model.specs.Past.{Start, Record, Item, exchanged, exchanges_in, next_entry, tags_behind, tags_behind_from}
 use Rattle.air_model.specs.Reception.{IsGivenFor, reception_of}
-use Rattle.air_model.specs.laws.ReceptionLaws.{whole_is_heard}
+use Rattle.air_model.proofs.ReceptionLaws.{whole_is_heard}
 use Rattle.report_lines.specs.ReadLines.{first_field, text_of}
 use Rattle.report_lines.specs.ReportLine.{BlfLine, RxLine}
 use Rattle.runs.proofs.Answering.{TagLaws, given-in-expected}
@@ -26,10 +26,10 @@ use Rattle.runs.proofs.MadeRecords.{made-read}
 use Rattle.runs.specs.Listing.{Listed, listed_by, listed_from, reception_of_ack}
 use Rattle.runs.specs.NextItem.{expectation_of}
 use Rattle.runs.specs.laws.Replies.{events-legal}
-use Rattle.runs.specs.laws.Tags.{tags-exchanged}
+use Rattle.runs.proofs.Tags.{tags-exchanged}
 use Rattle.air_audit.specs.AuditedTrace.{IsAudited}
 use Rattle.air_audit.specs.ReceivedLists.{IsReceivedBefore, ListsWhatIsReceived}
-use Rattle.air_audit.specs.Standing.{Standing, begun, between, sending, listing, telling, ended, GoesOn, Leads, behind_exchange, behind_told, next_tag, record_of, rx_line}
+use Rattle.air_audit.specs.Standing.{TraceStanding, begun, between, sending, listing, telling, ended, TraceGoesOn, TraceLeads, behind_exchange, behind_told, next_tag, record_of, rx_line}
 use Rattle.air_audit.specs.TraceLines.{Sends}
 use Rattle.air_audit.proofs.OneStanding.{tells-word, tx-word}
 use Rattle.air_audit.proofs.Received.{made-again}
@@ -84,7 +84,7 @@ record IsHeardLast (link : LinkValue) (front : List (List ℕ)) (listed : Listed
   received : IsReceived (table_of link.code) link.trext expects.Epc levels (Whole (replies.Epc listed.pc listed.epc))
 
 -- what is known where a trace stands behind these lines
-abbrev IsKnown : Start → List (List ℕ) → Standing → Type 0
+abbrev IsKnown : Start → List (List ℕ) → TraceStanding → Type 0
 IsKnown start front begun = AreLegalTags (tags_behind start [])
 IsKnown start front (between past) = AreLegalTags (tags_behind start past)
 IsKnown start front (sending past sent) = IsSentLast start front past sent
@@ -168,21 +168,21 @@ told-known start front past told None = tt
 told-known start front past told (Some tag) = tt
 
 -- what is known behind one line more
-known-next : Laws → (start : Start) (front : List (List ℕ)) (from : Standing) (line : List ℕ) (to : Standing) → IsKnown start front from → GoesOn start from line to
+known-next : Laws → (start : Start) (front : List (List ℕ)) (from : TraceStanding) (line : List ℕ) (to : TraceStanding) → IsKnown start front from → TraceGoesOn start from line to
     → IsKnown start (front ++ line ∷ []) to
-known-next laws start front begun line to known goes = subst (λ (s : Standing). IsKnown start (front ++ line ∷ []) s) (sym goes.leads) known
+known-next laws start front begun line to known goes = subst (λ (s : TraceStanding). IsKnown start (front ++ line ∷ []) s) (sym goes.leads) known
 known-next laws start front (between past) line to known (inl goes) =
-    subst (λ (s : Standing). IsKnown start (front ++ line ∷ []) s) (sym goes.leads)
+    subst (λ (s : TraceStanding). IsKnown start (front ++ line ∷ []) s) (sym goes.leads)
     (record { earlier = front; tx = line; front_is = refl; sends = goes.sends; made = refl; legal = known })
-known-next laws start front (between past) line to known (inr (inl goes)) = subst (λ (s : Standing). IsKnown start (front ++ line ∷ []) s) (sym goes.leads) known
+known-next laws start front (between past) line to known (inr (inl goes)) = subst (λ (s : TraceStanding). IsKnown start (front ++ line ∷ []) s) (sym goes.leads) known
 known-next laws start front (between past) line to known (inr (inr goes)) =
-    subst (λ (s : Standing). IsKnown start (front ++ line ∷ []) s) (sym goes.leads) (told-known start (front ++ line ∷ []) past 0 (next_tag start past 0))
+    subst (λ (s : TraceStanding). IsKnown start (front ++ line ∷ []) s) (sym goes.leads) (told-known start (front ++ line ∷ []) past 0 (next_tag start past 0))
 known-next laws start front (sending past sent) line to known goes =
-    subst (λ (s : Standing). IsKnown start (front ++ line ∷ []) s) (sym goes.leads)
+    subst (λ (s : TraceStanding). IsKnown start (front ++ line ∷ []) s) (sym goes.leads)
     (heard-known laws start front past sent line (listed_by sent) known goes.text refl)
-known-next laws start front (listing past listed) line to known goes = subst (λ (s : Standing). IsKnown start (front ++ line ∷ []) s) (sym goes.leads) known.0
+known-next laws start front (listing past listed) line to known goes = subst (λ (s : TraceStanding). IsKnown start (front ++ line ∷ []) s) (sym goes.leads) known.0
 known-next laws start front (telling past told) line to known goes =
-    subst (λ (s : Standing). IsKnown start (front ++ line ∷ []) s) (sym goes.leads) (told-known start (front ++ line ∷ []) past told (next_tag start past told))
+    subst (λ (s : TraceStanding). IsKnown start (front ++ line ∷ []) s) (sym goes.leads) (told-known start (front ++ line ∷ []) past told (next_tag start past told))
 known-next laws start front (ended past) line to known goes = absurd goes
 
 -- the word of the first line is another
@@ -193,7 +193,7 @@ no-word : [] ≡ codes "list" → ⊥
 no-word is = cc
 
 -- a list line that may follow is what is received of the levels before it
-list-known : (start : Start) (front : List (List ℕ)) (from : Standing) (line : List ℕ) (to : Standing) → IsKnown start front from → GoesOn start from line to
+list-known : (start : Start) (front : List (List ℕ)) (from : TraceStanding) (line : List ℕ) (to : TraceStanding) → IsKnown start front from → TraceGoesOn start from line to
     → first_field line ≡ codes "list" → IsReceivedBefore start.link front line
 list-known start front begun line to known goes word =
     absurd (no-blf (first_field line) word
@@ -231,8 +231,8 @@ record IsLine (lines before : List (List ℕ)) (line : List ℕ) : Type 0 where
   word : first_field line ≡ codes "list"
 
 -- so does each list line of lines that follow one another
-lists-received : Laws → (start : Start) (front : List (List ℕ)) (from : Standing) (lines : List (List ℕ)) (to : Standing) (before : List (List ℕ)) (line : List ℕ)
-    → IsKnown start front from → Leads start from lines to → IsLine lines before line → IsReceivedBefore start.link (front ++ before) line
+lists-received : Laws → (start : Start) (front : List (List ℕ)) (from : TraceStanding) (lines : List (List ℕ)) (to : TraceStanding) (before : List (List ℕ)) (line : List ℕ)
+    → IsKnown start front from → TraceLeads start from lines to → IsLine lines before line → IsReceivedBefore start.link (front ++ before) line
 lists-received laws start front from [] to [] line known leads is =
     let none : line ≡ [] = let same = is.cut in cc in absurd (no-word (sym (ap first_field none) ∙ is.word))
 lists-received laws start front from [] to (first ∷ []) line known leads is = absurd (let same = is.cut in cc)
@@ -240,7 +240,7 @@ lists-received laws start front from [] to (first ∷ second ∷ more) line know
 lists-received laws start front from (first ∷ lines) to [] line known leads is =
     let one : first ≡ line = let same = is.cut in cc in
     subst (λ (f : List (List ℕ)). IsReceivedBefore start.link f line) (sym (append-nil front))
-    (list-known start front from line leads.0 known (subst (λ (l : List ℕ). GoesOn start from l leads.0) one leads.1) is.word)
+    (list-known start front from line leads.0 known (subst (λ (l : List ℕ). TraceGoesOn start from l leads.0) one leads.1) is.word)
 lists-received laws start front from (first ∷ lines) to (other ∷ before) line known leads is =
     let one : first ≡ other = let same = is.cut in cc in
     let rest : lines ++ [] ∷ [] ≡ before ++ line ∷ is.behind = let same = is.cut in cc in

@@ -4,10 +4,10 @@ use Rattle.std.specs.Fmt.{decimal}
 use Rattle.std.proofs.lemmas.List.Elements.{All-from_recursion}
 use Rattle.report_lines.specs.ReportLine.{RxLine, report_fields}
 use Rattle.text_fields.specs.Lines.{Lacks, fields_of, space}
-use Rattle.text_fields.specs.laws.FieldTextLaws.{IsFieldText-binary}
-use Rattle.text_fields.specs.laws.LineLaws.{fields_come_back}
+use Rattle.text_fields.proofs.FieldTextLaws.{IsFieldText-binary}
+use Rattle.text_fields.proofs.LineLaws.{fields_come_back}
 use Rattle.air_audit.specs.LineRefusals.{DiffersFirst}
-use Rattle.report_lines.specs.ReadLines.{text_of, most_levels, RxFields}
+use Rattle.report_lines.specs.ReadLines.{text_of, most_rx_levels, RxFields}
 use Rattle.air_audit.specs.declared.verdict.AuditReason.{AuditReason}
 use Rattle.air_audit.proofs.OneReason.{rx_part, rx-refusal}
 use Rattle.air_audit.proofs.SentLines.{number-is}
@@ -18,7 +18,7 @@ use Rattle.air_audit.proofs.Words.{word-text}
 pub record IsReadable (exchange count : ℕ) (levels : List Bool) : Type 0 where
   pub exchange_small : exchange < 2 ^ 64
   pub count_small : count < 2 ^ 64
-  pub few : length levels ≤ most_levels
+  pub few : length levels ≤ most_rx_levels
 
 pub rx-fields : (exchange count : ℕ) (levels : List Bool) → fields_of (text_of (RxLine exchange count levels)) ≡ report_fields (RxLine exchange count levels)
 rx-fields exchange count levels =

@@ -11,7 +11,7 @@ use Rattle.air_model.specs.Channel.{lead_of}
 use Rattle.air_audit.specs.LineRefusals.{IsNoTxLine}
 use Rattle.air_audit.specs.Sent.{IsNoFrame, ReadsCommand, ReadsFrame}
 use Rattle.report_lines.specs.ReadLines.{TxFields}
-use Rattle.air_audit.specs.TraceLines.{AreFrameOf, BeginsWith}
+use Rattle.air_audit.specs.TraceLines.{AreFrameOf, FrameBeginsWith}
 use Rattle.air_audit.specs.declared.verdict.AuditReason.{AuditReason}
 use Rattle.air_audit.specs.declared.verdict.AuditReason.TheVariants as reasons
 
@@ -52,15 +52,15 @@ no-command intervals bits answer refusal read is = record {
 
 -- a frame that begins otherwise than its command does is none of it
 pub other-lead : (intervals : List ℕ) (bits : List Bool) (kind : FrameKind) (command : Command) → WereRead intervals bits (Ok command)
-    → ((other : FrameKind) (others : List Bool) → IsFrame other others intervals → kind ≡ other) → ¬ BeginsWith kind (lead_of command)
+    → ((other : FrameKind) (others : List Bool) → IsFrame other others intervals → kind ≡ other) → ¬ FrameBeginsWith kind (lead_of command)
     → IsNoFrame intervals reasons.Frame
 other-lead intervals bits kind command read kind_is other = record {
   named = refl;
   none = λ sent frame.
       let same : Ok command ≡ Ok sent = spelled-as intervals bits (Ok command) read sent frame in
       let command_is : sent ≡ command = cc in
-      other (subst (λ (k : FrameKind). BeginsWith k (lead_of command)) (sym (kind_is frame.kind frame.bits frame.frame))
-      (subst (λ (c : Command). BeginsWith frame.kind (lead_of c)) command_is frame.lead));
+      other (subst (λ (k : FrameKind). FrameBeginsWith k (lead_of command)) (sym (kind_is frame.kind frame.bits frame.frame))
+      (subst (λ (c : Command). FrameBeginsWith frame.kind (lead_of c)) command_is frame.lead));
 }
 
 -- the fields of a tx line of the exchange, which has these intervals

@@ -5,28 +5,28 @@ use Rattle.std.specs.Fmt.{decimal}
 use Rattle.std.proofs.lemmas.Fmt.{decimal_digit, decimal_nonempty, first_decimal}
 use Rattle.std.proofs.lemmas.List.Elements.{All-from_recursion}
 use Rattle.text_fields.specs.Lines.{Lacks, fields_of, space}
-use Rattle.text_fields.specs.laws.LineLaws.{fields_come_back}
+use Rattle.text_fields.proofs.LineLaws.{fields_come_back}
 use Rattle.air_model.specs.Channel.{lead_of, wave_for}
 use Rattle.command_grammar.specs.Commands.{IsLegalCommand, SpellsCommand, spelling_of}
 use Rattle.command_grammar.specs.declared.commands.Command.{Command}
 use Rattle.pie_line.specs.Link.{LinkValue, IsLegalLink}
-use Rattle.pie_line.specs.Pie.{IsFrame, kind_of, longest_interval, wave_of}
+use Rattle.pie_line.specs.Pie.{IsFrame, frame_kind_of, longest_interval, wave_of}
 use Rattle.pie_line.specs.declared.frame.Lead.{Lead}
 use Rattle.pie_line.specs.declared.frame.Lead.TheVariants.{Preamble, FrameSync}
-use Rattle.pie_text.specs.laws.WaveLength.{length-wave}
+use Rattle.pie_text.proofs.WaveLength.{length-wave}
 use Rattle.report_lines.specs.ReportLine.{TxLine, report_fields}
-use Rattle.report_lines.specs.ReadLines.{text_of, IsNumber}
-use Rattle.air_audit.specs.TraceLines.{BeginsWith, Sends}
+use Rattle.report_lines.specs.ReadLines.{text_of, IsDecimal}
+use Rattle.air_audit.specs.TraceLines.{FrameBeginsWith, Sends}
 use Rattle.air_audit.proofs.Spelled.{decimal-digits, decimal-lacks, numbers-lack}
 use Rattle.air_audit.proofs.Words.{word-text}
 
 -- what laws of lower crates say of the frames that are written, and of the spellings of commands
 pub record WrittenLaws : Type 0 where
-  pub frame : (link : LinkValue) (lead : Lead) (bits : List Bool) → IsLegalLink link → IsFrame (kind_of link lead) bits (wave_of link lead bits)
+  pub frame : (link : LinkValue) (lead : Lead) (bits : List Bool) → IsLegalLink link → IsFrame (frame_kind_of link lead) bits (wave_of link lead bits)
   pub each : (link : LinkValue) (lead : Lead) (bits : List Bool) → IsLegalLink link → All (λ interval. interval ≤ longest_interval) (wave_of link lead bits)
   pub short : (command : Command) (bits : List Bool) → SpellsCommand command bits → length bits ≤ 4162
 
-begins : (link : LinkValue) (lead : Lead) → BeginsWith (kind_of link lead) lead
+begins : (link : LinkValue) (lead : Lead) → FrameBeginsWith (frame_kind_of link lead) lead
 begins link Preamble = tt
 begins link FrameSync = tt
 
@@ -39,7 +39,7 @@ no-leading-zero zero small filled = inl (decimal_digit 0 (omega arith))
 no-leading-zero (suc n) small filled = inr (no-zero (decimal (suc n)) filled (first_decimal (suc n) (omega arith) small))
 
 -- a number is one as it is spelled
-pub number-is : (n : ℕ) → n < 2 ^ 64 → IsNumber (decimal n)
+pub number-is : (n : ℕ) → n < 2 ^ 64 → IsDecimal (decimal n)
 number-is n small =
     let filled : decimal n ≢ [] = λ none. let length_is = ap length none in omega (arith, decimal_nonempty n small) in
     record { some = filled; digits = decimal-digits n; no_zeros = no-leading-zero n small filled }
@@ -67,7 +67,7 @@ frame-sends laws link command exchange lawful legal small =
       };
       number = refl;
       frame = record {
-        kind = kind_of link (lead_of command);
+        kind = frame_kind_of link (lead_of command);
         bits = spelling_of command;
         frame = laws.frame link (lead_of command) (spelling_of command) lawful;
         spells = spells;

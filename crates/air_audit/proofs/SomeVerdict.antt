@@ -8,9 +8,9 @@ use Rattle.std.proofs.lemmas.List.Elements.{All-nil, All-cons, All-head, All-tai
 use Rattle.bit_strings.specs.Family.{IsBadAt, IsShortAt}
 use Rattle.text_fields.specs.Binary.{binary, bits_of_digits, hyphen}
 use Rattle.text_fields.specs.Lines.{fields_of, lines_of}
-use Rattle.text_fields.specs.laws.BinaryLaws.{bits_of_digits-map}
-use Rattle.text_fields.specs.laws.LineLaws.{some_line}
-use Rattle.text_fields.specs.laws.ToldApart.{binary_told}
+use Rattle.text_fields.proofs.BinaryLaws.{bits_of_digits-map}
+use Rattle.text_fields.proofs.LineLaws.{some_line}
+use Rattle.text_fields.proofs.ToldApart.{binary_told}
 use Rattle.command_grammar.specs.Commands.{SpellsCommand, Spellings}
 use Rattle.command_grammar.specs.declared.commands.Command.{Command}
 use Rattle.pie_line.specs.FrameAnswer.{HasOneAnswer}
@@ -25,13 +25,13 @@ use Rattle.pie_text.specs.declared.numbers.NotNumbers.{NotNumbers}
 use Rattle.pie_text.specs.declared.numbers.NotNumbers.TheVariants as faults
 use Rattle.air_model.specs.Channel.{heard_levels, lead_of}
 use Rattle.air_model.specs.Past.{Start, Record, Item, exchanges_in}
-use Rattle.report_lines.specs.ReadLines.{IsNumber, HasRxShape, HasTxShape, RxFields, TxFields, first_field, most_intervals, most_levels, text_of}
+use Rattle.report_lines.specs.ReadLines.{IsDecimal, HasRxShape, HasTxShape, RxFields, TxFields, first_field, most_tx_intervals, most_rx_levels, text_of}
 use Rattle.report_lines.specs.ReportLine.{BlfLine}
 use Rattle.runs.specs.Report.{list_line}
-use Rattle.air_audit.specs.FirstRefusal.{IsRefusedBefore, IsVerdict}
+use Rattle.air_audit.specs.FirstRefusal.{IsRefusedBefore, IsAuditVerdict}
 use Rattle.air_audit.specs.LineRefusals.{IsRefusedHere}
-use Rattle.air_audit.specs.Standing.{Standing, begun, between, sending, listing, telling, ended, GoesOn, Leads, TellsNext, behind_exchange, behind_told, next_tag, record_of, rx_line, told_line}
-use Rattle.air_audit.specs.TraceLines.{AreFrameOf, BeginsWith, IsOfTags, IsUnjudged}
+use Rattle.air_audit.specs.Standing.{TraceStanding, begun, between, sending, listing, telling, ended, TraceGoesOn, TraceLeads, TellsNextTag, behind_exchange, behind_told, next_tag, record_of, rx_line, told_line}
+use Rattle.air_audit.specs.TraceLines.{AreFrameOf, FrameBeginsWith, IsOfTags, IsUnjudged}
 use Rattle.air_audit.specs.declared.verdict.AuditReason.{AuditReason}
 use Rattle.air_audit.specs.declared.verdict.AuditReason.TheVariants as reasons
 use Rattle.air_audit.specs.declared.verdict.Verdict.{Verdict}
@@ -107,7 +107,7 @@ digit-or digit = elim (cases_lt digit 48) [
 ]
 
 -- decimal digits without leading zeros
-number-or : (text : List ℕ) → OrNot (IsNumber text)
+number-or : (text : List ℕ) → OrNot (IsDecimal text)
 number-or text = elim (same-bytes text []) [
   | inl none ↦ inr (λ is. is.some none)
   | inr some ↦ elim (each-or IsDigit digit-or text) [
@@ -132,8 +132,8 @@ filled-decimals (number ∷ numbers) short =
     (filled-decimals numbers (All-tail (λ n. n ≤ longest_interval) number numbers short))
 
 -- intervals that are spelled are not refused
-not-refused : (fields : List (List ℕ)) (intervals : List ℕ) (reason : NotNumbers) → SpellsNumbers most_intervals longest_interval fields intervals
-    → RefusesNumbers reason most_intervals longest_interval fields → ⊥
+not-refused : (fields : List (List ℕ)) (intervals : List ℕ) (reason : NotNumbers) → SpellsNumbers most_tx_intervals longest_interval fields intervals
+    → RefusesNumbers reason most_tx_intervals longest_interval fields → ⊥
 not-refused fields intervals faults.Shape spells refused =
     let count : length fields ≡ length intervals = ap length spells.spelling ∙ length-map intervals decimal in
     refused (record {
@@ -145,7 +145,7 @@ not-refused fields intervals faults.Number spells refused = refused.1 intervals 
 
 -- a line of enough fields is a tx line or none
 tx-by-fields : Laws → (line : List ℕ) (fields : List (List ℕ)) → fields_of line ≡ fields → get_or fields 0 [] ≡ codes "tx" → 3 ≤ length fields
-    → length fields ≤ most_intervals + 2 → OrNot (TxFields line)
+    → length fields ≤ most_tx_intervals + 2 → OrNot (TxFields line)
 tx-by-fields laws line [] are word some few = absurd (omega (arith, some))
 tx-by-fields laws line (first ∷ []) are word some few = absurd (omega (arith, some))
 tx-by-fields laws line (first ∷ exchange ∷ []) are word some few = absurd (omega (arith, some))
@@ -153,8 +153,8 @@ tx-by-fields laws line (first ∷ exchange ∷ next ∷ more) are word some few 
   | inr none ↦ inr (λ tx.
       let same : codes "tx" ∷ tx.exchange ∷ map decimal tx.intervals ≡ first ∷ exchange ∷ next ∷ more = sym tx.are ∙ are in
       let one : tx.exchange ≡ exchange = cc in
-      none (subst IsNumber one tx.number))
-  | inl number ↦ elim (laws.numbers most_intervals longest_interval (next ∷ more) (omega arith)) [
+      none (subst IsDecimal one tx.number))
+  | inl number ↦ elim (laws.numbers most_tx_intervals longest_interval (next ∷ more) (omega arith)) [
     | inl spells ↦ inl (record {
       exchange = exchange;
       intervals = spells.0;
@@ -198,12 +198,12 @@ rx-by-fields line (first ∷ exchange ∷ count ∷ digits ∷ next ∷ more) ar
 rx-by-fields line (first ∷ exchange ∷ count ∷ digits ∷ []) are word four =
     let parts : (rx : RxFields line) → codes "rx" ∷ rx.exchange ∷ rx.count ∷ binary rx.levels ∷ [] ≡ first ∷ exchange ∷ count ∷ digits ∷ [] = λ rx. sym rx.are ∙ are in
     elim (number-or exchange) [
-      | inr none ↦ inr (λ rx. let same = parts rx in let one : rx.exchange ≡ exchange = cc in none (subst IsNumber one rx.number))
+      | inr none ↦ inr (λ rx. let same = parts rx in let one : rx.exchange ≡ exchange = cc in none (subst IsDecimal one rx.number))
       | inl number ↦ elim (number-or count) [
-        | inr none ↦ inr (λ rx. let same = parts rx in let one : rx.count ≡ count = cc in none (subst IsNumber one rx.count_number))
+        | inr none ↦ inr (λ rx. let same = parts rx in let one : rx.count ≡ count = cc in none (subst IsDecimal one rx.count_number))
         | inl count_number ↦ elim (bits-or digits) [
           | inr none ↦ inr (λ rx. let same = parts rx in let one : digits ≡ binary rx.levels = cc in none rx.levels one)
-          | inl levels ↦ elim (cases_lt most_levels (length levels.0)) [
+          | inl levels ↦ elim (cases_lt most_rx_levels (length levels.0)) [
             | inl many ↦ inr (λ rx.
                 let same = parts rx in
                 let one : binary rx.levels ≡ digits = cc in
@@ -226,7 +226,7 @@ rx-or : (line : List ℕ) → first_field line ≡ codes "rx" → HasRxShape lin
 rx-or line word shape = rx-by-fields line (fields_of line) refl word shape
 
 -- intervals are the frame of a command or of none
-lead-or : (kind : FrameKind) (lead : Lead) → OrNot (BeginsWith kind lead)
+lead-or : (kind : FrameKind) (lead : Lead) → OrNot (FrameBeginsWith kind lead)
 lead-or (kinds.Preamble tari rtcal trcal) leads.Preamble = inl tt
 lead-or (kinds.Preamble tari rtcal trcal) leads.FrameSync = inr (λ is. is)
 lead-or (kinds.FrameSync tari rtcal) leads.Preamble = inr (λ is. is)
@@ -246,7 +246,7 @@ command-or laws intervals kind bits frame = elim (laws.some bits) [
     | inr none ↦ inr (λ command are.
         let same = laws.frame are.kind kind are.bits bits intervals are.frame frame in
         let one : command ≡ spells.0 = laws.command command spells.0 bits (subst (SpellsCommand command) same.1 are.spells) spells.1 in
-        none (subst (λ (k : FrameKind). BeginsWith k (lead_of spells.0)) same.0 (subst (λ (c : Command). BeginsWith are.kind (lead_of c)) one are.lead)))
+        none (subst (λ (k : FrameKind). FrameBeginsWith k (lead_of spells.0)) same.0 (subst (λ (c : Command). FrameBeginsWith are.kind (lead_of c)) one are.lead)))
   ]
 ]
 
@@ -282,14 +282,14 @@ tags-or word = elim (same-bytes word (codes "tag")) [
 ]
 
 -- the trace goes on with the line, or the line is refused
-abbrev GoesOrIsRefused : Start → Standing → List ℕ → Type 0
-GoesOrIsRefused start standing line = ((next : Standing) × GoesOn start standing line next) ⊎ ((reason : AuditReason) × IsRefusedHere start standing line reason)
+abbrev GoesOrIsRefused : Start → TraceStanding → List ℕ → Type 0
+GoesOrIsRefused start standing line = ((next : TraceStanding) × TraceGoesOn start standing line next) ⊎ ((reason : AuditReason) × IsRefusedHere start standing line reason)
 
 -- a line that begins with tx
 sends-or : Laws → (start : Start) (past : List Item) (line : List ℕ) → first_field line ≡ codes "tx" → GoesOrIsRefused start (between past) line
 sends-or laws start past line word = elim (cases_lt (length (fields_of line)) 3) [
   | inl few ↦ inr (reasons.Shape, inl (word, λ shape. omega (arith, few, shape.0)))
-  | inr some ↦ elim (cases_lt (most_intervals + 2) (length (fields_of line))) [
+  | inr some ↦ elim (cases_lt (most_tx_intervals + 2) (length (fields_of line))) [
     | inl many ↦ inr (reasons.Shape, inl (word, λ shape. omega (arith, many, shape.1)))
     | inr few ↦ elim (tx-or laws line word (some, few)) [
       | inr none ↦ inr (reasons.Number, inl (word, ((some, few), none)))
@@ -332,13 +332,13 @@ hears-or start past sent line word = elim (same-bytes line (text_of (rx_line sta
 
 -- a line that begins as that of a tag, or as the last one
 tells-or : (start : Start) (past : List Item) (told : ℕ) (line : List ℕ)
-    → ((next : Standing) × TellsNext start past told line next) ⊎ (line ≢ text_of (told_line told (next_tag start past told)))
+    → ((next : TraceStanding) × TellsNextTag start past told line next) ⊎ (line ≢ text_of (told_line told (next_tag start past told)))
 tells-or start past told line = elim (same-bytes line (text_of (told_line told (next_tag start past told)))) [
   | inl text ↦ inl (behind_told past told (next_tag start past told), record { text = text; leads = refl })
   | inr other ↦ inr other
 ]
 
-goes-or : Laws → (start : Start) (standing : Standing) (line : List ℕ) → GoesOrIsRefused start standing line
+goes-or : Laws → (start : Start) (standing : TraceStanding) (line : List ℕ) → GoesOrIsRefused start standing line
 goes-or laws start begun line = elim (same-bytes line (text_of (BlfLine (blf_of start.link).0 (blf_of start.link).1))) [
   | inl text ↦ inl (between [], record { text = text; leads = refl })
   | inr other ↦ inr (reasons.Blf, (refl, other))
@@ -383,15 +383,15 @@ goes-or laws start (telling past told) line = elim (same-bytes (first_field line
 goes-or laws start (ended past) line = inr (reasons.Extra, refl)
 
 -- a trace that stands somewhere before these lines, the last of which has no line feed
-record StandsBefore (start : Start) (bytes : List ℕ) (standing : Standing) (lines : List (List ℕ)) : Type 0 where
+record StandsBefore (start : Start) (bytes : List ℕ) (standing : TraceStanding) (lines : List (List ℕ)) : Type 0 where
   before : List (List ℕ)
-  leads : Leads start begun before standing
+  leads : TraceLeads start begun before standing
   cut : lines_of bytes ≡ before ++ lines
 
 abbrev HasVerdict : Start → List ℕ → Type 0
-HasVerdict start bytes = (verdict : Verdict) × IsVerdict start bytes verdict
+HasVerdict start bytes = (verdict : Verdict) × IsAuditVerdict start bytes verdict
 
-ends-here : (start : Start) (bytes : List ℕ) (standing : Standing) (line : List ℕ) → StandsBefore start bytes standing (line ∷ []) → IsRefusedBefore [] start standing line reasons.End
+ends-here : (start : Start) (bytes : List ℕ) (standing : TraceStanding) (line : List ℕ) → StandsBefore start bytes standing (line ∷ []) → IsRefusedBefore [] start standing line reasons.End
     → HasVerdict start bytes
 ends-here start bytes standing line stands refused = (
   No (length stands.before + 1) reasons.End,
@@ -407,7 +407,7 @@ ends-here start bytes standing line stands refused = (
   },
 )
 
-last-verdict : (start : Start) (bytes : List ℕ) (standing : Standing) (line : List ℕ) → StandsBefore start bytes standing (line ∷ []) → HasVerdict start bytes
+last-verdict : (start : Start) (bytes : List ℕ) (standing : TraceStanding) (line : List ℕ) → StandsBefore start bytes standing (line ∷ []) → HasVerdict start bytes
 last-verdict start bytes (ended past) [] stands = (Yes, (past, record { lines = stands.before; cut = stands.cut; leads = stands.leads }))
 last-verdict start bytes (ended past) (byte ∷ line) stands = ends-here start bytes (ended past) (byte ∷ line) stands (refl, λ none. cc)
 last-verdict start bytes begun line stands = ends-here start bytes begun line stands refl
@@ -416,7 +416,7 @@ last-verdict start bytes (sending past sent) line stands = ends-here start bytes
 last-verdict start bytes (listing past listed) line stands = ends-here start bytes (listing past listed) line stands refl
 last-verdict start bytes (telling past told) line stands = ends-here start bytes (telling past told) line stands refl
 
-verdict-from : Laws → (start : Start) (bytes : List ℕ) (standing : Standing) (line : List ℕ) (more : List (List ℕ)) → StandsBefore start bytes standing (line ∷ more)
+verdict-from : Laws → (start : Start) (bytes : List ℕ) (standing : TraceStanding) (line : List ℕ) (more : List (List ℕ)) → StandsBefore start bytes standing (line ∷ more)
     → HasVerdict start bytes
 verdict-from laws start bytes standing line [] stands = last-verdict start bytes standing line stands
 verdict-from laws start bytes standing line (next ∷ more) stands = elim (goes-or laws start standing line) [

@@ -25,8 +25,8 @@ use Rattle.tag_machine.specs.declared.states.StateName.TheVariants as names
 use Rattle.text_fields.specs.Binary.{binary_digit}
 use Rattle.text_fields.specs.Hexadecimal.{hex_words}
 use Rattle.text_fields.specs.Lines.{Lacks, line_feed, lines_of, text_with}
-use Rattle.text_fields.specs.laws.FieldTextLaws.{IsFieldText-binary, IsFieldText-hex_byte, IsFieldText-hex_word, IsFieldText-hex_words}
-use Rattle.text_fields.specs.laws.LineLaws.{line_lacks, lines_come_back}
+use Rattle.text_fields.proofs.FieldTextLaws.{IsFieldText-binary, IsFieldText-hex_byte, IsFieldText-hex_word, IsFieldText-hex_words}
+use Rattle.text_fields.proofs.LineLaws.{line_lacks, lines_come_back}
 use Rattle.value_text.specs.ValueText.{locks_text, pair_text}
 use Rattle.report_lines.specs.ReadLines.{text_of}
 use Rattle.air_audit.proofs.Words.{all_visible, word-text}

@@ -1,17 +1,17 @@
 -- Over the lines of a trace, up to the first that is refused.
 use Rattle.std.proofs.Common.{◌≡◌, ◌≢◌, ℕ, ◌+◌, ◌≤◌, List, [], ◌∷◌, ◌++◌, length, refl, sym, ap, ◌∙◌, subst, arith, append_assoc, length-append}
 use Rattle.text_fields.specs.Lines.{lines_of}
-use Rattle.text_fields.specs.laws.LineLaws.{some_line}
-use Rattle.air_events.specs.Cursor.{IsLeft}
+use Rattle.text_fields.proofs.LineLaws.{some_line}
+use Rattle.air_events.specs.Cursor.{AreEntriesLeft}
 use Rattle.air_events.specs.declared.Entry.{Entry}
 use Rattle.tag_machine.specs.Exchange.{AreLegalTags}
 use Rattle.tag_machine.specs.TagValue.{TagValue}
 use Rattle.air_model.specs.Past.{Start, tags_behind_from}
-use Rattle.air_audit.specs.Auditing.{AreAsGiven, AuditorValue, GoesOnWith, IsBegun, IsEarly, StandsAt}
+use Rattle.air_audit.specs.Auditing.{AreAsGiven, AuditorValue, GoesOnWith, AuditorIsBegun, IsEarly, AuditorStandsAt}
 use Rattle.air_audit.specs.AuditedTrace.{IsAudited}
 use Rattle.air_audit.specs.FirstRefusal.{IsFirstRefusal, IsRefusedBefore}
 use Rattle.air_audit.specs.LineRefusals.{IsRefusedHere}
-use Rattle.air_audit.specs.Standing.{Standing, begun, ended, Leads}
+use Rattle.air_audit.specs.Standing.{TraceStanding, begun, ended, TraceLeads}
 use Rattle.air_audit.proofs.Leading.{leads-on}
 use Rattle.air_audit.proofs.Positions.{from-ended}
 use Rattle.air_audit.specs.declared.auditor.Position.TheVariants as positions
@@ -21,11 +21,11 @@ use Rattle.air_audit.specs.declared.verdict.AuditReason.TheVariants as reasons
 -- the lines before the rest lead to where the auditor stands; the next line has this number
 pub record Walked (start : Start) (trace rest : List ℕ) (number : ℕ) (auditor : AuditorValue) : Type 0 where
   pub before : List (List ℕ)
-  pub standing : Standing
-  pub leads : Leads start begun before standing
+  pub standing : TraceStanding
+  pub leads : TraceLeads start begun before standing
   pub cut : lines_of trace ≡ before ++ lines_of rest
   pub place : number ≡ length before + 1
-  pub stands : StandsAt start standing auditor
+  pub stands : AuditorStandsAt start standing auditor
 
 -- where there were fewer exchanges, there were no more than that
 pub early-weaker : (fewer most : ℕ) (auditor : AuditorValue) → fewer ≤ most → IsEarly fewer auditor → IsEarly most auditor
@@ -40,8 +40,8 @@ tags-before number [] = refl
 tags-before number (start ∷ starts) = ap (λ (tags : List TagValue). start ∷ tags) (tags-before (number + 1) starts)
 
 -- an audit that has begun, of these tags and of what is said of exchanges, stands before the first line
-pub begun-stands : (start : Start) (auditor : AuditorValue) (tags : List TagValue) (entries : List (ℕ × Entry)) → IsBegun start.link start.several tags entries auditor
-    → tags ≡ start.tags → entries ≡ start.entries → AreAsGiven (length start.tags) start.entries → AreLegalTags tags → StandsAt start begun auditor
+pub begun-stands : (start : Start) (auditor : AuditorValue) (tags : List TagValue) (entries : List (ℕ × Entry)) → AuditorIsBegun start.link start.several tags entries auditor
+    → tags ≡ start.tags → entries ≡ start.entries → AreAsGiven (length start.tags) start.entries → AreLegalTags tags → AuditorStandsAt start begun auditor
 begun-stands start auditor tags entries is tags_are entries_are given legal = record {
   position_is = is.position_is;
   keeps = record {
@@ -50,7 +50,7 @@ begun-stands start auditor tags entries is tags_are entries_are given legal = re
     several = is.several_is;
     tags = is.tags_are ∙ tags_are ∙ sym (tags-before 0 start.tags);
     legal = subst AreLegalTags (sym is.tags_are) legal;
-    entries = subst (λ (left : List (ℕ × Entry)). IsLeft left start.entries 0) (sym entries_are ∙ sym is.entries_are)
+    entries = subst (λ (left : List (ℕ × Entry)). AreEntriesLeft left start.entries 0) (sym entries_are ∙ sym is.entries_are)
         (record { rises = given.rises; same = λ exchange later. refl });
     exchanges = is.exchanges_are;
     round = is.round_is;
@@ -59,7 +59,7 @@ begun-stands start auditor tags entries is tags_are entries_are given legal = re
 }
 
 -- before the first line
-pub walked-none : (start : Start) (trace : List ℕ) (auditor : AuditorValue) → StandsAt start begun auditor → Walked start trace trace 1 auditor
+pub walked-none : (start : Start) (trace : List ℕ) (auditor : AuditorValue) → AuditorStandsAt start begun auditor → Walked start trace trace 1 auditor
 walked-none start trace auditor stands = record { before = []; standing = begun; leads = refl; cut = refl; place = refl; stands = stands }
 
 -- the lines before the next one lead to where the auditor stands, and that has its line feed
@@ -84,7 +84,7 @@ walked-more start trace number auditor after next goes =
       stands = goes.stands;
     }
 
-refused-before : (behind : List (List ℕ)) (start : Start) (standing : Standing) (line : List ℕ) (reason : AuditReason) → 1 ≤ length behind
+refused-before : (behind : List (List ℕ)) (start : Start) (standing : TraceStanding) (line : List ℕ) (reason : AuditReason) → 1 ≤ length behind
     → IsRefusedHere start standing line reason → IsRefusedBefore behind start standing line reason
 refused-before [] start standing line reason some refused = absurd (omega arith)
 refused-before (next ∷ more) start standing line reason some refused = refused
@@ -106,7 +106,7 @@ refused-line start trace number auditor reason next refused =
     }
 
 -- the trace stands behind its last line exactly where the auditor does
-ends-as : (start : Start) (standing : Standing) (line : List ℕ) (auditor : AuditorValue) → StandsAt start standing auditor
+ends-as : (start : Start) (standing : TraceStanding) (line : List ℕ) (auditor : AuditorValue) → AuditorStandsAt start standing auditor
     → (auditor.position ≡ positions.Ended → line ≢ []) → IsRefusedBefore [] start standing line reasons.End
 ends-as start (ended past) line auditor stands some = (refl, some stands.position_is)
 ends-as start standing line auditor stands some = refl
@@ -129,7 +129,7 @@ refused-end start trace rest number auditor walked whole some = record {
 pub audited : (start : Start) (trace rest : List ℕ) (number : ℕ) (auditor : AuditorValue) → Walked start trace rest number auditor
     → lines_of rest ≡ rest ∷ [] → auditor.position ≡ positions.Ended → rest ≡ [] → IsAudited start trace
 audited start trace rest number auditor walked whole is none =
-    from-ended (λ start standing. Leads start begun walked.before standing → IsAudited start trace) start walked.standing auditor walked.stands is
+    from-ended (λ start standing. TraceLeads start begun walked.before standing → IsAudited start trace) start walked.standing auditor walked.stands is
     (λ past leads. (
       past,
       record {

@@ -1,8 +1,8 @@
 -- The words that lines begin with: each line of a report begins with its own, and two of them differ.
 use Rattle.std.proofs.Common.{◌≡◌, ◌≢◌, ◌&&◌, ltb, ℕ, Bool, true, false, inl, inr, ⊎_elim, ◌⊎◌, ◌≤◌, List, [], ◌∷◌, Option, Some, None, codes, get_or, arith, ap, refl, sym, ◌∙◌, ltb-true}
 use Rattle.text_fields.specs.Lines.{IsFieldText, line_with, space}
-use Rattle.text_fields.specs.laws.FieldTextLaws.{IsFieldText-cons, IsFieldText-one}
-use Rattle.text_fields.specs.laws.LineLaws.{pieces_between-cut, whole_piece}
+use Rattle.text_fields.proofs.FieldTextLaws.{IsFieldText-cons, IsFieldText-one}
+use Rattle.text_fields.proofs.LineLaws.{pieces_between-cut, whole_piece}
 use Rattle.report_lines.specs.ReportLine.{ReportLine, TagLine, DoneLine, report_fields}
 use Rattle.tag_machine.specs.TagValue.{TagValue}
 use Rattle.air_audit.specs.Standing.{told_line}

@@ -1,6 +1,6 @@
 -- Profile: an audit that is under way. A contract says of each part of it how the trace goes on with a line, or why it doesn't.
 use Rattle.std.specs.Prelude.{◌≡◌, ◌≢◌, ℕ, ◌+◌, ◌<◌, ◌≤◌, Bool, List, [], ◌∷◌, All, length, Option, Some, None, Result, Ok, Err}
-use Rattle.air_events.specs.Cursor.{IsLeft}
+use Rattle.air_events.specs.Cursor.{AreEntriesLeft}
 use Rattle.air_events.specs.Entries.{Rises, entry_at}
 use Rattle.air_events.specs.Streams.{HasStreamLength}
 use Rattle.air_events.specs.TagNumbers.{most_tags}
@@ -19,7 +19,7 @@ use Rattle.report_lines.specs.ReportLine.{ReportLine, report_line_text}
 use Rattle.runs.specs.Listing.{Listed, listed_by}
 use Rattle.runs.specs.Report.{list_line}
 use Rattle.air_audit.specs.LineRefusals.{IsRefusedHere}
-use Rattle.air_audit.specs.Standing.{Standing, begun, between, sending, listing, telling, ended, GoesOn, place_in, record_of, told_line}
+use Rattle.air_audit.specs.Standing.{TraceStanding, begun, between, sending, listing, telling, ended, TraceGoesOn, place_in, record_of, told_line}
 use Rattle.report_lines.specs.ReadLines.{text_of}
 use Rattle.air_audit.specs.TraceLines.{Sends}
 use Rattle.air_audit.specs.declared.auditor.Position.{Position}
@@ -42,7 +42,7 @@ pub record AreAsGiven (tags : ℕ) (entries : List (ℕ × Entry)) : Type 0 wher
   pub streams : (exchange : ℕ) → GivesStream (entry_at entries exchange).choice
 
 -- what was answered to the last command: over which link, how many tags did, and the levels that the channel gives of it
-pub record AnswersValue : Type 0 where
+pub record AuditedAnswers : Type 0 where
   pub link : LinkValue
   pub count : ℕ
   pub levels : List Bool
@@ -59,11 +59,11 @@ pub record AuditorValue : Type 0 where
   pub round : ℕ
   pub slot : ℕ
   pub sent : Result Command CommandRefusal
-  pub answers : AnswersValue
+  pub answers : AuditedAnswers
   pub text : List ℕ
 
 -- no line was read yet
-pub record IsBegun (link : LinkValue) (several : Several) (tags : List TagValue) (entries : List (ℕ × Entry)) (auditor : AuditorValue) : Type 0 where
+pub record AuditorIsBegun (link : LinkValue) (several : Several) (tags : List TagValue) (entries : List (ℕ × Entry)) (auditor : AuditorValue) : Type 0 where
   pub link_is : auditor.answers.link ≡ link
   pub several_is : auditor.several ≡ several
   pub tags_are : auditor.tags ≡ tags
@@ -86,7 +86,7 @@ pub record KeepsUp (start : Start) (past : List Item) (auditor : AuditorValue) :
   pub several : auditor.several ≡ start.several
   pub tags : auditor.tags ≡ tags_behind start past
   pub legal : AreLegalTags auditor.tags
-  pub entries : IsLeft auditor.entries start.entries (exchanges_in past)
+  pub entries : AreEntriesLeft auditor.entries start.entries (exchanges_in past)
   pub exchanges : auditor.exchanges ≡ exchanges_in past
   pub round : auditor.round ≡ (place_in past).round
   pub slot : auditor.slot ≡ (place_in past).slot
@@ -108,38 +108,38 @@ pub record ExpectsList (start : Start) (past : List Item) (listed : Listed) (aud
   pub text : auditor.text ≡ report_line_text (list_line listed)
 
 -- ... and stands at this position
-pub record IsAt (position : Position) (start : Start) (past : List Item) (auditor : AuditorValue) : Type 0 where
+pub record AuditorIsAt (position : Position) (start : Start) (past : List Item) (auditor : AuditorValue) : Type 0 where
   pub position_is : auditor.position ≡ position
   pub keeps : KeepsUp start past auditor
 
 -- the auditor stands where the trace does
-abbrev pub StandsAt : Start → Standing → AuditorValue → Type 0
-StandsAt start begun auditor = IsAt positions.First start [] auditor
-StandsAt start (between past) auditor = IsAt positions.Between start past auditor
-StandsAt start (sending past sent) auditor = IsHearing start past sent auditor
-StandsAt start (listing past listed) auditor = ExpectsList start past listed auditor
-StandsAt start (telling past told) auditor = IsAt (positions.Telling told) start past auditor
-StandsAt start (ended past) auditor = IsAt positions.Ended start past auditor
+abbrev pub AuditorStandsAt : Start → TraceStanding → AuditorValue → Type 0
+AuditorStandsAt start begun auditor = AuditorIsAt positions.First start [] auditor
+AuditorStandsAt start (between past) auditor = AuditorIsAt positions.Between start past auditor
+AuditorStandsAt start (sending past sent) auditor = IsHearing start past sent auditor
+AuditorStandsAt start (listing past listed) auditor = ExpectsList start past listed auditor
+AuditorStandsAt start (telling past told) auditor = AuditorIsAt (positions.Telling told) start past auditor
+AuditorStandsAt start (ended past) auditor = AuditorIsAt positions.Ended start past auditor
 
 -- there is a trace that the auditor stands for
-pub record IsUnderway (auditor : AuditorValue) : Type 0 where
+pub record AuditIsUnderway (auditor : AuditorValue) : Type 0 where
   pub start : Start
-  pub standing : Standing
-  pub stands : StandsAt start standing auditor
+  pub standing : TraceStanding
+  pub stands : AuditorStandsAt start standing auditor
 
 -- the trace goes on with the line, and the auditor with it
-pub record GoesOnWith (start : Start) (standing : Standing) (line : List ℕ) (auditor : AuditorValue) : Type 0 where
-  pub next : Standing
-  pub goes : GoesOn start standing line next
-  pub stands : StandsAt start next auditor
+pub record GoesOnWith (start : Start) (standing : TraceStanding) (line : List ℕ) (auditor : AuditorValue) : Type 0 where
+  pub next : TraceStanding
+  pub goes : TraceGoesOn start standing line next
+  pub stands : AuditorStandsAt start next auditor
 
 -- the line is refused, or there was no memory
-abbrev pub StopsAt : Stop → Start → Standing → List ℕ → Type 0
+abbrev pub StopsAt : Stop → Start → TraceStanding → List ℕ → Type 0
 StopsAt (stops.Refused reason) start standing line = IsRefusedHere start standing line reason
 StopsAt (stops.OutOfMemory error) start standing line = Unit {0}
 
 -- the answer to a line
-abbrev pub GoesOnOrStops : Result (Unit {0}) Stop → Start → Standing → List ℕ → AuditorValue → Type 0
+abbrev pub GoesOnOrStops : Result (Unit {0}) Stop → Start → TraceStanding → List ℕ → AuditorValue → Type 0
 GoesOnOrStops (Ok done) start standing line auditor = GoesOnWith start standing line auditor
 GoesOnOrStops (Err stop) start standing line auditor = StopsAt stop start standing line
 
@@ -165,7 +165,7 @@ pub record WritesTold (told : ℕ) (next : Option TagValue) (behind : Position) 
   pub behind_is : behind ≡ position_behind told next
 
 -- the line is this one, and the trace goes on behind it
-pub record Tells (told : ℕ) (next : Option TagValue) (line : List ℕ) (before after : AuditorValue) : Type 0 where
+pub record TellsLine (told : ℕ) (next : Option TagValue) (line : List ℕ) (before after : AuditorValue) : Type 0 where
   pub text_is : line ≡ text_of (told_line told next)
   pub moves : after ≡ record before { position = position_behind told next; text = after.text }
 

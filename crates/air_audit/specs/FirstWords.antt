@@ -12,10 +12,10 @@ pub record IsNoWord (word : List ℕ) : Type 0 where
   pub not_unjudged : ¬ IsUnjudged word
   pub not_of_tags : ¬ IsOfTags word
 
-abbrev pub IsWord : Word → List ℕ → Type 0
-IsWord words.Tx word = word ≡ codes "tx"
-IsWord words.Rx word = word ≡ codes "rx"
-IsWord words.List word = word ≡ codes "list"
-IsWord words.Unjudged word = IsUnjudged word
-IsWord words.OfTags word = IsOfTags word
-IsWord words.Other word = IsNoWord word
+abbrev pub IsFirstWord : Word → List ℕ → Type 0
+IsFirstWord words.Tx word = word ≡ codes "tx"
+IsFirstWord words.Rx word = word ≡ codes "rx"
+IsFirstWord words.List word = word ≡ codes "list"
+IsFirstWord words.Unjudged word = IsUnjudged word
+IsFirstWord words.OfTags word = IsOfTags word
+IsFirstWord words.Other word = IsNoWord word

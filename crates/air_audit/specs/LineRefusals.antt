@@ -13,7 +13,7 @@ use Rattle.report_lines.specs.ReportLine.{BlfLine}
 use Rattle.runs.specs.Report.{list_line}
 use Rattle.air_audit.specs.declared.verdict.AuditReason.{AuditReason}
 use Rattle.air_audit.specs.declared.verdict.AuditReason.TheVariants as reasons
-use Rattle.air_audit.specs.Standing.{Standing, begun, between, sending, listing, telling, ended, rx_line, told_line, next_tag}
+use Rattle.air_audit.specs.Standing.{TraceStanding, begun, between, sending, listing, telling, ended, rx_line, told_line, next_tag}
 use Rattle.air_audit.specs.TraceLines.{IsUnjudged, IsOfTags, AreFrameOf}
 
 -- a line whose fields are not of their forms is refused for this reason
@@ -57,7 +57,7 @@ abbrev pub IsBetweenWord : List ℕ → Type 0
 IsBetweenWord word = (word ≡ codes "tx") ⊎ (IsUnjudged word ⊎ IsOfTags word)
 
 -- the first reason for which a line that has its line feed doesn't follow
-abbrev pub IsRefusedHere : Start → Standing → List ℕ → AuditReason → Type 0
+abbrev pub IsRefusedHere : Start → TraceStanding → List ℕ → AuditReason → Type 0
 -- line 1 is that of the link
 IsRefusedHere start begun line reason =
     (reason ≡ reasons.Blf) × (line ≢ text_of (BlfLine (blf_of start.link).0 (blf_of start.link).1))

@@ -9,8 +9,8 @@ abbrev pub room_for_streams : ℕ
 room_for_streams = 132208
 
 -- an answer that has no more bits than the longest reply
-abbrev pub IsShort : AnswerValue → Type 0
-IsShort answer = length answer.bits ≤ longest_reply
+abbrev pub IsShortAnswer : AnswerValue → Type 0
+IsShortAnswer answer = length answer.bits ≤ longest_reply
 
 -- the link, and the levels that are heard over it
 pub record HeardValue : Type 0 where

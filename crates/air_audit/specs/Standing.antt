@@ -44,22 +44,22 @@ record_of start past command =
     let place = place_of_command (place_in past) command in next_record start place.round place.slot command past
 
 -- where a trace stands after some of its lines
-pub data Standing : Type 0 where
+pub data TraceStanding : Type 0 where
   -- before the first line
-  begun : Standing
+  begun : TraceStanding
   -- behind the first line or an exchange
-  between : (past : List Item) → Standing
+  between : (past : List Item) → TraceStanding
   -- behind the tx line of an exchange, whose rx line must follow
-  sending : (past : List Item) → (sent : Record) → Standing
+  sending : (past : List Item) → (sent : Record) → TraceStanding
   -- behind an exchange that lists an EPC, whose list line must follow
-  listing : (past : List Item) → (listed : Listed) → Standing
+  listing : (past : List Item) → (listed : Listed) → TraceStanding
   -- behind the lines of so many tags, of one at least
-  telling : (past : List Item) → (told : ℕ) → Standing
+  telling : (past : List Item) → (told : ℕ) → TraceStanding
   -- behind the last line
-  ended : (past : List Item) → Standing
+  ended : (past : List Item) → TraceStanding
 
 -- behind an exchange that lists these: one EPC, or none
-abbrev pub behind_exchange : List Item → List Listed → Standing
+abbrev pub behind_exchange : List Item → List Listed → TraceStanding
 behind_exchange past [] = between past
 behind_exchange past (listed ∷ others) = listing past listed
 
@@ -72,7 +72,7 @@ abbrev pub told_line : ℕ → Option TagValue → ReportLine
 told_line told None = DoneLine
 told_line told (Some tag) = TagLine told tag
 
-abbrev pub behind_told : List Item → ℕ → Option TagValue → Standing
+abbrev pub behind_told : List Item → ℕ → Option TagValue → TraceStanding
 behind_told past told None = ended past
 behind_told past told (Some tag) = telling past (told + 1)
 
@@ -81,36 +81,36 @@ abbrev pub next_tag : Start → List Item → ℕ → Option TagValue
 next_tag start past told = slice_get (tags_behind start past) told
 
 -- the line is the next of the tags' lines
-pub record TellsNext (start : Start) (past : List Item) (told : ℕ) (line : List ℕ) (to : Standing) : Type 0 where
+pub record TellsNextTag (start : Start) (past : List Item) (told : ℕ) (line : List ℕ) (to : TraceStanding) : Type 0 where
   pub text : line ≡ text_of (told_line told (next_tag start past told))
   pub leads : to ≡ behind_told past told (next_tag start past told)
 
 -- the line sends the next command
-pub record SendsNext (start : Start) (past : List Item) (line : List ℕ) (to : Standing) : Type 0 where
+pub record SendsNext (start : Start) (past : List Item) (line : List ℕ) (to : TraceStanding) : Type 0 where
   pub command : Command
   pub sends : Sends (exchanges_in past + 1) line command
   pub leads : to ≡ sending past (record_of start past command)
 
 -- the line isn't judged
-pub record PassesBy (past : List Item) (line : List ℕ) (to : Standing) : Type 0 where
+pub record PassesBy (past : List Item) (line : List ℕ) (to : TraceStanding) : Type 0 where
   pub unjudged : IsUnjudged (first_field line)
   pub leads : to ≡ between past
 
 -- the line is this one
-pub record IsTheLine (expected : ReportLine) (behind : Standing) (line : List ℕ) (to : Standing) : Type 0 where
+pub record IsTheLine (expected : ReportLine) (behind : TraceStanding) (line : List ℕ) (to : TraceStanding) : Type 0 where
   pub text : line ≡ text_of expected
   pub leads : to ≡ behind
 
 -- the line may follow, and leads there
-abbrev pub GoesOn : Start → Standing → List ℕ → Standing → Type 0
-GoesOn start begun line to = IsTheLine (BlfLine (blf_of start.link).0 (blf_of start.link).1) (between []) line to
-GoesOn start (between past) line to = SendsNext start past line to ⊎ (PassesBy past line to ⊎ TellsNext start past 0 line to)
-GoesOn start (sending past sent) line to = IsTheLine (rx_line start sent) (behind_exchange (exchanged sent ∷ past) (listed_by sent)) line to
-GoesOn start (listing past listed) line to = IsTheLine (list_line listed) (between past) line to
-GoesOn start (telling past told) line to = TellsNext start past told line to
-GoesOn start (ended past) line to = ⊥
+abbrev pub TraceGoesOn : Start → TraceStanding → List ℕ → TraceStanding → Type 0
+TraceGoesOn start begun line to = IsTheLine (BlfLine (blf_of start.link).0 (blf_of start.link).1) (between []) line to
+TraceGoesOn start (between past) line to = SendsNext start past line to ⊎ (PassesBy past line to ⊎ TellsNextTag start past 0 line to)
+TraceGoesOn start (sending past sent) line to = IsTheLine (rx_line start sent) (behind_exchange (exchanged sent ∷ past) (listed_by sent)) line to
+TraceGoesOn start (listing past listed) line to = IsTheLine (list_line listed) (between past) line to
+TraceGoesOn start (telling past told) line to = TellsNextTag start past told line to
+TraceGoesOn start (ended past) line to = ⊥
 
 -- the lines follow one another from one standing, and lead to the other
-abbrev pub Leads : Start → Standing → List (List ℕ) → Standing → Type 0
-Leads start from [] to = from ≡ to
-Leads start from (line ∷ lines) to = (behind : Standing) × GoesOn start from line behind × Leads start behind lines to
+abbrev pub TraceLeads : Start → TraceStanding → List (List ℕ) → TraceStanding → Type 0
+TraceLeads start from [] to = from ≡ to
+TraceLeads start from (line ∷ lines) to = (behind : TraceStanding) × TraceGoesOn start from line behind × TraceLeads start behind lines to

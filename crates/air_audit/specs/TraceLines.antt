@@ -20,10 +20,10 @@ abbrev pub IsOfTags : List ℕ → Type 0
 IsOfTags word = (word ≡ codes "tag") ⊎ (word ≡ codes "done")
 
 -- 6.3.1.2.8: a frame of this kind begins so
-abbrev pub BeginsWith : FrameKind → Lead → Type 0
-BeginsWith (kinds.Preamble tari rtcal trcal) leads.Preamble = Unit {0}
-BeginsWith (kinds.FrameSync tari rtcal) leads.FrameSync = Unit {0}
-BeginsWith kind lead = ⊥
+abbrev pub FrameBeginsWith : FrameKind → Lead → Type 0
+FrameBeginsWith (kinds.Preamble tari rtcal trcal) leads.Preamble = Unit {0}
+FrameBeginsWith (kinds.FrameSync tari rtcal) leads.FrameSync = Unit {0}
+FrameBeginsWith kind lead = ⊥
 
 -- The intervals are a frame, by whatever lengths, whose bits spell a command. It has a preamble exactly where that is a Query.
 pub record AreFrameOf (command : Command) (intervals : List ℕ) : Type 0 where
@@ -31,7 +31,7 @@ pub record AreFrameOf (command : Command) (intervals : List ℕ) : Type 0 where
   pub bits : List Bool
   pub frame : IsFrame kind bits intervals
   pub spells : SpellsCommand command bits
-  pub lead : BeginsWith kind (lead_of command)
+  pub lead : FrameBeginsWith kind (lead_of command)
 
 -- the tx line of an exchange sends a command
 pub record Sends (exchange : ℕ) (line : List ℕ) (command : Command) : Type 0 where

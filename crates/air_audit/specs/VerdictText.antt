@@ -7,19 +7,19 @@ use Rattle.air_audit.specs.declared.verdict.AuditReason.TheVariants as reasons
 use Rattle.air_audit.specs.declared.verdict.Verdict.{Verdict}
 use Rattle.air_audit.specs.declared.verdict.Verdict.TheVariants.{Yes, No}
 
-abbrev pub reason_word : AuditReason → List ℕ
-reason_word reasons.End = codes "end"
-reason_word reasons.Extra = codes "extra"
-reason_word reasons.Blf = codes "blf"
-reason_word reasons.List = codes "list"
-reason_word reasons.Word = codes "word"
-reason_word reasons.Shape = codes "shape"
-reason_word reasons.Number = codes "number"
-reason_word reasons.Exchange = codes "exchange"
-reason_word reasons.Frame = codes "frame"
-reason_word reasons.Count = codes "count"
-reason_word reasons.Levels = codes "levels"
-reason_word reasons.Tag = codes "tag"
+abbrev pub audit_reason_word : AuditReason → List ℕ
+audit_reason_word reasons.End = codes "end"
+audit_reason_word reasons.Extra = codes "extra"
+audit_reason_word reasons.Blf = codes "blf"
+audit_reason_word reasons.List = codes "list"
+audit_reason_word reasons.Word = codes "word"
+audit_reason_word reasons.Shape = codes "shape"
+audit_reason_word reasons.Number = codes "number"
+audit_reason_word reasons.Exchange = codes "exchange"
+audit_reason_word reasons.Frame = codes "frame"
+audit_reason_word reasons.Count = codes "count"
+audit_reason_word reasons.Levels = codes "levels"
+audit_reason_word reasons.Tag = codes "tag"
 
 -- the line of a trace that is refused: the number of its line, and the reason
 abbrev pub refused_line : ℕ → List ℕ → List ℕ
@@ -27,7 +27,7 @@ refused_line number reason = codes "no " ++ decimal number ++ codes " " ++ reaso
 
 abbrev pub verdict_line : Verdict → List ℕ
 verdict_line Yes = codes "yes" ++ line_feed ∷ []
-verdict_line (No number reason) = refused_line number (reason_word reason)
+verdict_line (No number reason) = refused_line number (audit_reason_word reason)
 
 -- no trace tells of an event between two exchanges
 abbrev pub event_line : List ℕ

@@ -9,9 +9,9 @@ ghost use Rattle.line_codes.specs.Codes.{table_of};
 ghost use Rattle.reply_grammar.specs.Reception.{reception_from};
 ghost use Rattle.reply_wire.specs.Heard.{pair_received};
 ghost use Rattle.reply_wire.specs.Received.{IsReceived};
-ghost use Rattle.air_audit.specs.Auditing.{ExpectsList, GoesOnOrStops, IsAt, IsBegun, IsEarly, IsHearing, IsUnderway, KeepsUp, Lists, SendsTo, StandsAt, Tells, TellsOther, WritesTold};
+ghost use Rattle.air_audit.specs.Auditing.{ExpectsList, GoesOnOrStops, AuditorIsAt, AuditorIsBegun, IsEarly, IsHearing, AuditIsUnderway, KeepsUp, Lists, SendsTo, AuditorStandsAt, TellsLine, TellsOther, WritesTold};
 ghost use Rattle.air_audit.specs.LineRefusals.{IsNoTxLine};
-ghost use Rattle.air_audit.specs.Standing.{Standing, begun, between, listing, sending, telling, told_line};
+ghost use Rattle.air_audit.specs.Standing.{TraceStanding, begun, between, listing, sending, telling, told_line};
 ghost use Rattle.report_lines.specs.ReadLines.{first_field};
 
 use crate::AuditReason;
@@ -86,7 +86,8 @@ impl<'a, L: Ledger> Model for Auditor<'a, L> {
 
     ghost view = { λ a. record { several = a.several; tags = a.population; entries = a.entries; position = a.position; exchanges = a.exchanges; round = a.round; slot = a.slot; sent = a.frame; answers = record { link = a.heard.link; count = length a.answers.items; levels = a.heard.levels }; text = string_bytes a.text } };
 
-    ghost invariant = { λ a. (room_for_streams ≤ a.room.capacity) × (length a.population ≤ a.answers.tags) };
+    ghost invariant = { λ a. (room_for_streams ≤ a.room.capacity)
+        × (length a.population ≤ a.answers.tags) };
 }
 
 impl<'a, L: Ledger> Auditor<'a, L> {
@@ -99,7 +100,8 @@ impl<'a, L: Ledger> Auditor<'a, L> {
         entries: EntryCursor<'a>,
         steps: Steps<L>,
     ) -> Result<Auditor<'a, L>, OutOfMemory>
-        ensures { IfOk result (λ auditor. IsBegun link several population entries.entry auditor) }
+        ensures { IfOk result
+            (λ auditor. AuditorIsBegun link several population entries.entry auditor) }
     {
         let frame = SentFrame::new(alloc)?;
         let answers = Answers::new(alloc, population.len() as usize)?;
@@ -136,9 +138,11 @@ impl<'a, L: Ledger> Auditor<'a, L> {
     ///
     /// The first reason for which the line doesn't follow, or that there was no memory for the text that has to stand there.
     pub(crate) fn follow(&mut self, line: &[u8]) -> Result<(), Stop>
-        requires underway { IsUnderway self.old }
+        requires underway { AuditIsUnderway self.old }
         requires early { IsEarly (2 ^ 31) self.old }
-        ensures follows { (start : Start) (standing : Standing) → StandsAt start standing self.old → GoesOnOrStops result start standing line.now self.new }
+        ensures follows { (start : Start) (standing : TraceStanding)
+            → AuditorStandsAt start standing self.old
+            → GoesOnOrStops result start standing line.now self.new }
         ensures early { (most : ℕ) → IsEarly most self.old → IsEarly (most + 1) self.new }
     {
         match self.position {
@@ -153,7 +157,8 @@ impl<'a, L: Ledger> Auditor<'a, L> {
 
     /// Goes on with the first line, which has to be that of the link.
     fn begin(&mut self, line: &[u8]) -> Result<(), Stop>
-        ensures follows { (start : Start) → KeepsUp start [] self.old → GoesOnOrStops result start begun line.now self.new }
+        ensures follows { (start : Start) → KeepsUp start [] self.old
+            → GoesOnOrStops result start begun line.now self.new }
         ensures early { (most : ℕ) → IsEarly most self.old → IsEarly (most + 1) self.new }
     {
         let (numerator, denominator) = self.heard.link().blf();
@@ -170,7 +175,9 @@ impl<'a, L: Ledger> Auditor<'a, L> {
     fn go_on(&mut self, line: &[u8]) -> Result<(), Stop>
         requires underway { (start : Start) × (past : List Item) × KeepsUp start past self.old }
         requires early { IsEarly (2 ^ 31) self.old }
-        ensures follows { (start : Start) (past : List Item) → IsAt Position.Between start past self.old → GoesOnOrStops result start (between past) line.now self.new }
+        ensures follows { (start : Start) (past : List Item)
+            → AuditorIsAt Position.Between start past self.old
+            → GoesOnOrStops result start (between past) line.now self.new }
         ensures early { (most : ℕ) → IsEarly most self.old → IsEarly (most + 1) self.new }
     {
         match word_of_line(line) {
@@ -191,7 +198,8 @@ impl<'a, L: Ledger> Auditor<'a, L> {
         requires underway { (start : Start) × (past : List Item) × KeepsUp start past self.old }
         requires early { IsEarly (2 ^ 31) self.old }
         requires word { first_field line.now ≡ codes "tx" }
-        ensures sends { IsOk result → (start : Start) (past : List Item) → KeepsUp start past self.old → SendsTo start past line.now self.new }
+        ensures sends { IsOk result → (start : Start) (past : List Item)
+            → KeepsUp start past self.old → SendsTo start past line.now self.new }
         ensures refused { IfErr result (IsNoTxLine (self.old.exchanges + 1) line.now) }
         ensures early { (most : ℕ) → IsEarly most self.old → IsEarly (most + 1) self.new }
     {
@@ -215,7 +223,9 @@ impl<'a, L: Ledger> Auditor<'a, L> {
     /// Goes on with a line behind a tx line: the rx line of the exchange has to follow.
     fn hear(&mut self, line: &[u8]) -> Result<(), Stop>
         requires { IsEarly (2 ^ 31) self.old }
-        ensures follows { (start : Start) (past : List Item) (sent : Record) → IsHearing start past sent self.old → GoesOnOrStops result start (sending past sent) line.now self.new }
+        ensures follows { (start : Start) (past : List Item) (sent : Record)
+            → IsHearing start past sent self.old
+            → GoesOnOrStops result start (sending past sent) line.now self.new }
         ensures early { (most : ℕ) → IsEarly most self.old → IsEarly (most + 1) self.new }
     {
         match word_of_line(line) {
@@ -229,7 +239,9 @@ impl<'a, L: Ledger> Auditor<'a, L> {
     fn hear_levels(&mut self, line: &[u8]) -> Result<(), Stop>
         requires word { first_field line.now ≡ codes "rx" }
         requires early { IsEarly (2 ^ 31) self.old }
-        ensures follows { (start : Start) (past : List Item) (sent : Record) → IsHearing start past sent self.old → GoesOnOrStops result start (sending past sent) line.now self.new }
+        ensures follows { (start : Start) (past : List Item) (sent : Record)
+            → IsHearing start past sent self.old
+            → GoesOnOrStops result start (sending past sent) line.now self.new }
         ensures early { (most : ℕ) → IsEarly most self.old → IsEarly (most + 1) self.new }
     {
         // By these laws no levels come that are too many for a line.
@@ -257,7 +269,8 @@ impl<'a, L: Ledger> Auditor<'a, L> {
     /// What the last exchange lists: the PC and the EPC that come whole in reply to an ACK.
     fn listed(&mut self) -> Option<(u16, EpcWords)>
         ensures same { self.new ≡ self.old }
-        ensures lists { (start : Start) (past : List Item) (sent : Record) → IsHearing start past sent self.old → Lists result sent }
+        ensures lists { (start : Start) (past : List Item) (sent : Record)
+            → IsHearing start past sent self.old → Lists result sent }
     {
         // By these laws what is received of a stream is what the channel gives.
         answers_are_replies();
@@ -271,7 +284,10 @@ impl<'a, L: Ledger> Auditor<'a, L> {
     /// The PC and the EPC of the stream that came last, if they come whole.
     fn hear_epc(&mut self) -> Option<(u16, EpcWords)>
         ensures same { self.new ≡ self.old }
-        ensures received { (received : Received) × IsReceived (table_of self.old.answers.link.code) self.old.answers.link.trext Expect.Epc self.old.answers.levels received × (result ≡ pair_received (reception_from received)) }
+        ensures received { (received : Received)
+            × IsReceived (table_of self.old.answers.link.code) self.old.answers.link.trext
+            Expect.Epc self.old.answers.levels received
+            × (result ≡ pair_received (reception_from received)) }
     {
         let link = self.heard.link();
         receive(
@@ -287,7 +303,9 @@ impl<'a, L: Ledger> Auditor<'a, L> {
 
     /// Goes on with a line behind an exchange that lists an EPC: its list line has to follow.
     fn list(&mut self, line: &[u8]) -> Result<(), Stop>
-        ensures follows { (start : Start) (past : List Item) (listed : Listed) → ExpectsList start past listed self.old → GoesOnOrStops result start (listing past listed) line.now self.new }
+        ensures follows { (start : Start) (past : List Item) (listed : Listed)
+            → ExpectsList start past listed self.old
+            → GoesOnOrStops result start (listing past listed) line.now self.new }
         ensures early { (most : ℕ) → IsEarly most self.old → IsEarly (most + 1) self.new }
     {
         if !is_text(line, self.text.as_str()) {
@@ -299,7 +317,8 @@ impl<'a, L: Ledger> Auditor<'a, L> {
 
     /// Goes on with a line behind those of so many tags.
     fn tell_on(&mut self, told: u32, line: &[u8]) -> Result<(), Stop>
-        ensures follows { (start : Start) (past : List Item) → KeepsUp start past self.old → GoesOnOrStops result start (telling past told) line.now self.new }
+        ensures follows { (start : Start) (past : List Item) → KeepsUp start past self.old
+            → GoesOnOrStops result start (telling past told) line.now self.new }
         ensures early { (most : ℕ) → IsEarly most self.old → IsEarly (most + 1) self.new }
     {
         match word_of_line(line) {
@@ -311,8 +330,10 @@ impl<'a, L: Ledger> Auditor<'a, L> {
 
     /// Goes on with a line that has to be that of the next tag behind so many, or the last one.
     fn tell(&mut self, told: u32, line: &[u8]) -> Result<(), Stop>
-        ensures tells { IsOk result → Tells told (slice_get self.old.tags told) line.now self.old self.new }
-        ensures other { IfErr result (TellsOther (told_line told (slice_get self.old.tags told)) line.now) }
+        ensures tells { IsOk result
+            → TellsLine told (slice_get self.old.tags told) line.now self.old self.new }
+        ensures other { IfErr result
+            (TellsOther (told_line told (slice_get self.old.tags told)) line.now) }
         ensures early { (most : ℕ) → IsEarly most self.old → IsEarly (most + 1) self.new }
     {
         let behind = self.write_told(told)?;
@@ -326,7 +347,8 @@ impl<'a, L: Ledger> Auditor<'a, L> {
     /// Writes the line of the next tag behind so many, or the last line, and says where a trace stands behind it.
     fn write_told(&mut self, told: u32) -> Result<Position, OutOfMemory>
         ensures rest { self.new ≡ record self.old { text = self.new.text } }
-        ensures told { IfOk result (λ behind. WritesTold told (slice_get self.old.tags told) behind self.new.text) }
+        ensures told { IfOk result
+            (λ behind. WritesTold told (slice_get self.old.tags told) behind self.new.text) }
     {
         self.text.clear();
         if told >= self.population.len() {
@@ -357,7 +379,9 @@ fn push_tag<L: Ledger>(
 ) -> Result<(), OutOfMemory>
     requires { number < length population.old }
     ensures same { population.new ≡ population.old }
-    ensures text { OnOk result ((tag : TagValue) → slice_get population.old number ≡ Some tag → string_bytes text.new ≡ string_bytes text.old ++ report_line_text (TagLine number tag)) }
+    ensures text { OnOk result
+        ((tag : TagValue) → slice_get population.old number ≡ Some tag
+        → string_bytes text.new ≡ string_bytes text.old ++ report_line_text (TagLine number tag)) }
 {
     let tag = population.tag(number, steps);
     push_tag_line(text, number, tag)

@@ -1,5 +1,5 @@
 //! The words that lines begin with.
-ghost use Rattle.air_audit.specs.FirstWords.{IsWord};
+ghost use Rattle.air_audit.specs.FirstWords.{IsFirstWord};
 ghost use Rattle.report_lines.specs.ReadLines.{first_field};
 
 use report_lines::first_field;
@@ -23,7 +23,7 @@ pub(crate) enum Word {
 
 /// What this word says.
 fn word_of(word: &[u8]) -> Word
-    ensures { IsWord result word.now }
+    ensures { IsFirstWord result word.now }
 {
     match word {
         b"tx" => Word::Tx,
@@ -37,7 +37,7 @@ fn word_of(word: &[u8]) -> Word
 
 /// What a line is by its first field.
 pub(crate) fn word_of_line(line: &[u8]) -> Word
-    ensures { IsWord result (first_field line.now) }
+    ensures { IsFirstWord result (first_field line.now) }
 {
     word_of(first_field(line))
 }

@@ -5,7 +5,7 @@ ghost use Rattle.line_code.specs.TableFacts.{with_level_flipped};
 ghost use Rattle.tag_machine.specs.Exchange.{Replied};
 ghost use Rattle.tag_population.specs.Answers.{answers_of};
 ghost use Rattle.air_model.specs.Channel.{HasFewLevels, default_given, first_broken, given_of, heard_levels, whole_or_silence};
-ghost use Rattle.air_audit.specs.Rooms.{IsShort, room_for_streams};
+ghost use Rattle.air_audit.specs.Rooms.{IsShortAnswer, room_for_streams};
 
 use bit_strings::{Bits, Levels, OutOfMemory};
 use line_codes::encode_bits;
@@ -41,7 +41,8 @@ impl Model for HeardLevels {
 
     ghost view = { λ a. record { link = a.link; levels = a.levels.items } };
 
-    ghost invariant = { λ a. (a.levels.capacity ≡ room_for_streams) × (a.bits.capacity ≡ longest_reply) };
+    ghost invariant = { λ a. (a.levels.capacity ≡ room_for_streams)
+        × (a.bits.capacity ≡ longest_reply) };
 }
 
 impl HeardLevels {
@@ -72,11 +73,12 @@ impl HeardLevels {
 
     /// Hears what the channel gives of these answers by this choice, or by the default for several.
     pub(crate) fn hear(&mut self, answers: &Answers, choice: &Option<Choice>, several: Several)
-        requires short { All IsShort answers.now.items }
+        requires short { All IsShortAnswer answers.now.items }
         requires few { HasFewLevels choice.now }
         ensures link { self.new.link ≡ self.old.link }
         ensures heard { (replies : List Replied) → answers.now.items ≡ answers_of replies
-            → self.new.levels ≡ heard_levels self.old.link (given_of self.old.link replies choice.now several) }
+            → self.new.levels
+            ≡ heard_levels self.old.link (given_of self.old.link replies choice.now several) }
     {
         match choice {
             Some(Choice::Pick(number)) => self.hear_whole(answers, *number),
@@ -89,7 +91,7 @@ impl HeardLevels {
 
     /// Hears one answer whole, and of several what is given by default.
     fn hear_default(&mut self, answers: &Answers, several: Several)
-        requires short { All IsShort answers.now.items }
+        requires short { All IsShortAnswer answers.now.items }
         ensures link { self.new.link ≡ self.old.link }
         ensures heard { (replies : List Replied) → answers.now.items ≡ answers_of replies
             → self.new.levels ≡ heard_levels self.old.link (default_given several replies) }
@@ -108,10 +110,11 @@ impl HeardLevels {
 
     /// Hears the answer at this place whole, or nothing where there is none.
     fn hear_whole(&mut self, answers: &Answers, at: u32)
-        requires short { All IsShort answers.now.items }
+        requires short { All IsShortAnswer answers.now.items }
         ensures link { self.new.link ≡ self.old.link }
         ensures heard { (replies : List Replied) → answers.now.items ≡ answers_of replies
-            → self.new.levels ≡ heard_levels self.old.link (whole_or_silence (slice_get replies at)) }
+            → self.new.levels
+            ≡ heard_levels self.old.link (whole_or_silence (slice_get replies at)) }
     {
         let Some(answer) = answers.get(at) else {
             self.levels.clear();
@@ -129,7 +132,7 @@ impl HeardLevels {
 
     /// Hears the first answer with one level inverted: that at this number modulo the number of its levels.
     fn hear_broken(&mut self, answers: &Answers, place: u32)
-        requires short { All IsShort answers.now.items }
+        requires short { All IsShortAnswer answers.now.items }
         ensures link { self.new.link ≡ self.old.link }
         ensures heard { (replies : List Replied) → answers.now.items ≡ answers_of replies
             → self.new.levels ≡ heard_levels self.old.link (first_broken replies place) }
@@ -143,7 +146,11 @@ impl HeardLevels {
     /// Inverts the level at this number modulo their number.
     fn invert(&mut self, place: u32)
         requires { 1 ≤ length self.old.levels }
-        ensures { self.new ≡ record self.old { levels = with_level_flipped self.old.levels (place % length self.old.levels) } }
+        ensures { self.new
+            ≡ record self.old {
+              levels = with_level_flipped self.old.levels
+                  (place % length self.old.levels);
+            } }
     {
         let at = place % self.levels.len();
         self.levels.flip(at);

@@ -8,7 +8,7 @@ ghost use Rattle.scenario.specs.Limits.{IsScenario};
 ghost use Rattle.scenario.specs.declared.values.Scenario.{Scenario};
 ghost use Rattle.tag_machine.specs.Exchange.{AreLegalTags};
 ghost use Rattle.air_audit.specs.AuditedTrace.{IsAudited};
-ghost use Rattle.air_audit.specs.FirstRefusal.{IsVerdict, IsFirstRefusal, IsFirstThatBeginsNone};
+ghost use Rattle.air_audit.specs.FirstRefusal.{IsAuditVerdict, IsFirstRefusal, IsFirstThatBeginsNone};
 ghost use Rattle.air_audit.specs.OwnTraces.{HasNoEventStep};
 ghost use Rattle.air_audit.specs.ReceivedLists.{ListsWhatIsReceived};
 ghost use Rattle.air_audit.specs.declared.verdict.AuditReason.{AuditReason};
@@ -27,7 +27,7 @@ use tag_machine::{answers_are_replies, steps_keep_tags_legal};
 /// which is refused for one first reason.
 pub fn traces_have_at_most_one_verdict()
     ensures { (start : Start) (bytes : List ℕ) (one other : Verdict) →
-        IsVerdict start bytes one → IsVerdict start bytes other → one ≡ other }
+        IsAuditVerdict start bytes one → IsAuditVerdict start bytes other → one ≡ other }
 {
     one_answer();
     spelling_laws();
@@ -35,7 +35,8 @@ pub fn traces_have_at_most_one_verdict()
 
 /// Each list of bytes has a verdict by each start: it is audited, or has a first refused line.
 pub fn traces_have_a_verdict()
-    ensures { (start : Start) (bytes : List ℕ) → (verdict : Verdict) × IsVerdict start bytes verdict }
+    ensures { (start : Start) (bytes : List ℕ) → (verdict : Verdict)
+        × IsAuditVerdict start bytes verdict }
 {
     numbers_or_refused();
     one_answer();

@@ -9,8 +9,10 @@ use command_grammar::Command;
 pub(crate) fn place_of_command(round: u32, slot: u32, command: &Command) -> (u32, u32)
     requires round { round + 1 < 2 ^ 32 }
     requires slot { slot + 1 < 2 ^ 32 }
-    ensures round { result.0 ≡ (place_of_command (record { round = round; slot = slot }) command.now).round }
-    ensures slot { result.1 ≡ (place_of_command (record { round = round; slot = slot }) command.now).slot }
+    ensures round { result.0
+        ≡ (place_of_command (record { round = round; slot = slot }) command.now).round }
+    ensures slot { result.1
+        ≡ (place_of_command (record { round = round; slot = slot }) command.now).slot }
     ensures later_round { result.0 ≤ round + 1 }
     ensures later_slot { result.1 ≤ slot + 1 }
 {

@@ -1,6 +1,6 @@
 //! Lines of what came back.
 ghost use Rattle.std.specs.Prelude.{◌≡◌, ◌≤◌, IfErr, IsOk, codes};
-ghost use Rattle.report_lines.specs.ReadLines.{first_field, most_levels, text_of};
+ghost use Rattle.report_lines.specs.ReadLines.{first_field, most_rx_levels, text_of};
 ghost use Rattle.report_lines.specs.ReportLine.{RxLine};
 ghost use Rattle.air_audit.specs.LineRefusals.{DiffersFirst};
 
@@ -22,7 +22,7 @@ pub(crate) fn compare_rx_line(
     room: &mut Levels,
 ) -> Result<(), AuditReason>
     requires word { first_field line.now ≡ codes "rx" }
-    requires room { most_levels ≤ room.old.capacity }
+    requires room { most_rx_levels ≤ room.old.capacity }
     ensures same { IsOk result → line.now ≡ text_of (RxLine exchange count levels.now.items) }
     ensures refused { IfErr result (DiffersFirst exchange count levels.now.items line.now) }
     ensures capacity { room.new.capacity ≡ room.old.capacity }

@@ -7,7 +7,7 @@ ghost use Rattle.air_model.specs.Channel.{lead_of};
 ghost use Rattle.air_audit.specs.LineRefusals.{IsNoTxLine};
 ghost use Rattle.air_audit.specs.Sent.{IsNoFrame, ReadsFrame, ReadsCommand};
 ghost use Rattle.report_lines.specs.ReadLines.{first_field};
-ghost use Rattle.air_audit.specs.TraceLines.{BeginsWith};
+ghost use Rattle.air_audit.specs.TraceLines.{FrameBeginsWith};
 
 use crate::AuditReason;
 use crate::fields::{reason_of, spells};
@@ -32,13 +32,14 @@ impl Model for SentFrame {
     ghost use Rattle.std.specs.Prelude.{◌≤◌, Result};
     ghost use Rattle.command_grammar.specs.declared.commands.Command.{Command};
     ghost use Rattle.command_grammar.specs.declared.refusal.CommandRefusal.{CommandRefusal};
-    ghost use Rattle.report_lines.specs.ReadLines.{most_intervals};
+    ghost use Rattle.report_lines.specs.ReadLines.{most_tx_intervals};
 
     ghost Value = { Result Command CommandRefusal };
 
     ghost view = { λ a. a.command };
 
-    ghost invariant = { λ a. (most_intervals ≤ a.intervals.capacity) × (most_intervals ≤ a.bits.capacity) };
+    ghost invariant = { λ a. (most_tx_intervals ≤ a.intervals.capacity)
+        × (most_tx_intervals ≤ a.bits.capacity) };
 }
 
 impl SentFrame {
@@ -125,7 +126,7 @@ fn read_frame(
 /// Whether a frame of this kind begins as that of the command does: with a preamble before a Query, and else with a
 /// frame-sync (6.3.1.2.8).
 fn begins_as(kind: &FrameKind, command: &Command) -> bool
-    ensures { IsTrue result ↔ BeginsWith kind.now (lead_of command.now) }
+    ensures { IsTrue result ↔ FrameBeginsWith kind.now (lead_of command.now) }
 {
     match kind {
         FrameKind::Preamble { .. } => matches!(command, Command::Query { .. }),

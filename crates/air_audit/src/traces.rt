@@ -2,8 +2,8 @@
 ghost use Rattle.std.specs.Prelude.{◌≡◌, ◌≤◌, ◌^◌, length, map, vec_len, IfOk};
 ghost use Rattle.tag_machine.specs.Hearing.{tag_value_of};
 ghost use Rattle.air_model.specs.Past.{Start};
-ghost use Rattle.air_audit.specs.Auditing.{AreAsGiven, IsEarly, StandsAt};
-ghost use Rattle.air_audit.specs.FirstRefusal.{IsVerdict};
+ghost use Rattle.air_audit.specs.Auditing.{AreAsGiven, IsEarly, AuditorStandsAt};
+ghost use Rattle.air_audit.specs.FirstRefusal.{IsAuditVerdict};
 ghost use Rattle.air_audit.specs.ReceivedLists.{ListsWhatIsReceived};
 ghost use Rattle.air_audit.specs.declared.verdict.Verdict.TheVariants.{Yes};
 ghost use Rattle.air_audit.specs.Standing.{begun};
@@ -39,7 +39,14 @@ pub fn audit(
 ) -> Result<Verdict, OutOfMemory>
     requires given { AreAsGiven (vec_len tags) entries }
     requires trace { length trace.now ≤ 2 ^ 24 }
-    ensures exact { IfOk result (IsVerdict (record { link = link; tags = map tag_value_of tags.items; entries = entries; several = several }) trace.now) }
+    ensures exact { IfOk result
+        (IsAuditVerdict (record {
+          link = link;
+          tags = map tag_value_of
+              tags.items;
+          entries = entries;
+          several = several;
+        }) trace.now) }
     ensures listed { IfOk result (λ verdict. verdict ≡ Yes → ListsWhatIsReceived link trace.now) }
 {
     audit_counted::<Brand>(Blank::new(1), alloc, tags, link, entries, several, trace)
@@ -60,7 +67,14 @@ fn audit_counted<L: Ledger>(
     requires one { blank.parts ≡ 1 }
     requires given { AreAsGiven (vec_len tags) entries }
     requires trace { length trace.now ≤ 2 ^ 24 }
-    ensures exact { IfOk result (IsVerdict (record { link = link; tags = map tag_value_of tags.items; entries = entries; several = several }) trace.now) }
+    ensures exact { IfOk result
+        (IsAuditVerdict (record {
+          link = link;
+          tags = map tag_value_of
+              tags.items;
+          entries = entries;
+          several = several;
+        }) trace.now) }
     ensures listed { IfOk result (λ verdict. verdict ≡ Yes → ListsWhatIsReceived link trace.now) }
 {
     // By this law the list lines of an audited trace say what is received.
@@ -83,10 +97,11 @@ fn audit_counted<L: Ledger>(
 
 /// Goes over the lines of a trace, up to the first that is refused.
 fn walk<L: Ledger>(auditor: &mut Auditor<'_, L>, trace: &[u8]) -> Result<Verdict, OutOfMemory>
-    requires underway { (start : Start) × StandsAt start begun auditor.old }
+    requires underway { (start : Start) × AuditorStandsAt start begun auditor.old }
     requires early { IsEarly 0 auditor.old }
     requires trace { length trace.now ≤ 2 ^ 24 }
-    ensures { (start : Start) → StandsAt start begun auditor.old → IfOk result (IsVerdict start trace.now) }
+    ensures { (start : Start) → AuditorStandsAt start begun auditor.old
+        → IfOk result (IsAuditVerdict start trace.now) }
 {
     let mut rest = trace;
     let mut number = 1;

@@ -1,6 +1,6 @@
 //! The line that says whether a trace is audited.
 ghost use Rattle.std.specs.Prelude.{◌≡◌, ◌≤◌, length};
-ghost use Rattle.air_audit.specs.VerdictText.{event_line, reason_word, refused_line, verdict_line};
+ghost use Rattle.air_audit.specs.VerdictText.{event_line, audit_reason_word, refused_line, verdict_line};
 
 use crate::{AuditReason, Verdict};
 use arrayvec::ArrayVec;
@@ -50,7 +50,7 @@ fn refused(number: u32, reason: &str) -> ArrayVec<u8, 32>
 
 /// The word of a reason.
 fn reason_name(reason: AuditReason) -> &'static str
-    ensures word { result.now ≡ reason_word reason }
+    ensures word { result.now ≡ audit_reason_word reason }
     ensures short { length result.now ≤ 14 }
 {
     match reason {

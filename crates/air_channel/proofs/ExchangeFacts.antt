@@ -11,7 +11,7 @@ use Rattle.tag_population.specs.Answers.{AnswersValue, AnswerValue, answers_of}
 use Rattle.tag_population.specs.Hearing.{tags_after_events, hearing_from}
 use Rattle.air_model.specs.Channel.{given_in, wave_for, heard_levels}
 use Rattle.air_channel.specs.Air.{AirValue, air_after, next_exchange}
-use Rattle.air_channel.specs.Giving.{AreAnswers}
+use Rattle.air_channel.specs.Giving.{AreSentAnswers}
 use Rattle.air_channel.proofs.TagsBefallen.{length-befallen, one_exchange}
 
 -- what is known of an exchange: the command that the tags heard is the one that was sent, after each event befell its tag
@@ -37,7 +37,7 @@ exchange_replies old command entry is = ap (λ (l : List Outcome). replies_from 
 -- ... and each of it was sent
 pub exchange_answers : (old : List TagValue) (command : Command) (entry : Entry) (is : Exchanged old command entry) (before answers : AnswersValue)
     → answers ≡ record before { items = answers_of (replies_from 0 (hearing_from 0 is.heard entry is.befallen)) }
-    → All (λ replied. IsSent (Some replied.sent)) (replies_from 0 (hearing_from 0 is.heard entry is.befallen)) → AreAnswers answers.items (replies_in command entry old)
+    → All (λ replied. IsSent (Some replied.sent)) (replies_from 0 (hearing_from 0 is.heard entry is.befallen)) → AreSentAnswers answers.items (replies_in command entry old)
 exchange_answers old command entry is before answers kept sent =
     let same = exchange_replies old command entry is in
     record {

@@ -11,17 +11,17 @@ use Rattle.line_code.specs.Stream.{stream_of}
 use Rattle.line_codes.specs.Codes.{table_of}
 use Rattle.pie_line.specs.Link.{LinkValue}
 use Rattle.reply_grammar.specs.Table.{longest_reply}
-use Rattle.reply_grammar.specs.laws.Suiting.{spelling-within}
+use Rattle.reply_grammar.proofs.Suiting.{spelling-within}
 use Rattle.tag_machine.specs.Answers.{IsSent}
 use Rattle.tag_machine.specs.Exchange.{Replied}
-use Rattle.tag_population.specs.Answers.{AnswerValue, answer_of, value_of}
+use Rattle.tag_population.specs.Answers.{AnswerValue, answer_of, answer_value_of}
 use Rattle.tag_population.specs.declared.answers.Answer.{Answer}
 use Rattle.air_model.specs.Channel.{whole_or_silence, first_broken, first_of_several, default_given, silence, broken, levels_of}
-use Rattle.air_model.specs.laws.ReceptionLaws.{few_words}
-use Rattle.air_channel.specs.Giving.{AreAnswers, IsAnswer, answer_levels}
+use Rattle.air_model.proofs.ReceptionLaws.{few_words}
+use Rattle.air_channel.specs.Giving.{AreSentAnswers, IsAnswer, answer_levels}
 
 -- an answer stands where a reply does
-reply_at : (items : List AnswerValue) (replies : List Replied) (at : ℕ) → AreAnswers items replies → slice_get items at ≡ option_map answer_of (slice_get replies at)
+reply_at : (items : List AnswerValue) (replies : List Replied) (at : ℕ) → AreSentAnswers items replies → slice_get items at ≡ option_map answer_of (slice_get replies at)
 reply_at items replies at are = ap (λ (l : List AnswerValue). slice_get l at) are.same ∙ slice_get-map answer_of replies at
 
 no_reply : (picked : Option Replied) → None ≡ option_map answer_of picked → picked ≡ None
@@ -33,14 +33,14 @@ some_reply None value some = absurd (cc)
 some_reply (Some replied) value some = (replied, refl, cc)
 
 -- where there is no answer, no tag replied
-pub none_given : (items : List AnswerValue) (replies : List Replied) (at : ℕ) → AreAnswers items replies → None ≡ slice_get items at → slice_get replies at ≡ None
+pub none_given : (items : List AnswerValue) (replies : List Replied) (at : ℕ) → AreSentAnswers items replies → None ≡ slice_get items at → slice_get replies at ≡ None
 none_given items replies at are none = no_reply (slice_get replies at) (none ∙ reply_at items replies at are)
 
 -- an answer is the reply that stands in its place
-pub some_given : (items : List AnswerValue) (replies : List Replied) (at : ℕ) (answer : Answer) → AreAnswers items replies → Some (value_of answer) ≡ slice_get items at
+pub some_given : (items : List AnswerValue) (replies : List Replied) (at : ℕ) (answer : Answer) → AreSentAnswers items replies → Some (answer_value_of answer) ≡ slice_get items at
     → (replied : Replied) × (slice_get replies at ≡ Some replied) × IsAnswer answer replied
 some_given items replies at answer are some =
-    let found = some_reply (slice_get replies at) (value_of answer) (some ∙ reply_at items replies at are) in
+    let found = some_reply (slice_get replies at) (answer_value_of answer) (some ∙ reply_at items replies at are) in
     let sent : IsSent (Some found.0.sent) =
     subst (λ (r : Replied). IsSent (Some r.sent)) (get_or_from_slice_get replies at found.0 found.0 found.1) (All-get_or (λ r. IsSent (Some r.sent)) replies at found.0 (slice_get_within replies at found.0 found.1) are.sent) in
     (found.0, found.1, record { same = found.2; sent = sent })
@@ -79,5 +79,5 @@ default_captured several (replied ∷ []) captures some = absurd (omega (arith, 
 default_captured several (replied ∷ other ∷ others) captures some = ap (λ (s : Several). first_of_several s replied) captures
 
 -- there are as many answers as replies
-pub as_many : (items : List AnswerValue) (replies : List Replied) → AreAnswers items replies → length items ≡ length replies
+pub as_many : (items : List AnswerValue) (replies : List Replied) → AreSentAnswers items replies → length items ≡ length replies
 as_many items replies are = ap (λ (l : List AnswerValue). length l) are.same ∙ length-map replies answer_of

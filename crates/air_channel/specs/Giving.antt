@@ -6,17 +6,17 @@ use Rattle.line_codes.specs.Codes.{table_of}
 use Rattle.pie_line.specs.Link.{LinkValue}
 use Rattle.tag_machine.specs.Answers.{IsSent}
 use Rattle.tag_machine.specs.Exchange.{Replied}
-use Rattle.tag_population.specs.Answers.{AnswerValue, answer_of, answers_of, value_of}
+use Rattle.tag_population.specs.Answers.{AnswerValue, answer_of, answers_of, answer_value_of}
 use Rattle.tag_population.specs.declared.answers.Answer.{Answer}
 
 -- these are the answers to one command, of which each was sent
-pub record AreAnswers (answers : List AnswerValue) (replies : List Replied) : Type 0 where
+pub record AreSentAnswers (answers : List AnswerValue) (replies : List Replied) : Type 0 where
   pub same : answers ≡ answers_of replies
   pub sent : All (λ replied. IsSent (Some replied.sent)) replies
 
 -- an answer is what was sent
 pub record IsAnswer (answer : Answer) (replied : Replied) : Type 0 where
-  pub same : value_of answer ≡ answer_of replied
+  pub same : answer_value_of answer ≡ answer_of replied
   pub sent : IsSent (Some replied.sent)
 
 -- the levels of an answer

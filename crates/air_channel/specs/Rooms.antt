@@ -16,6 +16,6 @@ abbrev pub room_for_streams : ℕ
 room_for_streams = 132208
 
 -- no frame of a command has more intervals or longer ones
-pub record IsShort (frame : List ℕ) : Type 0 where
+pub record IsShortFrame (frame : List ℕ) : Type 0 where
   pub each : All (λ interval. interval ≤ longest_interval) frame
   pub count : length frame ≤ longest_frame

@@ -55,13 +55,15 @@ impl Model for Air {
     ghost use Rattle.air_channel.specs.Air.{AirValue};
     ghost use Rattle.std.specs.Prelude.{◌≤◌, length};
     ghost use Rattle.air_events.specs.Streams.{longest_stream};
-    ghost use Rattle.air_channel.specs.Rooms.{IsShort, room_for_frames, room_for_streams};
+    ghost use Rattle.air_channel.specs.Rooms.{IsShortFrame, room_for_frames, room_for_streams};
 
     ghost Value = { AirValue };
 
     ghost view = { λ a. record { link = a.link; several = a.several; tags = a.population; frame = a.frame.items; stream = a.stream.items; answers = a.answers.items; exchanges = a.exchanges } };
 
-    ghost invariant = { λ a. (room_for_frames ≤ a.bits.capacity) × (room_for_frames ≤ a.frame.capacity) × IsShort a.frame.items × (room_for_streams ≤ a.stream.capacity)
+    ghost invariant = { λ a. (room_for_frames ≤ a.bits.capacity)
+        × (room_for_frames ≤ a.frame.capacity) × IsShortFrame a.frame.items
+        × (room_for_streams ≤ a.stream.capacity)
         × (length a.stream.items ≤ longest_stream) × (length a.population ≤ a.answers.tags) };
 }
 
@@ -74,7 +76,8 @@ impl Air {
         link: Link,
         several: Several,
     ) -> Result<Air, OutOfMemory>
-        ensures { IfOk result (λ air. air ≡ record { link = link; several = several; tags = population; frame = []; stream = []; answers = []; exchanges = 0 }) }
+        ensures { IfOk result
+            (λ air. air ≡ record { link = link; several = several; tags = population; frame = []; stream = []; answers = []; exchanges = 0 }) }
     {
         let answers = Answers::new(alloc, population.len() as usize)?;
         let bits = Bits::new(alloc, FRAME_ROOM)?;
@@ -105,10 +108,16 @@ impl Air {
         requires named { NamesTags (length self.old.tags) entry.now }
         requires few { HasFewLevels entry.now.choice }
         ensures air { self.new ≡ air_after self.old command.now entry.now }
-        ensures got { result ≡ got_of self.old.link (given_in self.old.link self.old.several command.now entry.now self.old.tags) }
-        ensures sent { All (λ replied. IsSent (Some replied.sent)) (replies_in command.now entry.now self.old.tags) }
-        ensures counted { steps.new ≤ steps.old + length entry.now.events + 2 * length self.old.tags }
-        ensures bound { IsQueryRep command.now → entry.now.events ≡ [] → steps.new ≤ steps.old + 2 * busy_from 0 command.now entry.now self.old.tags }
+        ensures got { result
+            ≡ got_of self.old.link
+            (given_in self.old.link self.old.several command.now entry.now self.old.tags) }
+        ensures sent { All
+            (λ replied. IsSent (Some replied.sent))
+            (replies_in command.now entry.now self.old.tags) }
+        ensures counted { steps.new ≤ steps.old + length entry.now.events
+            + 2 * length self.old.tags }
+        ensures bound { IsQueryRep command.now → entry.now.events ≡ []
+            → steps.new ≤ steps.old + 2 * busy_from 0 command.now entry.now self.old.tags }
         ensures legal { AreLegalTags self.new.tags }
         ensures command { IsLegalCommand command.now }
     {

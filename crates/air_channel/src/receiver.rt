@@ -4,7 +4,7 @@ ghost use Rattle.command_grammar.specs.Commands.{IsLegalCommand};
 ghost use Rattle.command_grammar.specs.reading.Framing.{FramerStandsFor};
 ghost use Rattle.pie_line.specs.Pie.{wave_of};
 ghost use Rattle.air_model.specs.Channel.{lead_of, wave_for};
-ghost use Rattle.air_channel.specs.Rooms.{IsShort, room_for_frames};
+ghost use Rattle.air_channel.specs.Rooms.{IsShortFrame, room_for_frames};
 
 use bit_strings::Bits;
 use command_grammar::{Command, CommandRefusal, Framer, encode_command};
@@ -54,7 +54,7 @@ impl Receiver {
         requires bits_room { room_for_frames ≤ bits.old.capacity }
         requires room { room_for_frames ≤ frame.old.capacity }
         ensures wave { frame.new.items ≡ wave_for link.now command.now }
-        ensures short { IsShort frame.new.items }
+        ensures short { IsShortFrame frame.new.items }
         ensures legal { IsLegalCommand command.now }
         ensures heard { self.new ≡ Ok command.now }
         ensures capacity { frame.new.capacity ≡ frame.old.capacity }
@@ -84,7 +84,7 @@ fn take_frame(framer: &mut Framer, link: &Link, lead: Lead, bits: &Bits, frame: 
     requires few { length bits.now.items ≤ 4162 }
     ensures framed { FramerStandsFor framer.new bits.now.items }
     ensures wave { frame.new.items ≡ wave_of link.now lead bits.now.items }
-    ensures short { IsShort frame.new.items }
+    ensures short { IsShortFrame frame.new.items }
     ensures capacity { frame.new.capacity ≡ frame.old.capacity }
 {
     let mut edges = Edges::new();

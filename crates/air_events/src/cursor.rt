@@ -40,7 +40,7 @@ impl<'a> Model for EntryCursor<'a> {
 
 impl<'a> EntryCursor<'a> {
     ghost use Rattle.air_events.specs.declared.Entry.{Entry};
-    ghost use Rattle.air_events.specs.Cursor.{IsLeft};
+    ghost use Rattle.air_events.specs.Cursor.{AreEntriesLeft};
     ghost use Rattle.air_events.specs.Entries.{Rises};
 
     /// Stands before the first exchange. The entry that is empty is given for each exchange of which
@@ -48,7 +48,7 @@ impl<'a> EntryCursor<'a> {
     pub fn new(entries: &'a [(u64, Entry)], empty: &'a Entry) -> EntryCursor<'a>
         requires { empty.now ≡ no_entry }
         ensures all { result ≡ entries.now }
-        ensures left { Rises 0 entries.now → IsLeft result entries.now 0 }
+        ensures left { Rises 0 entries.now → AreEntriesLeft result entries.now 0 }
     {
         EntryCursor {
             left: entries,
@@ -58,10 +58,12 @@ impl<'a> EntryCursor<'a> {
 
     /// What is said of the next exchange, whose number is one more than the number of those before it.
     pub fn next_entry(&mut self, exchange: u64) -> &'a Entry
-        ensures entry { (entries : List (ℕ × Entry)) (played : ℕ) → IsLeft self.old entries played → exchange ≡ played + 1 →
+        ensures entry { (entries : List (ℕ × Entry)) (played : ℕ)
+            → AreEntriesLeft self.old entries played → exchange ≡ played + 1 →
             result.now ≡ entry_at entries exchange }
-        ensures left { (entries : List (ℕ × Entry)) (played : ℕ) → IsLeft self.old entries played → exchange ≡ played + 1 →
-            IsLeft self.new entries exchange }
+        ensures left { (entries : List (ℕ × Entry)) (played : ℕ)
+            → AreEntriesLeft self.old entries played → exchange ≡ played + 1 →
+            AreEntriesLeft self.new entries exchange }
     {
         let Some((first, behind)) = self.left.split_first() else {
             return self.empty;

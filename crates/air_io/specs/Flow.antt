@@ -3,8 +3,8 @@ use Rattle.std.specs.Prelude.{◌≡◌, ℕ, ◌+◌, ◌≤◌, min, List, [],
 use Rattle.std.specs.Option.{option_map}
 
 -- These bytes were taken from the front of what was left, where the source tells it. Profile.
-abbrev pub Reads : Option (List ℕ) → Option (List ℕ) → List ℕ → Type 0
-Reads old new bytes = old ≡ option_map (λ rest. bytes ++ rest) new
+abbrev pub TakesBytes : Option (List ℕ) → Option (List ℕ) → List ℕ → Type 0
+TakesBytes old new bytes = old ≡ option_map (λ rest. bytes ++ rest) new
 
 -- These bytes were added behind what was written, where the sink tells it. Profile.
 abbrev pub Adds : Option (List ℕ) → Option (List ℕ) → List ℕ → Type 0

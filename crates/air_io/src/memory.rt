@@ -60,7 +60,8 @@ impl Source for MemSource {
         ensures count { self.old.faults ≤ self.new.faults }
 
         // What this one ensures besides.
-        ensures most { IfTook result (λ count. count ≡ min (length buf.new) (length self.old.left)) }
+        ensures most { IfTook result
+            (λ count. count ≡ min (length buf.new) (length self.old.left)) }
         ensures fails { IsTrue (is_failed_read result)
             ↔ Contains self.old.failing (one_more self.old.calls) }
         ensures faults { self.new.faults

@@ -1,6 +1,6 @@
 //! Where bytes come from.
 ghost use Rattle.std.specs.Prelude.{◌≡◌, ℕ, ◌<◌, ◌≤◌, List, Option, length, take};
-ghost use Rattle.air_io.specs.Flow.{Reads, AtEnd, FaultsRose};
+ghost use Rattle.air_io.specs.Flow.{TakesBytes, AtEnd, FaultsRose};
 ghost use Rattle.air_io.specs.Takes.{IfTook, OnEnd, OnReadFailed, UnlessReadFailed};
 
 /// What one read answers (profile).
@@ -26,7 +26,7 @@ pub trait Source {
     fn read(&mut self, buf: &mut [u8]) -> Take
         requires { 0 < length buf.old }
         ensures took { IfTook result (λ count. (0 < count) × (count ≤ length buf.new)
-            × Reads (left self.old) (left self.new) (take count buf.new)) }
+            × TakesBytes (left self.old) (left self.new) (take count buf.new)) }
         ensures end { OnEnd result (AtEnd (left self.old) × (left self.new ≡ left self.old)) }
         ensures failed { OnReadFailed result (FaultsRose (faults self.old) (faults self.new)
             × (left self.new ≡ left self.old)) }

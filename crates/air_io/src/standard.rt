@@ -41,11 +41,13 @@ impl<R: Read> Source for StdSource<R> {
             × Consumes (R.remaining (reader_of self.old)) (R.remaining (reader_of self.new))
             (take count buf.new)) }
         ensures end { OnEnd result (IsAtEnd (R.remaining (reader_of self.new))) }
-        ensures failed { OnReadFailed result (FaultsRose (failed_reads self.old) (failed_reads self.new)
+        ensures failed { OnReadFailed result
+            (FaultsRose (failed_reads self.old) (failed_reads self.new)
             × Keeps (R.remaining (reader_of self.old)) (R.remaining (reader_of self.new))) }
         ensures count { failed_reads self.old ≤ failed_reads self.new }
         ensures faults { failed_reads self.new
-            ≡ (if is_failed_read result then one_more (failed_reads self.old) else failed_reads self.old) }
+            ≡ (if is_failed_read result then one_more
+            (failed_reads self.old) else failed_reads self.old) }
     {
         match self.reader.read(buf) {
             Ok(0) => Take::End,
@@ -90,11 +92,13 @@ impl<W: Write> Sink for StdSink<W> {
         ensures took { IfPut result (λ count. (0 < count) × (count ≤ length piece.now)
             × Appends (W.contents (writer_of self.old)) (W.contents (writer_of self.new))
             (take count piece.now)) }
-        ensures failed { OnWriteFailed result (FaultsRose (failed_writes self.old) (failed_writes self.new)
+        ensures failed { OnWriteFailed result
+            (FaultsRose (failed_writes self.old) (failed_writes self.new)
             × Keeps (W.contents (writer_of self.old)) (W.contents (writer_of self.new))) }
         ensures count { failed_writes self.old ≤ failed_writes self.new }
         ensures faults { failed_writes self.new
-            ≡ (if is_failed_write result then one_more (failed_writes self.old) else failed_writes self.old) }
+            ≡ (if is_failed_write result then one_more
+            (failed_writes self.old) else failed_writes self.old) }
     {
         match self.writer.write(piece) {
             Ok(count) if count > 0 => Put::Took(count),
@@ -106,7 +110,8 @@ impl<W: Write> Sink for StdSink<W> {
     }
 
     fn flush(&mut self) -> Result<(), WriteFailed>
-        ensures failed { OnErr result (FaultsRose (failed_writes self.old) (failed_writes self.new)) }
+        ensures failed { OnErr result
+            (FaultsRose (failed_writes self.old) (failed_writes self.new)) }
         ensures steady { OnOk result (failed_writes self.new ≡ failed_writes self.old) }
     {
         if self.writer.flush().is_err() {

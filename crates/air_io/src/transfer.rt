@@ -1,6 +1,6 @@
 //! Reading all of a source, and writing all of a piece.
 ghost use Rattle.std.specs.Prelude.{◌≡◌, ℕ, ◌+◌, ◌≤◌, List, length, take, IfOk, OnOk, OnErr, vec_len, IfErr, IsErrOf};
-ghost use Rattle.air_io.specs.Flow.{Reads, Adds, AtEnd, FaultsRose};
+ghost use Rattle.air_io.specs.Flow.{TakesBytes, Adds, AtEnd, FaultsRose};
 ghost use Rattle.air_io.specs.ReadEnds.{UnlessFault, most_read};
 ghost use Rattle.air_io.specs.declared.transfer.ReadEnd.TheVariants.{OutOfMemory};
 
@@ -81,16 +81,20 @@ fn empty_buffer(alloc: Global) -> Result<Vec<u8>, AllocError>
 /// - `TooLong`: more than `limit` bytes were read.
 /// - `OutOfMemory`: there is no memory for the bytes.
 pub fn read_to_end<I: Source>(alloc: Global, src: &mut I, limit: u32) -> Result<Bytes, ReadEnd>
-    ensures ok { IfOk result (λ bytes. Reads (I.left src.old) (I.left src.new) bytes
+    ensures ok { IfOk result (λ bytes. TakesBytes (I.left src.old) (I.left src.new) bytes
         × (length bytes ≤ limit) × AtEnd (I.left src.new)) }
     ensures too_long { IsErrOf result ReadEnd.TooLong
-        → ((bytes : List ℕ) × Reads (I.left src.old) (I.left src.new) bytes × (length bytes ≡ limit + 1)) }
-    ensures fault { IsErrOf result ReadEnd.Fault → FaultsRose (I.faults src.old) (I.faults src.new) }
+        → ((bytes : List ℕ) × TakesBytes (I.left src.old) (I.left src.new) bytes
+        × (length bytes ≡ limit + 1)) }
+    ensures fault { IsErrOf result ReadEnd.Fault
+        → FaultsRose (I.faults src.old) (I.faults src.new) }
     // No read failed where no failure is told.
     ensures steady { OnOk result (I.faults src.new ≡ I.faults src.old) }
-    ensures unfailing { IfErr result (λ end. UnlessFault end (I.faults src.new ≡ I.faults src.old)) }
+    ensures unfailing { IfErr result
+        (λ end. UnlessFault end (I.faults src.new ≡ I.faults src.old)) }
     ensures part { IfErr result (λ end. (bytes : List ℕ)
-        × Reads (I.left src.old) (I.left src.new) bytes × (length bytes ≤ most_read end limit)) }
+        × TakesBytes (I.left src.old) (I.left src.new) bytes
+        × (length bytes ≤ most_read end limit)) }
     ensures count { I.faults src.old ≤ I.faults src.new }
 {
     let mut buffer = empty_buffer(alloc)?;

@@ -1,4 +1,3 @@
 pub mod Channel
 pub mod Reception
 pub mod Past
-pub mod laws

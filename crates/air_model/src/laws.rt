@@ -22,20 +22,42 @@ ghost use Rattle.air_model.specs.declared.got.Got.TheVariants.{Silence};
 /// is refused too, and so is one that is not expected, if its bits are no reply that is. Levels are heard
 /// unless the channel is silent, and no more than the 131,968 of the longest stream.
 pub fn reception_law()
-    ensures whole { (link : LinkValue) (expect : Expect) (replied : Replied) → IsReplyFor expect replied.sent
-        → IsReceived (table_of link.code) link.trext expect (heard_levels link (whole replied)) (Whole replied.sent.reply) }
-    ensures broken { (link : LinkValue) (expect : Expect) (replied : Replied) (place : ℕ) (received : Received) → replied.sent.extended ≡ false
-        → IsReceived (table_of link.code) link.trext expect (heard_levels link (broken replied place)) received → (stop : ℕ) × (received ≡ Refused stop) }
-    ensures stream { (link : LinkValue) (expect : Expect) (given : Given) (received : Received) → IsGivenFor expect given → IsReadBy link given → got_of link given ≢ Silence
-        → IsReceived (table_of link.code) link.trext expect (heard_levels link given) received → reception_of expect given ≡ reception_from received }
-    ensures silent { (link : LinkValue) (expect : Expect) (given : Given) → got_of link given ≡ Silence → reception_of expect given ≡ no_stream }
-    ensures heard { (link : LinkValue) (expect : Expect) (given : Given) (reply : Reply) → IsGivenFor expect given → IsReadBy link given → reception_of expect given ≡ whole_reply reply
-        → IsReceived (table_of link.code) link.trext expect (heard_levels link given) (Whole reply) }
-    ensures with { (link : LinkValue) (extended : Bool) (expect : Expect) (given : Given) (received : Received) → HoldsOfSent (IsUnmistakable expect) given → IsReadBy link given → got_of link given ≢ Silence
-        → IsReceived (table_of link.code) (extended || link.trext) expect (heard_levels link given) received → reception_with link.trext extended expect given ≡ reception_from received }
-    ensures silent_with { (link : LinkValue) (trext extended : Bool) (expect : Expect) (given : Given) → got_of link given ≡ Silence → reception_with trext extended expect given ≡ no_stream }
-    ensures by_link { (trext : Bool) (expect : Expect) (given : Given) → HoldsOfSent (λ sent. sent.extended ≡ false) given → reception_with trext false expect given ≡ reception_of expect given }
-    ensures nothing { (link : LinkValue) (given : Given) → IsOfStreamLength given → (heard_levels link given ≡ []) ↔ (given ≡ silence) }
-    ensures least { (link : LinkValue) (given : Given) → IsOfStreamLength given → given ≢ silence → 1 ≤ length (heard_levels link given) }
-    ensures most { (link : LinkValue) (given : Given) → IsGiven given → IsOfStreamLength given → length (heard_levels link given) ≤ longest_stream }
+    ensures whole { (link : LinkValue) (expect : Expect) (replied : Replied)
+        → IsReplyFor expect replied.sent
+        → IsReceived (table_of link.code) link.trext expect (heard_levels link (whole replied))
+        (Whole replied.sent.reply) }
+    ensures broken { (link : LinkValue) (expect : Expect) (replied : Replied) (place : ℕ)
+        (received : Received) → replied.sent.extended ≡ false
+        → IsReceived (table_of link.code) link.trext expect
+        (heard_levels link (broken replied place)) received → (stop : ℕ)
+        × (received ≡ Refused stop) }
+    ensures stream { (link : LinkValue) (expect : Expect) (given : Given) (received : Received)
+        → IsGivenFor expect given → IsReadBy link given → got_of link given ≢ Silence
+        → IsReceived (table_of link.code) link.trext expect (heard_levels link given) received
+        → reception_of expect given ≡ reception_from received }
+    ensures silent { (link : LinkValue) (expect : Expect) (given : Given)
+        → got_of link given ≡ Silence → reception_of expect given ≡ no_stream }
+    ensures heard { (link : LinkValue) (expect : Expect) (given : Given) (reply : Reply)
+        → IsGivenFor expect given → IsReadBy link given
+        → reception_of expect given ≡ whole_reply reply
+        → IsReceived (table_of link.code) link.trext expect (heard_levels link given)
+        (Whole reply) }
+    ensures with { (link : LinkValue) (extended : Bool) (expect : Expect) (given : Given)
+        (received : Received) → HoldsOfSent (IsUnmistakable expect) given → IsReadBy link given
+        → got_of link given ≢ Silence
+        → IsReceived (table_of link.code) (extended || link.trext) expect
+        (heard_levels link given) received
+        → reception_with link.trext extended expect given ≡ reception_from received }
+    ensures silent_with { (link : LinkValue) (trext extended : Bool) (expect : Expect)
+        (given : Given) → got_of link given ≡ Silence
+        → reception_with trext extended expect given ≡ no_stream }
+    ensures by_link { (trext : Bool) (expect : Expect) (given : Given)
+        → HoldsOfSent (λ sent. sent.extended ≡ false) given
+        → reception_with trext false expect given ≡ reception_of expect given }
+    ensures nothing { (link : LinkValue) (given : Given) → IsOfStreamLength given
+        → (heard_levels link given ≡ []) ↔ (given ≡ silence) }
+    ensures least { (link : LinkValue) (given : Given) → IsOfStreamLength given → given ≢ silence
+        → 1 ≤ length (heard_levels link given) }
+    ensures most { (link : LinkValue) (given : Given) → IsGiven given → IsOfStreamLength given
+        → length (heard_levels link given) ≤ longest_stream }
 {}

@@ -7,7 +7,7 @@ use Rattle.std.specs.Prelude.{All}
 use Rattle.air_events.specs.TagNumbers.{most_tags}
 use Rattle.air_world.proofs.Beginning.{scenario-few}
 use Rattle.air_world.specs.NewAir.{IsGroupOfTags}
-use Rattle.runs.specs.ScenarioStart.{tag_of}
+use Rattle.runs.specs.ScenarioStart.{scenario_tag}
 use Rattle.scenario.proofs.Groups.{one_group_more}
 use Rattle.scenario.specs.Groups.{copies, copies_from, copies_of, copy_of, tags_of}
 use Rattle.scenario.specs.Limits.{IsCount, IsGroup, IsScenario}
@@ -55,31 +55,31 @@ one-pushed old new tag value is same =
     ap (λ (tags : List AnyTag). map tag_value_of tags) is ∙ map-append tag_value_of old (tag ∷ []) ∙ ap (λ (v : TagValue). map tag_value_of old ++ v ∷ []) same
 
 -- ... the next copy, behind those before it
-pub next-copy : (number : ℕ) (spec : TagSpec) (first before after : List TagValue) → 1 ≤ number → before ≡ first ++ map tag_of (copies number spec)
-    → after ≡ before ++ tag_of (copy_of number spec) ∷ [] → after ≡ first ++ map tag_of (copies (number + 1) spec)
+pub next-copy : (number : ℕ) (spec : TagSpec) (first before after : List TagValue) → 1 ≤ number → before ≡ first ++ map scenario_tag (copies number spec)
+    → after ≡ before ++ scenario_tag (copy_of number spec) ∷ [] → after ≡ first ++ map scenario_tag (copies (number + 1) spec)
 next-copy number spec first before after some made more =
-    let joined : map tag_of (copies (number + 1) spec) ≡ map tag_of (copies number spec) ++ tag_of (copy_of number spec) ∷ [] =
-    ap (λ (tags : List TagSpec). map tag_of tags) (copies-more number spec some) ∙ map-append tag_of (copies number spec) (copy_of number spec ∷ []) in
-    more ∙ ap (λ (tags : List TagValue). tags ++ tag_of (copy_of number spec) ∷ []) made
-    ∙ append_assoc first (map tag_of (copies number spec)) (tag_of (copy_of number spec) ∷ [])
+    let joined : map scenario_tag (copies (number + 1) spec) ≡ map scenario_tag (copies number spec) ++ scenario_tag (copy_of number spec) ∷ [] =
+    ap (λ (tags : List TagSpec). map scenario_tag tags) (copies-more number spec some) ∙ map-append scenario_tag (copies number spec) (copy_of number spec ∷ []) in
+    more ∙ ap (λ (tags : List TagValue). tags ++ scenario_tag (copy_of number spec) ∷ []) made
+    ∙ append_assoc first (map scenario_tag (copies number spec)) (scenario_tag (copy_of number spec) ∷ [])
     ∙ ap (λ (tags : List TagValue). first ++ tags) (sym joined)
 
 -- the tags of the next group, behind those before it
 pub next-group : (groups : List TagGroup) (index : ℕ) (group : TagGroup) (before after : List TagValue) → index < length groups → group ≡ get_or groups index group
-    → before ≡ map tag_of (tags_of (take index groups)) → after ≡ before ++ map tag_of (copies_of group) → after ≡ map tag_of (tags_of (take (index + 1) groups))
+    → before ≡ map scenario_tag (tags_of (take index groups)) → after ≡ before ++ map scenario_tag (copies_of group) → after ≡ map scenario_tag (tags_of (take (index + 1) groups))
 next-group groups index group before after inside is made more =
     let next : suc index ≡ index + 1 = omega arith in
     let taken : take (index + 1) groups ≡ take index groups ++ group ∷ [] =
     ap (λ n. take n groups) (sym next) ∙ take-suc groups index group inside ∙ ap (λ (g : TagGroup). take index groups ++ g ∷ []) (sym is) in
-    let joined : map tag_of (tags_of (take (index + 1) groups)) ≡ map tag_of (tags_of (take index groups)) ++ map tag_of (copies_of group) =
-    ap (λ (g : List TagGroup). map tag_of (tags_of g)) taken ∙ ap (λ (tags : List TagSpec). map tag_of tags) (one_group_more (take index groups) group)
-    ∙ map-append tag_of (tags_of (take index groups)) (copies_of group) in
-    more ∙ ap (λ (tags : List TagValue). tags ++ map tag_of (copies_of group)) made ∙ sym joined
+    let joined : map scenario_tag (tags_of (take (index + 1) groups)) ≡ map scenario_tag (tags_of (take index groups)) ++ map scenario_tag (copies_of group) =
+    ap (λ (g : List TagGroup). map scenario_tag (tags_of g)) taken ∙ ap (λ (tags : List TagSpec). map scenario_tag tags) (one_group_more (take index groups) group)
+    ∙ map-append scenario_tag (tags_of (take index groups)) (copies_of group) in
+    more ∙ ap (λ (tags : List TagValue). tags ++ map scenario_tag (copies_of group)) made ∙ sym joined
 
 -- the tags that were made are few
 pub few-made : (scenario : Scenario) (groups : List TagGroup) (tags : List AnyTag) → IsScenario scenario → groups ≡ scenario.groups
-    → map tag_value_of tags ≡ map tag_of (tags_of groups) → length tags ≤ most_tags
+    → map tag_value_of tags ≡ map scenario_tag (tags_of groups) → length tags ≤ most_tags
 few-made scenario groups tags is same made =
     let all = tags_of scenario.groups in
-    let count : length (map tag_value_of tags) ≡ length (map tag_of all) = ap length made ∙ ap (λ (g : List TagGroup). length (map tag_of (tags_of g))) same in
-    omega (arith, count, length-map tags tag_value_of, length-map all tag_of, scenario-few scenario is)
+    let count : length (map tag_value_of tags) ≡ length (map scenario_tag all) = ap length made ∙ ap (λ (g : List TagGroup). length (map scenario_tag (tags_of g))) same in
+    omega (arith, count, length-map tags tag_value_of, length-map all scenario_tag, scenario-few scenario is)

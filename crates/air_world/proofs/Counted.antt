@@ -8,30 +8,30 @@ use Rattle.air_model.specs.Past.{Start, Record, Item, befell, exchanged, operate
 use Rattle.air_world.proofs.Beginning.{scenario-few}
 use Rattle.air_world.proofs.Rounds.{KeepsLimit}
 use Rattle.air_world.proofs.Listings.{few-listed}
-use Rattle.air_world.specs.Counting.{Counts, Fits, counted_line, counted_lines, nothing_counted}
+use Rattle.air_world.specs.Counting.{CountsLines, Fits, counted_line, counted_lines, nothing_counted}
 use Rattle.air_world.specs.laws.CountingLaws.{counted-append}
 use Rattle.air_world.specs.Playing.{most_slots}
-use Rattle.air_world.specs.Telling.{lines_behind}
+use Rattle.air_world.specs.Telling.{lines_to_tell}
 use Rattle.command_grammar.specs.declared.commands.Command.{Command}
 use Rattle.pie_line.specs.Link.{LinkValue}
 use Rattle.q_round.specs.declared.round.RoundEnd.{RoundEnd}
 use Rattle.report_lines.specs.Line.{line_of}
 use Rattle.report_lines.specs.ReportLine.{ReportLine, MissedLine, GivenLine, OpLine, RoundLine, SeenLine, DoneLine}
 use Rattle.reply_grammar.specs.Pairs.{same_pair}
-use Rattle.report_lines.specs.SeenCounts.{Seen, distinct, seen_among, seen_in}
+use Rattle.report_lines.specs.SeenCounts.{SeenCount, distinct, seen_among, seen_counts}
 use Rattle.report_lines.specs.declared.line.Line.{Line}
 use Rattle.report_lines.specs.declared.line.Line.TheVariants as lines
-use Rattle.runs.specs.laws.Growth.{answer-keeps, few-outcomes, round-holds}
-use Rattle.runs.specs.laws.HeadlineCounts.{steps-exchanges, few-exchanges}
-use Rattle.runs.specs.laws.HeadlineLegal.{legal-steps}
-use Rattle.runs.specs.laws.Tags.{length-tags}
+use Rattle.runs.proofs.Growth.{answer-keeps, few-outcomes, round-holds}
+use Rattle.runs.proofs.HeadlineCounts.{steps-exchanges, few-exchanges}
+use Rattle.runs.proofs.HeadlineLegal.{legal-steps}
+use Rattle.runs.proofs.Tags.{length-tags}
 use Rattle.runs.specs.Headline.{AreLegalSteps, IsLegalStep}
 use Rattle.runs.specs.History.{past_behind, past_behind_slot, past_behind_step, slot_reception}
 use Rattle.runs.specs.Listing.{Listed, listed_by, listing_of}
 use Rattle.runs.specs.Report.{exchange_lines, item_lines, last_lines, list_line, run_lines, tag_lines, wave_lines}
 use Rattle.runs.specs.Said.{answer_line, exchanged_by, said_lines}
-use Rattle.runs.specs.ScenarioStart.{history, start_of, tag_of}
-use Rattle.runs.specs.Summary.{all_quiet, pairs_in, slots_in, summary_of}
+use Rattle.runs.specs.ScenarioStart.{history, start_of, scenario_tag}
+use Rattle.runs.specs.Summary.{all_quiet, pairs_in, slots_past, summary_of}
 use Rattle.runs.specs.declared.summary.Summary.{Summary}
 use Rattle.scenario.specs.Groups.{tags_of}
 use Rattle.scenario.specs.Limits.{IsScenario}
@@ -49,7 +49,7 @@ counted-listed counted (one ∷ others) =
     counted-listed (record counted { listed = counted.listed + 1 }) others ∙ ap (λ n. record counted { listed = n }) sum
 
 -- the lines of the counts
-counted-seen : (counted : Summary) (pairs : List Seen) → counted_lines counted (map (λ (seen : Seen). SeenLine seen.count seen.pc seen.epc) pairs) ≡ record counted { distinct = counted.distinct + length pairs }
+counted-seen : (counted : Summary) (pairs : List SeenCount) → counted_lines counted (map (λ (seen : SeenCount). SeenLine seen.count seen.pc seen.epc) pairs) ≡ record counted { distinct = counted.distinct + length pairs }
 counted-seen counted [] = let none : counted.distinct ≡ counted.distinct + 0 = omega arith in ap (λ n. record counted { distinct = n }) none
 counted-seen counted (one ∷ others) =
     let sum : counted.distinct + 1 + length others ≡ counted.distinct + suc (length others) = omega arith in
@@ -78,19 +78,19 @@ counted-exchange counted link sent =
 
 -- what a past counts of listings and rounds
 abbrev counted_past : List Item → Summary
-counted_past past = record { tags = 0; listed = length (listing_of past); distinct = 0; slots = slots_in past; quiet = all_quiet past }
+counted_past past = record { tags = 0; listed = length (listing_of past); distinct = 0; slots = slots_past past; quiet = all_quiet past }
 
 -- ... is counted of its lines
-counted-past : (start : Start) (past : List Item) → counted_lines nothing_counted (lines_behind start past) ≡ counted_past past
+counted-past : (start : Start) (past : List Item) → counted_lines nothing_counted (lines_to_tell start past) ≡ counted_past past
 counted-past start [] = refl
-counted-past start (befell event number ∷ past) = counted-append nothing_counted (lines_behind start past) [] ∙ counted-past start past
+counted-past start (befell event number ∷ past) = counted-append nothing_counted (lines_to_tell start past) [] ∙ counted-past start past
 counted-past start (operated round slot index result ∷ past) =
-    counted-append nothing_counted (lines_behind start past) _ ∙ ap (λ (c : Summary). counted_lines c (OpLine round slot index result ∷ [])) (counted-past start past)
+    counted-append nothing_counted (lines_to_tell start past) _ ∙ ap (λ (c : Summary). counted_lines c (OpLine round slot index result ∷ [])) (counted-past start past)
 counted-past start (ended round end slots ∷ past) =
-    counted-append nothing_counted (lines_behind start past) _ ∙ ap (λ (c : Summary). counted_lines c (RoundLine round end slots ∷ [])) (counted-past start past)
+    counted-append nothing_counted (lines_to_tell start past) _ ∙ ap (λ (c : Summary). counted_lines c (RoundLine round end slots ∷ [])) (counted-past start past)
 counted-past start (exchanged sent ∷ past) =
     let more : length (listing_of past) + length (listed_by sent) ≡ length (listing_of past ++ listed_by sent) = sym (length-append (listing_of past) (listed_by sent)) in
-    counted-append nothing_counted (lines_behind start past) (item_lines start.link (exchanged sent))
+    counted-append nothing_counted (lines_to_tell start past) (item_lines start.link (exchanged sent))
     ∙ ap (λ (c : Summary). counted_lines c (item_lines start.link (exchanged sent))) (counted-past start past)
     ∙ counted-append (counted_past past) (exchange_lines start.link sent) (map list_line (listed_by sent))
     ∙ ap (λ (c : Summary). counted_lines c (map list_line (listed_by sent))) (counted-exchange (counted_past past) start.link sent)
@@ -98,7 +98,7 @@ counted-past start (exchanged sent ∷ past) =
     ∙ ap (λ n. record (counted_past past) { listed = n }) more
 
 -- the different pairs that were listed
-distinct-listed : (past : List Item) → length (seen_in (pairs_in past)) ≡ length (distinct (pairs_in past))
+distinct-listed : (past : List Item) → length (seen_counts (pairs_in past)) ≡ length (distinct (pairs_in past))
 distinct-listed past = length-map (distinct (pairs_in past)) (seen_among (pairs_in past))
 
 -- what is counted of all that is told
@@ -106,33 +106,33 @@ counted-whole : (scenario : Scenario) → counted_lines nothing_counted (run_lin
 counted-whole scenario =
     let start : Start = start_of scenario in
     let past : List Item = history scenario in
-    let seen : List ReportLine = map (λ (seen : Seen). SeenLine seen.count seen.pc seen.epc) (seen_in (pairs_in past)) in
+    let seen : List ReportLine = map (λ (seen : SeenCount). SeenLine seen.count seen.pc seen.epc) (seen_counts (pairs_in past)) in
     let tags : List ReportLine = tag_lines 0 (tags_behind start past) in
-    let pairs : 0 + length (seen_in (pairs_in past)) ≡ length (distinct (pairs_in past)) = omega (arith, distinct-listed past) in
+    let pairs : 0 + length (seen_counts (pairs_in past)) ≡ length (distinct (pairs_in past)) = omega (arith, distinct-listed past) in
     let count : 0 + length (tags_behind start past) ≡ length start.tags = omega (arith, length-tags start past) in
-    counted-append nothing_counted (lines_behind start past) (last_lines start past)
+    counted-append nothing_counted (lines_to_tell start past) (last_lines start past)
     ∙ ap (λ (c : Summary). counted_lines c (last_lines start past)) (counted-past start past)
     ∙ counted-append (counted_past past) (seen ++ tags) (DoneLine ∷ [])
     ∙ counted-append (counted_past past) seen tags
-    ∙ ap (λ (c : Summary). counted_lines c tags) (counted-seen (counted_past past) (seen_in (pairs_in past)) ∙ ap (λ n. record (counted_past past) { distinct = n }) pairs)
+    ∙ ap (λ (c : Summary). counted_lines c tags) (counted-seen (counted_past past) (seen_counts (pairs_in past)) ∙ ap (λ n. record (counted_past past) { distinct = n }) pairs)
     ∙ counted-tags (record (counted_past past) { distinct = length (distinct (pairs_in past)) }) 0 (tags_behind start past)
     ∙ ap (λ n. record (counted_past past) { distinct = length (distinct (pairs_in past)); tags = n }) count
 
 -- no slot of a round is counted before its end
 slots-slot : (start : Start) (operations : OpList) (round slot : ℕ) (command : Command) (past : List Item)
-    → slots_in (past_behind_slot start operations round slot command past) ≡ slots_in past
+    → slots_past (past_behind_slot start operations round slot command past) ≡ slots_past past
 slots-slot start operations round slot command past =
-    answer-keeps (λ now. slots_in now ≡ slots_in past) (record { start = start; round = round; slot = slot }) operations (slot_reception start round slot command past) (past_behind_command start round slot command past)
+    answer-keeps (λ now. slots_past now ≡ slots_past past) (record { start = start; round = round; slot = slot }) operations (slot_reception start round slot command past) (past_behind_command start round slot command past)
     (record { command = λ sent expect extended now expects same. same; result = λ index result now same. same })
     (λ rn same. same) refl
 
 -- how many slots a step adds at most
-step-slots : KeepsLimit → (start : Start) (step : Step) (past : List Item) → IsLegalStep step → slots_in (past_behind_step start step past) ≤ slots_in past + most_slots
+step-slots : KeepsLimit → (start : Start) (step : Step) (past : List Item) → IsLegalStep step → slots_past (past_behind_step start step past) ≤ slots_past past + most_slots
 step-slots keeps start (steps.Select command) past is = omega arith
 step-slots keeps start steps.Nak past is = omega arith
 step-slots keeps start (steps.Event event number) past is = omega arith
 step-slots keeps start (steps.Round spec operations) past is =
-    round-holds (λ outcomes now. slots_in now ≡ slots_in past) (λ now. slots_in now ≤ slots_in past + most_slots)
+    round-holds (λ outcomes now. slots_past now ≡ slots_past past) (λ now. slots_past now ≤ slots_past past + most_slots)
     (record { start = start; operations = operations; spec = spec; before = past }) keeps is.legal
     (record {
       slot = λ outcomes now command next same. slots-slot start operations (rounds_in past + 1) (length outcomes + 1) command now ∙ same;
@@ -141,7 +141,7 @@ step-slots keeps start (steps.Round spec operations) past is =
     refl
 
 -- ... and steps
-steps-slots : KeepsLimit → (start : Start) (steps : List Step) (past : List Item) → AreLegalSteps steps → slots_in (past_behind start steps past) ≤ slots_in past + most_slots * length steps
+steps-slots : KeepsLimit → (start : Start) (steps : List Step) (past : List Item) → AreLegalSteps steps → slots_past (past_behind start steps past) ≤ slots_past past + most_slots * length steps
 steps-slots keeps start [] past are = omega arith
 steps-slots keeps start (step ∷ steps) past are =
     let behind : List Item = past_behind_step start step past in
@@ -160,12 +160,12 @@ summary-fits keeps scenario is =
     let start : Start = start_of scenario in
     let past : List Item = history scenario in
     let legal = legal-steps scenario is in
-    let tags : length start.tags ≡ length (tags_of scenario.groups) = length-map (tags_of scenario.groups) tag_of in
+    let tags : length start.tags ≡ length (tags_of scenario.groups) = length-map (tags_of scenario.groups) scenario_tag in
     let pairs : length (pairs_in past) ≡ length (listing_of past) = length-map (listing_of past) (λ listed. (listed.pc, listed.epc)) in
     let listed : length (listing_of past) ≤ exchanges_in past = few-listed past in
     let most = steps-exchanges keeps start scenario.steps [] legal in
     let few = few-exchanges scenario.steps legal in
-    let slots : slots_in past ≤ slots_in [] + most_slots * length scenario.steps = steps-slots keeps start scenario.steps [] legal in
+    let slots : slots_past past ≤ slots_past [] + most_slots * length scenario.steps = steps-slots keeps start scenario.steps [] legal in
     record {
       tags = omega (arith, tags, scenario-few scenario is);
       listed = omega (arith, pairs, listed, most, few, is.few_steps);
@@ -174,7 +174,7 @@ summary-fits keeps scenario is =
     }
 
 -- who counted all that is told has the summary
-pub summary-counted : KeepsLimit → (scenario : Scenario) (first later : Summary) → IsScenario scenario → first ≡ nothing_counted → Counts (run_lines (start_of scenario) scenario.steps) first later → later ≡ summary_of scenario
+pub summary-counted : KeepsLimit → (scenario : Scenario) (first later : Summary) → IsScenario scenario → first ≡ nothing_counted → CountsLines (run_lines (start_of scenario) scenario.steps) first later → later ≡ summary_of scenario
 summary-counted keeps scenario first later is fresh counts =
     let whole : counted_lines first (run_lines (start_of scenario) scenario.steps) ≡ summary_of scenario =
     ap (λ (s : Summary). counted_lines s (run_lines (start_of scenario) scenario.steps)) fresh ∙ counted-whole scenario in

@@ -5,15 +5,15 @@ use Rattle.std.proofs.lemmas.List.Elements.{All-nil}
 use Rattle.std.proofs.lemmas.Option.{slice_get_within}
 use Rattle.std.specs.List.{AllByRecursion, AllZip}
 use Rattle.air_channel.specs.Air.{AirValue, last_exchange}
-use Rattle.air_events.specs.Cursor.{IsLeft}
+use Rattle.air_events.specs.Cursor.{AreEntriesLeft}
 use Rattle.air_events.specs.declared.Entry.{Entry}
 use Rattle.air_events.specs.declared.Several.TheVariants as severals
 use Rattle.air_model.specs.Past.{Start, Item, befell, exchanged, operated, ended, rounds_in, tags_behind}
 use Rattle.air_world.proofs.Beginning.{tags-before}
 use Rattle.air_world.proofs.Rounds.{KeepsLimit, rounds-slot}
 use Rattle.air_world.specs.Listing.{HearsPairs}
-use Rattle.air_world.specs.Playing.{RunValue, IsAt, IsEndedBy}
-use Rattle.air_world.specs.Telling.{Passes}
+use Rattle.air_world.specs.Playing.{RunValue, RunIsAt, IsEndedBy}
+use Rattle.air_world.specs.Telling.{PassesOn}
 use Rattle.air_world.specs.declared.hall.PairListener.{PairListener}
 use Rattle.air_world.specs.laws.ListingLaws.{hears-no-pair}
 use Rattle.pie_line.specs.Link.{LinkValue}
@@ -26,13 +26,13 @@ use Rattle.runs.specs.Listing.{listed_by, listing_of}
 use Rattle.runs.specs.RoundsTold.{GoesByTags, pair_listed, pairs_listed_by, pairs_since, played_of, round_ended, rounds_told}
 use Rattle.runs.specs.Report.{first_lines}
 use Rattle.runs.specs.Summary.{pairs_in}
-use Rattle.runs.specs.laws.Growth.{round-holds}
-use Rattle.runs.specs.laws.PlayedRounds.{PlayedRound, number_of, past_behind_played}
+use Rattle.runs.proofs.Growth.{round-holds}
+use Rattle.runs.proofs.PlayedRounds.{PlayedRound, number_of, past_behind_played}
 use Rattle.scenario.specs.Limits.{no_operations}
 use Rattle.std.proofs.lemmas.List.{map-append}
 use Rattle.tag_machine.specs.Exchange.{AreLegalTags}
 use Rattle.tag_machine.specs.TagValue.{TagValue}
-use Rattle.two_portals.specs.Played.{IsPairOf, ListsItsTags, Played, pair_of}
+use Rattle.two_portals.specs.Played.{IsPairOf, ListsItsTags, Played, pc_and_epc_of}
 
 -- the run of a round that is played over this air
 abbrev pub start_on : AirValue → Start
@@ -45,11 +45,11 @@ pub record IsNewHall (air : AirValue) (run : RunValue) : Type 0 where
   pub legal : AreLegalTags air.tags
   pub few : air.exchanges ≤ last_exchange
 
-none-left : (entries : List (ℕ × Entry)) → entries ≡ [] → IsLeft entries [] 0
-none-left entries none = subst (λ left. IsLeft left [] 0) (sym none) (record { rises = tt; same = λ exchange later. refl })
+none-left : (entries : List (ℕ × Entry)) → entries ≡ [] → AreEntriesLeft entries [] 0
+none-left entries none = subst (λ left. AreEntriesLeft left [] 0) (sym none) (record { rises = tt; same = λ exchange later. refl })
 
 -- the run begins
-pub hall-begins : (air : AirValue) (run : RunValue) → IsNewHall air run → IsAt (start_on air) air.exchanges [] air run
+pub hall-begins : (air : AirValue) (run : RunValue) → IsNewHall air run → RunIsAt (start_on air) air.exchanges [] air run
 hall-begins air run new = record {
   names = λ exchange. record { events = All-nil _; missed = All-nil _ };
   few = λ exchange. tt;
@@ -123,7 +123,7 @@ senders-below tags [] [] each = tt
 senders-below tags [] (sender ∷ senders) each = absurd each
 senders-below tags (pair ∷ pairs) [] each = absurd each
 senders-below tags (pair ∷ pairs) (sender ∷ senders) each = (
-  subst (λ n. sender < n) (length-map tags pair_of) (slice_get_within (map pair_of tags) sender pair each.0),
+  subst (λ n. sender < n) (length-map tags pc_and_epc_of) (slice_get_within (map pc_and_epc_of tags) sender pair each.0),
   senders-below tags pairs senders each.1,
 )
 
@@ -165,6 +165,6 @@ abbrev KeepsPairs : PairListener → List ReportLine → PairListener → Type 0
 KeepsPairs first lines later = (later.heard.ghost_name ≡ first.heard.ghost_name) × HearsPairs lines first.heard.now later.heard.now
 
 -- ... of a run from its beginning
-pub pairs-kept : {old new : PairListener} {lines : List ReportLine} (link : LinkValue) → Passes KeepsPairs (first_lines link) old new lines
+pub pairs-kept : {old new : PairListener} {lines : List ReportLine} (link : LinkValue) → PassesOn KeepsPairs (first_lines link) old new lines
     → (new.heard.ghost_name ≡ old.heard.ghost_name) × HearsPairs lines old.heard.now new.heard.now
 pairs-kept {old} {new} {lines} link told = told.on old (refl, hears-no-pair old.heard.now)

@@ -3,8 +3,8 @@ use Rattle.std.specs.Borrow.{Bor}
 use Rattle.std.proofs.Common.{◌≡◌, ◌⊎◌, inl, inr, ℕ, ◌+◌, ◌≤◌, Bool, true, false, List, [], ◌∷◌, ◌++◌, length, map, Option, Some, None, refl, sym, ◌∙◌, ap, subst, arith, append_assoc, length-append}
 use Rattle.std.proofs.lemmas.List.{append-nil, map-append}
 use Rattle.air_model.specs.Past.{Start, Record, Item, befell, exchanged, operated, ended, exchanges_in}
-use Rattle.air_world.specs.Listing.{HearsPairs, fault_of, pair_told, pairs_told}
-use Rattle.air_world.specs.Telling.{lines_behind}
+use Rattle.air_world.specs.Listing.{HearsPairs, first_fault_of, pair_told, pairs_told}
+use Rattle.air_world.specs.Telling.{lines_to_tell}
 use Rattle.pie_line.specs.Link.{LinkValue}
 use Rattle.reply_grammar.specs.Reception.{Reception, no_stream, whole_reply, no_such_reply}
 use Rattle.reply_grammar.specs.declared.expected.Reply.TheVariants as replies
@@ -87,15 +87,15 @@ pairs-listed [] = refl
 pairs-listed (one ∷ others) = ap (λ (pairs : List (ℕ × List ℕ)). pair_listed one ∷ pairs) (pairs-listed others)
 
 -- the lines of a past list what it lists
-pub pairs-behind : (start : Start) (past : List Item) → pairs_told (lines_behind start past) ≡ pairs_in past
+pub pairs-behind : (start : Start) (past : List Item) → pairs_told (lines_to_tell start past) ≡ pairs_in past
 pairs-behind start [] = refl
-pairs-behind start (befell event number ∷ past) = pairs-append (lines_behind start past) [] ∙ append-nil (pairs_told (lines_behind start past)) ∙ pairs-behind start past
+pairs-behind start (befell event number ∷ past) = pairs-append (lines_to_tell start past) [] ∙ append-nil (pairs_told (lines_to_tell start past)) ∙ pairs-behind start past
 pairs-behind start (operated round slot index result ∷ past) =
-    pairs-append (lines_behind start past) (OpLine round slot index result ∷ []) ∙ append-nil (pairs_told (lines_behind start past)) ∙ pairs-behind start past
+    pairs-append (lines_to_tell start past) (OpLine round slot index result ∷ []) ∙ append-nil (pairs_told (lines_to_tell start past)) ∙ pairs-behind start past
 pairs-behind start (ended round end slots ∷ past) =
-    pairs-append (lines_behind start past) (RoundLine round end slots ∷ []) ∙ append-nil (pairs_told (lines_behind start past)) ∙ pairs-behind start past
+    pairs-append (lines_to_tell start past) (RoundLine round end slots ∷ []) ∙ append-nil (pairs_told (lines_to_tell start past)) ∙ pairs-behind start past
 pairs-behind start (exchanged sent ∷ past) =
-    pairs-append (lines_behind start past) (item_lines start.link (exchanged sent))
+    pairs-append (lines_to_tell start past) (item_lines start.link (exchanged sent))
     ∙ ap (λ (pairs : List (ℕ × List ℕ)). pairs ++ pairs_told (item_lines start.link (exchanged sent))) (pairs-behind start past)
     ∙ ap (λ (pairs : List (ℕ × List ℕ)). pairs_in past ++ pairs)
     (pairs-append (exchange_lines start.link sent) (map list_line (listed_by sent))
@@ -125,13 +125,13 @@ few-listed (exchanged sent ∷ past) =
     omega (arith, here, there, length-append (listing_of past) (listed_by sent))
 
 -- the first fault of who counts for another is that one's, or there was no memory for a count
-pub fault-cause : (met : Option PlayFault) (short : Bool) (fault : PlayFault) → fault_of met short ≡ Some fault → (met ≡ Some fault) ⊎ ((fault ≡ OutOfMemory) × (met ≡ None))
+pub fault-cause : (met : Option PlayFault) (short : Bool) (fault : PlayFault) → first_fault_of met short ≡ Some fault → (met ≡ Some fault) ⊎ ((fault ≡ OutOfMemory) × (met ≡ None))
 fault-cause (Some own) short fault is = inl is
 fault-cause None true fault is = let same : fault ≡ OutOfMemory = cc in inr (same, refl)
 fault-cause None false fault is = absurd (cc)
 
 -- without a fault there was memory
-pub memory-enough : (met : Option PlayFault) (short : Bool) → fault_of met short ≡ None → short ≡ false
+pub memory-enough : (met : Option PlayFault) (short : Bool) → first_fault_of met short ≡ None → short ≡ false
 memory-enough (Some own) short none = absurd (cc)
 memory-enough None true none = absurd (cc)
 memory-enough None false none = refl

@@ -1,6 +1,6 @@
 -- The moves of a dialogue with a tag, one after another.
 use Rattle.std.proofs.Common.{◌≡◌, ℕ, ◌+◌, ◌≤◌, ◌*◌, ◌-◌, List, [], ◌∷◌, ◌++◌, length, Bool, Option, Some, None, refl, sym, ◌∙◌, ap, subst, arith}
-use Rattle.access_ops.specs.laws.DialogueLaws.{AwaitsReplies, SendsAtMost, dialogues-await, dialogues-are-few, first-sends, first-tells, first-done}
+use Rattle.access_ops.proofs.DialogueLaws.{AwaitsReplies, SendsAtMost, dialogues-await, dialogues-are-few, first-sends, first-tells, first-done}
 use Rattle.access_ops.specs.laws.OperationLaws.{Expects}
 use Rattle.access_ops.specs.Operations.{Dialogue, sends, done, dialogue_of, Move, answered, told, reception_in, dialogue_behind, dialogue_after, IsAnswerFor}
 use Rattle.access_ops.specs.OpRunValue.{OpRunValue, OpRunStandsFor, IsNextOperation, last_answer, turns_left}
@@ -10,12 +10,12 @@ use Rattle.access_ops.specs.declared.op_next.OpNext.TheVariants as nexts
 use Rattle.access_ops.specs.declared.op_next.OpResult.{OpResult}
 use Rattle.air_channel.specs.Air.{AirValue}
 use Rattle.air_model.specs.Past.{Record, Item, operated, past_behind_command, exchanges_in}
-use Rattle.runs.specs.laws.Tags.{tags-operated}
+use Rattle.runs.proofs.Tags.{tags-operated}
 use Rattle.runs.specs.History.{operation_reception, past_behind_dialogue}
 use Rattle.runs.specs.Listing.{reception_of_ack, listed_from, listed_by}
 use Rattle.air_world.proofs.Passing.{RunBehind, Stands, at-behind}
 use Rattle.air_world.specs.Playing.{RunValue, StandsAt}
-use Rattle.runs.specs.laws.PlayedRounds.{SlotOfRun}
+use Rattle.runs.proofs.PlayedRounds.{SlotOfRun}
 use Rattle.command_grammar.specs.declared.commands.Command.{Command}
 use Rattle.command_grammar.specs.declared.commands.Command.TheVariants as commands
 use Rattle.reply_grammar.specs.Reception.{Reception, no_stream}

@@ -10,8 +10,8 @@ use Rattle.command_grammar.specs.declared.commands.Command.TheVariants as comman
 use Rattle.pie_line.specs.Link.{LinkValue}
 use Rattle.reply_grammar.specs.declared.expected.Expect.TheVariants as expects
 use Rattle.runs.specs.NextItem.{expectation_of}
-use Rattle.q_round.specs.laws.SlotLaws.{slots-underway}
-use Rattle.q_round.specs.Rounds.{AreOutcomes, Turn, answer_of, is_over, slots_of, next_command, turn_of}
+use Rattle.q_round.proofs.SlotLaws.{slots-underway}
+use Rattle.q_round.specs.Rounds.{AreOutcomes, Turn, next_of_turn, is_over, slots_of, next_command, turn_of}
 use Rattle.q_round.specs.Rounds as turns
 use Rattle.q_round.specs.NextAnswer.{next_of}
 use Rattle.q_round.specs.RoundValue.{RoundValue, RoundStandsFor, IsNextAnswer}
@@ -22,10 +22,10 @@ use Rattle.q_round.specs.declared.round.Next.TheVariants as nexts
 use Rattle.q_round.specs.declared.round.RoundEnd.{RoundEnd}
 use Rattle.q_round.specs.declared.round.RoundEnd.TheVariants as ends
 use Rattle.report_lines.specs.ReportLine.{ReportLine, RoundLine}
-use Rattle.runs.specs.laws.Growth.{Grows, answer-keeps, turns-grow}
-use Rattle.runs.specs.laws.PlayedRounds.{PlayedRound, past_behind_played}
-use Rattle.runs.specs.laws.HeadlineCounts.{slot-exchanges}
-use Rattle.runs.specs.laws.Tags.{tags-ended}
+use Rattle.runs.proofs.Growth.{Grows, answer-keeps, turns-grow}
+use Rattle.runs.proofs.PlayedRounds.{PlayedRound, past_behind_played}
+use Rattle.runs.proofs.HeadlineCounts.{slot-exchanges}
+use Rattle.runs.proofs.Tags.{tags-ended}
 use Rattle.runs.specs.Headline.{most_operating}
 use Rattle.runs.specs.History.{outcome_of, slot_reception, past_behind_slot, past_behind_turn, past_behind_turns}
 
@@ -132,7 +132,7 @@ pub record HasFewTurns (played : PlayedRound) : Type 0 where
   pub within : (outcomes : List Outcome) → AreOutcomes played.spec outcomes → slots_of played.spec outcomes ≤ played.spec.limit
 
 -- a slot command of a round expects an RN16
-turn-expects : (spec : SpecValue) (link : LinkValue) (turn : Turn) (command : Command) → answer_of spec link turn ≡ nexts.Send command → expectation_of command ≡ Some expects.Rn16
+turn-expects : (spec : SpecValue) (link : LinkValue) (turn : Turn) (command : Command) → next_of_turn spec link turn ≡ nexts.Send command → expectation_of command ≡ Some expects.Rn16
 turn-expects spec link turns.query command is =
     let same : commands.Query link.dr link.code link.trext spec.sel spec.session spec.target spec.q ≡ command = cc in ap (λ (c : Command). expectation_of c) (sym same)
 turn-expects spec link (turns.adjust updn) command is =

@@ -10,7 +10,7 @@ use Rattle.air_model.specs.Past.{Record}
 use Rattle.air_model.specs.declared.got.Got.TheVariants as gots
 use Rattle.air_world.proofs.Places.{some-at, map-more}
 use Rattle.air_world.specs.Saying.{AreShort, IsOneOf}
-use Rattle.air_world.specs.Telling.{Passes}
+use Rattle.air_world.specs.Telling.{PassesOn}
 use Rattle.command_grammar.specs.declared.commands.Command.{Command}
 use Rattle.pie_line.specs.Link.{LinkValue}
 use Rattle.reply_grammar.specs.Table.{longest_reply}
@@ -21,7 +21,7 @@ use Rattle.runs.specs.Said.{answer_line, exchanged_by, gave_of, said_lines}
 use Rattle.runs.specs.laws.Replies.{AreReplies}
 use Rattle.tag_machine.specs.Answers.{Sent}
 use Rattle.tag_machine.specs.Exchange.{Replied}
-use Rattle.tag_population.specs.Answers.{AnswerValue, answer_of, answers_of, value_of}
+use Rattle.tag_population.specs.Answers.{AnswerValue, answer_of, answers_of, answer_value_of}
 use Rattle.tag_population.specs.declared.answers.Answer.{Answer}
 use Rattle.wave_dump.specs.declared.exchanged.Gave.TheVariants as gaves
 
@@ -49,16 +49,16 @@ pub reply-there : (answers : List AnswerValue) (replies : List Replied) (place :
 reply-there answers replies place are inside = some-at replies place (omega (arith, ap length are, length-map replies answer_of))
 
 -- what an air that is asked for the answer at a place says
-pub answer-there : (answers : List AnswerValue) (place : ℕ) (found : Option Answer) (answer : Answer) → option_map value_of found ≡ slice_get answers place → found ≡ Some answer
-    → slice_get answers place ≡ Some (value_of answer)
-answer-there answers place found answer asked is = sym asked ∙ ap (λ one. option_map value_of one) is
+pub answer-there : (answers : List AnswerValue) (place : ℕ) (found : Option Answer) (answer : Answer) → option_map answer_value_of found ≡ slice_get answers place → found ≡ Some answer
+    → slice_get answers place ≡ Some (answer_value_of answer)
+answer-there answers place found answer asked is = sym asked ∙ ap (λ one. option_map answer_value_of one) is
 
 none-some : (answer : AnswerValue) → ◌≡◌ {A = Option AnswerValue} None (Some answer) → ⊥
 none-some answer is = cc
 
-pub none-there : (answers : List AnswerValue) (place : ℕ) (found : Option Answer) → place < length answers → option_map value_of found ≡ slice_get answers place → found ≡ None → ⊥
+pub none-there : (answers : List AnswerValue) (place : ℕ) (found : Option Answer) → place < length answers → option_map answer_value_of found ≡ slice_get answers place → found ≡ None → ⊥
 none-there answers place found inside asked is =
-    let there = some-at answers place inside in none-some there.0 (ap (λ one. option_map value_of one) (sym is) ∙ asked ∙ there.1)
+    let there = some-at answers place inside in none-some there.0 (ap (λ one. option_map answer_value_of one) (sym is) ∙ asked ∙ there.1)
 
 pub one-answer : (answer other : AnswerValue) → Some answer ≡ Some other → answer ≡ other
 one-answer answer other is = cc
@@ -128,7 +128,7 @@ skipped hears now same (line ∷ lines) are first before heard =
 -- an exchange of which nobody wants to hear who said what
 pub said-skipped : {A : Type 0} (hears : A → List ReportLine → A → Type 0) (now : A) (link : LinkValue) (sent : Record)
     → ((first : A) (lines : List ReportLine) (line : ReportLine) → is_of_exchanges line ≡ true → hears first lines now → hears first (lines ++ line ∷ []) now)
-    → (before : List ReportLine) → Passes hears before now now (before ++ said_lines link sent)
+    → (before : List ReportLine) → PassesOn hears before now now (before ++ said_lines link sent)
 said-skipped hears now link sent same before = record { on = λ first heard. skipped hears now same (said_lines link sent) (said-kind link sent) first before heard }
 
 -- one tag more missed a command
@@ -143,12 +143,12 @@ missed-more before exchange command tags at default inside =
 pub record Says {A : Type 0} (hears : A → List ReportLine → A → Type 0) (link : LinkValue) (sent : Record) (old new : A) : Type 0 where
   pub commanded : A
   pub answered : A
-  pub command : (before : List ReportLine) → Passes hears before old commanded (before ++ ExchangeLine sent.exchange sent.command ∷ map (MissedLine sent.exchange) sent.entry.missed)
-  pub answers : (before : List ReportLine) → Passes hears before commanded answered (before ++ map (answer_line sent.exchange) sent.replies)
-  pub given : (before : List ReportLine) → Passes hears before answered new (before ++ GivenLine (exchanged_by link sent) ∷ [])
+  pub command : (before : List ReportLine) → PassesOn hears before old commanded (before ++ ExchangeLine sent.exchange sent.command ∷ map (MissedLine sent.exchange) sent.entry.missed)
+  pub answers : (before : List ReportLine) → PassesOn hears before commanded answered (before ++ map (answer_line sent.exchange) sent.replies)
+  pub given : (before : List ReportLine) → PassesOn hears before answered new (before ++ GivenLine (exchanged_by link sent) ∷ [])
 
 pub says-all : {A : Type 0} (hears : A → List ReportLine → A → Type 0) (link : LinkValue) (sent : Record) (old new : A) → Says hears link sent old new
-    → (before : List ReportLine) → Passes hears before old new (before ++ said_lines link sent)
+    → (before : List ReportLine) → PassesOn hears before old new (before ++ said_lines link sent)
 says-all hears link sent old new says before =
     let front : List ReportLine = ExchangeLine sent.exchange sent.command ∷ map (MissedLine sent.exchange) sent.entry.missed in
     let answers : List ReportLine = map (answer_line sent.exchange) sent.replies in

@@ -1,7 +1,7 @@
 -- What an exchange makes of the air and the run.
 use Rattle.std.proofs.Common.{◌≡◌, ℕ, zero, suc, ◌+◌, ◌≤◌, List, [], ◌∷◌, ◌++◌, length, Option, Some, None, refl, sym, ◌∙◌, ap, subst, arith, slice_get}
 use Rattle.air_channel.specs.Air.{AirValue, NamesTags, air_after, next_exchange}
-use Rattle.air_events.specs.Cursor.{IsLeft}
+use Rattle.air_events.specs.Cursor.{AreEntriesLeft}
 use Rattle.air_events.specs.Entries.{entry_at}
 use Rattle.air_events.specs.declared.Choice.{Choice}
 use Rattle.air_events.specs.declared.Choice.TheVariants as choices
@@ -11,17 +11,17 @@ use Rattle.air_events.specs.declared.Several.TheVariants as severals
 use Rattle.air_model.specs.Channel.{HasFewLevels, given_in, given_of, got_of, heard_levels, wave_for, whole_or_silence}
 use Rattle.air_model.specs.Past.{Start, Record, Item, next_record, past_behind_command, exchanges_in, tags_behind}
 use Rattle.air_model.specs.declared.got.Got.{Got}
-use Rattle.air_model.specs.laws.ReceptionLaws.{few_words}
-use Rattle.air_world.specs.Playing.{RunValue, IsAt, counted_on}
+use Rattle.air_model.proofs.ReceptionLaws.{few_words}
+use Rattle.air_world.specs.Playing.{RunValue, RunIsAt, counted_on}
 use Rattle.air_world.specs.Saying.{AnswersCommand, AreOfDifferentTags, AreShort, IsBehind, IsOneOf}
 use Rattle.command_grammar.specs.declared.commands.Command.{Command}
 use Rattle.pie_line.specs.Link.{LinkValue}
 use Rattle.reply_grammar.specs.Table.{AnswersExpected, Carries}
 use Rattle.reply_grammar.specs.declared.expected.Expect.{Expect}
-use Rattle.reply_grammar.specs.laws.Suiting.{spelling-within}
+use Rattle.reply_grammar.proofs.Suiting.{spelling-within}
 use Rattle.runs.proofs.Answering.{SendsInRange}
 use Rattle.runs.specs.laws.Replies.{AnswersSo, AreReplies, StaysLegal, replies-in-answered}
-use Rattle.runs.specs.laws.Tags.{tags-exchanged, length-tags}
+use Rattle.runs.proofs.Tags.{tags-exchanged, length-tags}
 use Rattle.std.specs.Option.{IsSomeAnd}
 use Rattle.tag_machine.specs.Answers.{IsSent, Outcome, Sent, bits_sent}
 use Rattle.tag_machine.specs.Exchange.{AreLegalTags, Replied, outcomes_in, replies_from, replies_in, reply_of, tags_after}
@@ -31,12 +31,12 @@ use Rattle.tag_machine.specs.laws.Replies.{expect_of}
 use Rattle.tag_population.specs.Answers.{answers_of}
 
 -- the cursor of the run stands behind the exchanges of the past
-pub cursor-stands : (start : Start) (earlier : ℕ) (past : List Item) (air : AirValue) (run : RunValue) (entries : List (ℕ × Entry)) → IsAt start earlier past air run → run.entries ≡ entries
-    → IsLeft entries start.entries (exchanges_in past)
-cursor-stands start earlier past air run entries plays cursor = subst (λ l. IsLeft l start.entries (exchanges_in past)) cursor plays.entries
+pub cursor-stands : (start : Start) (earlier : ℕ) (past : List Item) (air : AirValue) (run : RunValue) (entries : List (ℕ × Entry)) → RunIsAt start earlier past air run → run.entries ≡ entries
+    → AreEntriesLeft entries start.entries (exchanges_in past)
+cursor-stands start earlier past air run entries plays cursor = subst (λ l. AreEntriesLeft l start.entries (exchanges_in past)) cursor plays.entries
 
 -- the entry of the next exchange names tags that there are ..
-pub entry-names : (start : Start) (earlier : ℕ) (past : List Item) (air : AirValue) (run : RunValue) (entry : Entry) → IsAt start earlier past air run
+pub entry-names : (start : Start) (earlier : ℕ) (past : List Item) (air : AirValue) (run : RunValue) (entry : Entry) → RunIsAt start earlier past air run
     → entry ≡ entry_at start.entries (exchanges_in past + 1) → NamesTags (length air.tags) entry
 entry-names start earlier past air run entry plays is =
     let count : length air.tags ≡ length start.tags = ap length plays.tags ∙ length-tags start past in
@@ -44,7 +44,7 @@ entry-names start earlier past air run entry plays is =
     subst (λ n. NamesTags n entry) (sym count) named
 
 -- .. and gives few levels
-pub entry-fits : (start : Start) (earlier : ℕ) (past : List Item) (air : AirValue) (run : RunValue) (entry : Entry) → IsAt start earlier past air run
+pub entry-fits : (start : Start) (earlier : ℕ) (past : List Item) (air : AirValue) (run : RunValue) (entry : Entry) → RunIsAt start earlier past air run
     → entry ≡ entry_at start.entries (exchanges_in past + 1) → HasFewLevels entry.choice
 entry-fits start earlier past air run entry plays is = subst (λ (e : Entry). HasFewLevels e.choice) (sym is) (plays.few (exchanges_in past + 1))
 
@@ -129,7 +129,7 @@ pub record Sends (start : Start) (earlier : ℕ) (past : List Item) (command : C
   pub next : AirValue
   pub entry : Entry
   pub got : Got
-  pub plays : IsAt start earlier past air run
+  pub plays : RunIsAt start earlier past air run
   pub is : next ≡ air_after air command entry
   pub got_is : got ≡ got_of air.link (given_in air.link air.several command entry air.tags)
   pub entry_is : entry ≡ entry_at start.entries (exchanges_in past + 1)
@@ -151,8 +151,8 @@ next-counted earlier exchanges = omega arith
 
 -- after an exchange, air and run stand behind the longer past
 pub sent-plays : (start : Start) (earlier : ℕ) (past : List Item) (round slot : ℕ) (command : Command) (sends : Sends start earlier past command) (after : RunValue)
-    → after.exchanges ≡ exchanges_in past + 1 → after.rounds ≡ sends.run.rounds → IsLeft after.entries start.entries (exchanges_in past + 1)
-    → IsAt start earlier (past_behind_command start round slot command past) sends.next after
+    → after.exchanges ≡ exchanges_in past + 1 → after.rounds ≡ sends.run.rounds → AreEntriesLeft after.entries start.entries (exchanges_in past + 1)
+    → RunIsAt start earlier (past_behind_command start round slot command past) sends.next after
 sent-plays start earlier past round slot command sends after made rounds left =
     let sent : Record = next_record start round slot command past in
     let plays = sends.plays in

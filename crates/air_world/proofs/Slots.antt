@@ -12,13 +12,13 @@ use Rattle.air_model.specs.Past.{Start, Record, Item, exchanged, next_entry, nex
 use Rattle.air_model.specs.Reception.{reception_of}
 use Rattle.air_model.specs.declared.got.Got.{Got as Gave}
 use Rattle.air_model.specs.declared.got.Got.TheVariants as gots
-use Rattle.air_model.specs.laws.AwaitedLaws.{awaited_reception}
-use Rattle.air_model.specs.laws.GivenLaws.{given_is_read}
-use Rattle.air_model.specs.laws.ReceptionLaws.{stream_reception}
+use Rattle.air_model.proofs.AwaitedLaws.{awaited_reception}
+use Rattle.air_model.proofs.GivenLaws.{given_is_read}
+use Rattle.air_model.proofs.ReceptionLaws.{stream_reception}
 use Rattle.air_world.proofs.Passing.{Listening, IsTold, passes-then, RunBehind, Stands}
-use Rattle.air_world.specs.Playing.{RunValue, IsAt, StandsAt, HasRoom}
+use Rattle.air_world.specs.Playing.{RunValue, RunIsAt, StandsAt, HasRoomForExchanges}
 use Rattle.air_world.specs.Saying.{IsBehind}
-use Rattle.air_world.specs.Telling.{Passes, lines_behind}
+use Rattle.air_world.specs.Telling.{PassesOn, lines_to_tell}
 use Rattle.command_grammar.specs.declared.commands.Command.{Command}
 use Rattle.command_grammar.specs.declared.commands.Command.TheVariants as commands
 use Rattle.line_code.specs.Table.{Table}
@@ -113,39 +113,39 @@ no-epc (receiveds.Whole (replies.Epc pc epc)) other = absurd (other pc epc refl)
 no-epc received other = refl
 
 -- what is heard changes nothing of a run
-pub run-kept : (start : Start) (earlier : ℕ) (past : List Item) (air : AirValue) (run later : RunValue) → later ≡ run → IsAt start earlier past air run → IsAt start earlier past air later
-run-kept start earlier past air run later same at = subst (λ (r : RunValue). IsAt start earlier past air r) (sym same) at
+pub run-kept : (start : Start) (earlier : ℕ) (past : List Item) (air : AirValue) (run later : RunValue) → later ≡ run → RunIsAt start earlier past air run → RunIsAt start earlier past air later
+run-kept start earlier past air run later same at = subst (λ (r : RunValue). RunIsAt start earlier past air r) (sym same) at
 
 -- the lines behind an exchange: what is told of it, then what it lists
 lines-exchanged : (start : Start) (sent : Record) (past : List Item)
-    → lines_behind start (exchanged sent ∷ past) ≡ (lines_behind start past ++ exchange_lines start.link sent) ++ map list_line (listed_by sent)
-lines-exchanged start sent past = sym (append_assoc (lines_behind start past) (exchange_lines start.link sent) (map list_line (listed_by sent)))
+    → lines_to_tell start (exchanged sent ∷ past) ≡ (lines_to_tell start past ++ exchange_lines start.link sent) ++ map list_line (listed_by sent)
+lines-exchanged start sent past = sym (append_assoc (lines_to_tell start past) (exchange_lines start.link sent) (map list_line (listed_by sent)))
 
 -- where an exchange lists nothing
-pub stands-unlisted : (Heard : List ReportLine → Type 0) (at : RunBehind) (sent : Record) → IsAt at.start at.earlier (exchanged sent ∷ at.past) at.air at.run
-    → Heard (lines_behind at.start at.past ++ exchange_lines at.start.link sent) → listed_by sent ≡ [] → StandsAt Heard at.start at.earlier (exchanged sent ∷ at.past) at.air at.run
+pub stands-unlisted : (Heard : List ReportLine → Type 0) (at : RunBehind) (sent : Record) → RunIsAt at.start at.earlier (exchanged sent ∷ at.past) at.air at.run
+    → Heard (lines_to_tell at.start at.past ++ exchange_lines at.start.link sent) → listed_by sent ≡ [] → StandsAt Heard at.start at.earlier (exchanged sent ∷ at.past) at.air at.run
 stands-unlisted Heard at sent is told none =
-    let before : List ReportLine = lines_behind at.start at.past ++ exchange_lines at.start.link sent in
-    let lines : lines_behind at.start (exchanged sent ∷ at.past) ≡ before =
+    let before : List ReportLine = lines_to_tell at.start at.past ++ exchange_lines at.start.link sent in
+    let lines : lines_to_tell at.start (exchanged sent ∷ at.past) ≡ before =
     lines-exchanged at.start sent at.past ∙ ap (λ (l : List Listed). before ++ map list_line l) none ∙ append-nil before in
     record { at = is; told = subst Heard (sym lines) told }
 
 -- where it lists one tag
-pub stands-listed : (Heard : List ReportLine → Type 0) (at : RunBehind) (sent : Record) (listed : Listed) → IsAt at.start at.earlier (exchanged sent ∷ at.past) at.air at.run
-    → Heard ((lines_behind at.start at.past ++ exchange_lines at.start.link sent) ++ list_line listed ∷ []) → listed_by sent ≡ listed ∷ []
+pub stands-listed : (Heard : List ReportLine → Type 0) (at : RunBehind) (sent : Record) (listed : Listed) → RunIsAt at.start at.earlier (exchanged sent ∷ at.past) at.air at.run
+    → Heard ((lines_to_tell at.start at.past ++ exchange_lines at.start.link sent) ++ list_line listed ∷ []) → listed_by sent ≡ listed ∷ []
     → StandsAt Heard at.start at.earlier (exchanged sent ∷ at.past) at.air at.run
 stands-listed Heard at sent listed is told one =
-    let before : List ReportLine = lines_behind at.start at.past ++ exchange_lines at.start.link sent in
-    let lines : lines_behind at.start (exchanged sent ∷ at.past) ≡ before ++ list_line listed ∷ [] =
+    let before : List ReportLine = lines_to_tell at.start at.past ++ exchange_lines at.start.link sent in
+    let lines : lines_to_tell at.start (exchanged sent ∷ at.past) ≡ before ++ list_line listed ∷ [] =
     lines-exchanged at.start sent at.past ∙ ap (λ (l : List Listed). before ++ map list_line l) one in
     record { at = is; told = subst Heard (sym lines) told }
 
 -- what was told before, and what stands when more was told
 pub stands-then : {A : Type 0} (l : Listening A) (first : A) (before between : List ReportLine) (at : RunBehind)
-    → Passes l.hears before first l.old between → Stands (IsTold l between) at → Stands (Passes l.hears before first l.new) at
+    → PassesOn l.hears before first l.old between → Stands (IsTold l between) at → Stands (PassesOn l.hears before first l.new) at
 stands-then l first before between at told stands = record {
   at = stands.at;
-  told = passes-then l first before between (lines_behind at.start at.past) told stands.told;
+  told = passes-then l first before between (lines_to_tell at.start at.past) told stands.told;
 }
 
 -- what stands behind the same past
@@ -206,5 +206,5 @@ ack-with start operations round slot rn past pair found =
     ap (λ (d : Dialogue). past_behind_dialogue start round slot 1 d (past_behind_command start round slot (commands.Ack rn) past)) (whole-begun operations rn (ack_reception start round slot rn past) pair found)
 
 -- room for one exchange more
-pub room-behind : (start : Start) (round slot : ℕ) (command : Command) (past : List Item) (more : ℕ) → HasRoom (1 + more) past → HasRoom more (past_behind_command start round slot command past)
+pub room-behind : (start : Start) (round slot : ℕ) (command : Command) (past : List Item) (more : ℕ) → HasRoomForExchanges (1 + more) past → HasRoomForExchanges more (past_behind_command start round slot command past)
 room-behind start round slot command past more room = omega arith

@@ -11,16 +11,16 @@ use Rattle.tag_machine.specs.Exchange.{AreLegalTags}
 use Rattle.air_model.specs.Past.{Start, Record, Item, befell, exchanges_in, rounds_in, tags_behind}
 use Rattle.air_world.proofs.Passing.{RunBehind, Stands}
 use Rattle.air_world.proofs.Rounds.{KeepsLimit, rounds-slot}
-use Rattle.air_world.specs.Playing.{RunValue, IsAt, IsPlayable, StandsAt, most_in_round, most_in_slot, most_slots}
-use Rattle.air_world.specs.Telling.{lines_behind}
+use Rattle.air_world.specs.Playing.{RunValue, RunIsAt, IsPlayable, StandsAt, most_in_round, most_in_slot, most_slots}
+use Rattle.air_world.specs.Telling.{lines_to_tell}
 use Rattle.command_grammar.specs.declared.commands.Command.{Command}
 use Rattle.command_grammar.specs.declared.commands.Command.TheVariants as commands
 use Rattle.reply_grammar.specs.Reception.{Reception, no_stream}
 use Rattle.report_lines.specs.ReportLine.{ReportLine}
-use Rattle.runs.specs.laws.Growth.{Grows, steps-grow, round-holds}
-use Rattle.runs.specs.laws.HeadlineCounts.{round-exchanges}
-use Rattle.runs.specs.laws.HeadlineLegal.{legal-step}
-use Rattle.runs.specs.laws.Tags.{tags-befell, length-tags}
+use Rattle.runs.proofs.Growth.{Grows, steps-grow, round-holds}
+use Rattle.runs.proofs.HeadlineCounts.{round-exchanges}
+use Rattle.runs.proofs.HeadlineLegal.{legal-step}
+use Rattle.runs.proofs.Tags.{tags-befell, length-tags}
 use Rattle.runs.specs.Headline.{most_operating}
 use Rattle.runs.specs.History.{past_behind, past_behind_step}
 use Rattle.runs.specs.NextItem.{expectation_of}
@@ -56,7 +56,7 @@ stands-befell Heard at event number next stands is legal =
         entries = was.entries;
         rounds = was.rounds;
       };
-      told = subst Heard (sym (append-nil (lines_behind at.start at.past))) stands.told;
+      told = subst Heard (sym (append-nil (lines_to_tell at.start at.past))) stands.told;
     }
 
 -- how many exchanges a step adds at most
@@ -112,7 +112,7 @@ pub step-legal : (tags : ℕ) (list : List Step) (index : ℕ) (step : Step) →
 step-legal tags list index step inside is all = subst (λ (s : Step). IsPlayable tags s) (sym is) (All-get_or (IsPlayable tags) list index step inside all)
 
 -- the number of tags stays
-pub same-count : (start : Start) (earlier : ℕ) (past later : List Item) (air next : AirValue) (run then_run : RunValue) → IsAt start earlier past air run → IsAt start earlier later next then_run → length next.tags ≡ length air.tags
+pub same-count : (start : Start) (earlier : ℕ) (past later : List Item) (air next : AirValue) (run then_run : RunValue) → RunIsAt start earlier past air run → RunIsAt start earlier later next then_run → length next.tags ≡ length air.tags
 same-count start earlier past later air next run then_run plays goes = ap length goes.tags ∙ length-tags start later ∙ sym (ap length plays.tags ∙ length-tags start past)
 
 step-drop : (list : List Step) (index : ℕ) (step : Step) → index < length list → step ≡ get_or list index step → drop index list ≡ step ∷ drop (index + 1) list

@@ -4,11 +4,11 @@ use Rattle.std.proofs.lemmas.List.{append-nil}
 use Rattle.air_channel.specs.Air.{AirValue}
 use Rattle.air_io.specs.Flow.{Adds}
 use Rattle.air_world.proofs.Passing.{Listening}
-use Rattle.air_world.specs.Telling.{Ends, IsCutShort, IsPlayed, IsWritten}
+use Rattle.air_world.specs.Telling.{EndsOrFails, IsCutShort, IsPlayed, IsWritten}
 use Rattle.report_lines.specs.ReportLine.{ReportLine}
 use Rattle.report_lines.specs.Spelled.{line_of_mode, mode_behind, new_spelling}
 use Rattle.report_lines.specs.TextReport.{IsAdded, spelling_behind, text_from}
-use Rattle.report_lines.specs.laws.SpelledLaws.{told-in-mode}
+use Rattle.report_lines.proofs.SpelledLaws.{told-in-mode}
 use Rattle.report_lines.specs.laws.TextReportLaws.{text_from-append}
 use Rattle.report_lines.specs.declared.mode.Mode.{Mode}
 use Rattle.report_lines.specs.declared.mode_spelling.ModeSpelling.{ModeSpelling}
@@ -60,7 +60,7 @@ IsAddedTo sink text fault = IsAdded text sink.first sink.written sink.before sin
 
 -- how a run ended is what it told, in the spelling of a mode
 pub run-written : {A : Type 0} (l : Listening A) (r : Result (Unit {0}) PlayFault) (mode : Mode) (scenario : Scenario) (sink : SinkChange) (air : AirValue)
-    → Ends r (IsPlayed l.hears l.failed scenario l.old l.new air) (IsCutShort l.hears l.failed l.old l.new (run_lines (start_of scenario) scenario.steps))
+    → EndsOrFails r (IsPlayed l.hears l.failed scenario l.old l.new air) (IsCutShort l.hears l.failed l.old l.new (run_lines (start_of scenario) scenario.steps))
     → ((lines : List ReportLine) → l.hears l.old lines l.new → IsAddedTo sink (told_text (spelling_for mode scenario) lines) (l.failed l.new))
     → IsWritten r mode scenario sink.first sink.written sink.before sink.after air
 run-written l (Ok done) mode scenario sink air played adds =

@@ -29,5 +29,5 @@ pub record Fits (counted : Summary) : Type 0 where
   pub slots : counted.slots < 2 ^ 64
 
 -- the lines are counted, as long as there is room
-pub record Counts (lines : List ReportLine) (first later : Summary) : Type 0 where
+pub record CountsLines (lines : List ReportLine) (first later : Summary) : Type 0 where
   pub counted : Fits (counted_lines first lines) → later ≡ counted_lines first lines

@@ -20,7 +20,7 @@ abbrev pub HearsPairs : List ReportLine → (old new : ItemList (ℕ × List ℕ
 HearsPairs lines old new = length old.items + length (pairs_told lines) ≤ old.capacity → new ≡ record old { items = old.items ++ pairs_told lines }
 
 -- the first fault of who counts for another: that one's own, else that there was no memory for a count
-abbrev pub fault_of : Option PlayFault → Bool → Option PlayFault
-fault_of (Some fault) short = Some fault
-fault_of None true = Some OutOfMemory
-fault_of None false = None
+abbrev pub first_fault_of : Option PlayFault → Bool → Option PlayFault
+first_fault_of (Some fault) short = Some fault
+first_fault_of None true = Some OutOfMemory
+first_fault_of None false = None

@@ -3,13 +3,13 @@ use Rattle.std.specs.Prelude.{◌≡◌, ℕ, ◌+◌, ◌*◌, ◌≤◌, ◌^�
 use Rattle.access_ops.specs.OpRunValue.{OpRunValue, OpRunStandsFor, turns_left}
 use Rattle.access_ops.specs.declared.OpList.{OpList}
 use Rattle.air_channel.specs.Air.{AirValue, NamesTags, last_exchange}
-use Rattle.air_events.specs.Cursor.{IsLeft}
+use Rattle.air_events.specs.Cursor.{AreEntriesLeft}
 use Rattle.air_events.specs.Entries.{entry_at}
 use Rattle.air_events.specs.declared.Entry.{Entry}
 use Rattle.air_model.specs.Channel.{HasFewLevels}
 use Rattle.tag_machine.specs.Exchange.{AreLegalTags}
 use Rattle.air_model.specs.Past.{Start, Item, ended, exchanges_in, rounds_in, tags_behind}
-use Rattle.air_world.specs.Telling.{lines_behind}
+use Rattle.air_world.specs.Telling.{lines_to_tell}
 use Rattle.q_round.specs.declared.round.RoundEnd.{RoundEnd}
 use Rattle.report_lines.specs.ReportLine.{ReportLine}
 use Rattle.scenario.specs.Limits.{IsStep}
@@ -35,7 +35,7 @@ abbrev pub counted_on : ℕ → ℕ → ℕ
 counted_on earlier exchanges = min (earlier + exchanges) last_exchange
 
 -- the air, which had so many exchanges before the run, and the run are what a past made of them
-pub record IsAt (start : Start) (earlier : ℕ) (past : List Item) (air : AirValue) (run : RunValue) : Type 0 where
+pub record RunIsAt (start : Start) (earlier : ℕ) (past : List Item) (air : AirValue) (run : RunValue) : Type 0 where
   pub names : NamesItsTags start
   pub few : GivesFewLevels start
   pub link : air.link ≡ start.link
@@ -44,13 +44,13 @@ pub record IsAt (start : Start) (earlier : ℕ) (past : List Item) (air : AirVal
   pub legal : AreLegalTags air.tags
   pub exchanges : air.exchanges ≡ counted_on earlier (exchanges_in past)
   pub made : run.exchanges ≡ exchanges_in past
-  pub entries : IsLeft run.entries start.entries (exchanges_in past)
+  pub entries : AreEntriesLeft run.entries start.entries (exchanges_in past)
   pub rounds : run.rounds ≡ rounds_in past
 
 -- ... and the lines of the past are heard
 pub record StandsAt (Heard : List ReportLine → Type 0) (start : Start) (earlier : ℕ) (past : List Item) (air : AirValue) (run : RunValue) : Type 0 where
-  pub at : IsAt start earlier past air run
-  pub told : Heard (lines_behind start past)
+  pub at : RunIsAt start earlier past air run
+  pub told : Heard (lines_to_tell start past)
 
 -- a step that a scenario of some version may have, where there are so many tags
 pub record IsPlayable (tags : ℕ) (step : Step) : Type 0 where
@@ -58,8 +58,8 @@ pub record IsPlayable (tags : ℕ) (step : Step) : Type 0 where
   pub is : IsStep version tags step
 
 -- so many more exchanges fit before their number has no room
-abbrev pub HasRoom : ℕ → List Item → Type 0
-HasRoom more past = exchanges_in past + more ≤ 2 ^ 34
+abbrev pub HasRoomForExchanges : ℕ → List Item → Type 0
+HasRoomForExchanges more past = exchanges_in past + more ≤ 2 ^ 34
 
 -- how many exchanges a slot has at most: the slot command, the ACK, one command for the handle and four for each of 32 operations
 abbrev pub most_in_slot : ℕ
@@ -74,20 +74,20 @@ abbrev pub most_slots : ℕ
 most_slots = 70000
 
 -- the air and the run are what some past made of them
-pub record IsUnderway (more : ℕ) (air : AirValue) (run : RunValue) : Type 0 where
+pub record RunIsUnderway (more : ℕ) (air : AirValue) (run : RunValue) : Type 0 where
   pub start : Start
   pub earlier : ℕ
   pub past : List Item
-  pub at : IsAt start earlier past air run
-  pub room : HasRoom more past
+  pub at : RunIsAt start earlier past air run
+  pub room : HasRoomForExchanges more past
 
 -- ... between two steps, and so many more steps fit
 pub record IsBetweenSteps (steps : ℕ) (air : AirValue) (run : RunValue) : Type 0 where
   pub start : Start
   pub earlier : ℕ
   pub past : List Item
-  pub at : IsAt start earlier past air run
-  pub room : HasRoom (most_in_round * steps) past
+  pub at : RunIsAt start earlier past air run
+  pub room : HasRoomForExchanges (most_in_round * steps) past
   pub rounds : rounds_in past + steps ≤ 2 ^ 31
 
 -- this past ends with a round that ended so
@@ -98,7 +98,7 @@ pub record IsEndedBy (end : RoundEnd) (past : List Item) : Type 0 where
   pub is : past ≡ ended number end slots ∷ before
 
 -- no operation of this list was begun with the tag that sent some EPC, and some RN16 before it
-pub record IsBegun (run : OpRunValue) (list : OpList) : Type 0 where
+pub record IsAtFirstOperation (run : OpRunValue) (list : OpList) : Type 0 where
   pub epc : List ℕ
   pub rn : ℕ
   pub stands : OpRunStandsFor run list epc rn []

@@ -13,11 +13,11 @@ use Rattle.runs.specs.ScenarioStart.{start_of, history}
 use Rattle.scenario.specs.declared.values.Scenario.{Scenario}
 
 -- All that a run has to tell of a past is told. What of it stays unsaid is the listener's choice.
-abbrev pub lines_behind : Start → List Item → List ReportLine
-lines_behind start past = past_lines start.link past
+abbrev pub lines_to_tell : Start → List Item → List ReportLine
+lines_to_tell start past = past_lines start.link past
 
 -- who had heard the lines before has heard these when the listener has become the new one
-pub record Passes {A : Type 0} (hears : A → List ReportLine → A → Type 0) (before : List ReportLine) (old new : A) (after : List ReportLine) : Type 0 where
+pub record PassesOn {A : Type 0} (hears : A → List ReportLine → A → Type 0) (before : List ReportLine) (old new : A) (after : List ReportLine) : Type 0 where
   pub on : (first : A) → hears first before old → hears first after new
 
 -- a run was cut off by this fault, and a front of these lines was told
@@ -30,16 +30,16 @@ pub record IsCut (Told : List ReportLine → Type 0) (Cause : PlayFault → Type
 
 -- ... which is the first of the listener
 abbrev pub IsCutOff : {A : Type 0} → (A → List ReportLine → A → Type 0) → (A → Option PlayFault) → (before : List ReportLine) → (old new : A) → (whole : List ReportLine) → PlayFault → Type 0
-IsCutOff hears failed before old new = IsCut (Passes hears before old new) (λ fault. failed new ≡ Some fault)
+IsCutOff hears failed before old new = IsCut (PassesOn hears before old new) (λ fault. failed new ≡ Some fault)
 
 -- ... or the listener, which was told nothing before, met none, and there was no memory
 abbrev pub IsCutShort : {A : Type 0} → (A → List ReportLine → A → Type 0) → (A → Option PlayFault) → (old new : A) → (whole : List ReportLine) → PlayFault → Type 0
 IsCutShort hears failed old new = IsCut (λ lines. hears old lines new) (λ fault. (failed new ≡ Some fault) ⊎ ((fault ≡ OutOfMemory) × (failed new ≡ None)))
 
 -- this holds at an end, and that of the fault where it was cut off
-abbrev pub Ends : {T : Type 0} → Result T PlayFault → Type 0 → (PlayFault → Type 0) → Type 0
-Ends (Ok done) Whole CutOff = Whole
-Ends (Err fault) Whole CutOff = CutOff fault
+abbrev pub EndsOrFails : {T : Type 0} → Result T PlayFault → Type 0 → (PlayFault → Type 0) → Type 0
+EndsOrFails (Ok done) Whole CutOff = Whole
+EndsOrFails (Err fault) Whole CutOff = CutOff fault
 
 -- A run was told whole, and its air is what the history made of it.
 pub record IsPlayed {A : Type 0} (hears : A → List ReportLine → A → Type 0) (failed : A → Option PlayFault) (scenario : Scenario) (old new : A) (air : AirValue) : Type 0 where

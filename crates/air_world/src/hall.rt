@@ -49,7 +49,8 @@ impl Model for AirHall {
 
     ghost view = { λ a. a.air.tags };
 
-    ghost invariant = { λ a. (a.air.several ≡ severals.Break) × (a.nothing ≡ no_entry) × (a.operations ≡ no_operations) × (longest_stream ≤ a.bits.capacity) };
+    ghost invariant = { λ a. (a.air.several ≡ severals.Break) × (a.nothing ≡ no_entry)
+        × (a.operations ≡ no_operations) × (longest_stream ≤ a.bits.capacity) };
 }
 
 impl AirHall {
@@ -79,7 +80,8 @@ impl AirHall {
         requires parts { blank.parts ≡ L.parts }
         requires one { blank.parts ≡ 1 }
         requires room { length heard.old.items + length self.old ≤ heard.old.capacity }
-        ensures pairs { heard.new ≡ record heard.old { items = heard.old.items ++ (played_of self.old spec.now).pairs } }
+        ensures pairs { heard.new
+            ≡ record heard.old { items = heard.old.items ++ (played_of self.old spec.now).pairs } }
         ensures end { result ≡ (played_of self.old spec.now).end }
         ensures tags { self.new ≡ (played_of self.old spec.now).tags }
     {
@@ -127,7 +129,8 @@ fn hear_round<'a, L: Ledger>(
     requires legal { AreLegalTags air.old.tags }
     requires operations { operations.now ≡ no_operations }
     requires room { length heard.old.items + length air.old.tags ≤ heard.old.capacity }
-    ensures pairs { heard.new ≡ record heard.old { items = heard.old.items ++ (played_of air.old.tags spec.now).pairs } }
+    ensures pairs { heard.new
+        ≡ record heard.old { items = heard.old.items ++ (played_of air.old.tags spec.now).pairs } }
     ensures end { result ≡ (played_of air.old.tags spec.now).end }
     ensures tags { air.new.tags ≡ (played_of air.old.tags spec.now).tags }
     ensures several { air.new.several ≡ Several.Break }

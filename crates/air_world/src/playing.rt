@@ -3,9 +3,9 @@ ghost use Rattle.std.specs.Prelude.{◌≡◌, ◌≤◌, ◌++◌, ℕ, List, [
 ghost use Rattle.air_io.specs.Flow.{Adds, FaultsRose};
 ghost use Rattle.air_model.specs.Past.{exchanges_in, tags_behind};
 ghost use Rattle.air_world.specs.NewAir.{new_air};
-ghost use Rattle.air_world.specs.Playing.{IsAt, StandsAt};
-ghost use Rattle.air_world.specs.Telling.{Ends, IsCutOff, IsCutShort, IsPlayed, IsWritten, Passes, lines_behind};
-ghost use Rattle.report_lines.specs.SeenCounts.{seen_in};
+ghost use Rattle.air_world.specs.Playing.{RunIsAt, StandsAt};
+ghost use Rattle.air_world.specs.Telling.{EndsOrFails, IsCutOff, IsCutShort, IsPlayed, IsWritten, PassesOn, lines_to_tell};
+ghost use Rattle.report_lines.specs.SeenCounts.{seen_counts};
 ghost use Rattle.report_lines.specs.Spelled.{new_spelling};
 ghost use Rattle.report_lines.specs.declared.mode.Mode.{Mode as ReportMode};
 ghost use Rattle.runs.specs.CompleteRounds.{RoundsAreComplete};
@@ -51,17 +51,26 @@ pub fn play<O: Sink>(
 ) -> Result<(), PlayFault>
     requires scenario { IsScenario scenario.now }
     requires fresh { air.old ≡ new_air (start_of scenario.now) }
-    ensures report { OnOk result (Adds (O.written out.old) (O.written out.new) (report_text_of mode scenario.now)) }
-    ensures tags { OnOk result (air.new.tags ≡ tags_behind (start_of scenario.now) (history scenario.now)) }
+    ensures report { OnOk result
+        (Adds (O.written out.old) (O.written out.new) (report_text_of mode scenario.now)) }
+    ensures tags { OnOk result
+        (air.new.tags ≡ tags_behind (start_of scenario.now) (history scenario.now)) }
     ensures exchanges { OnOk result (air.new.exchanges ≡ exchanges_in (history scenario.now)) }
-    ensures write { IsErrOf result PlayFault.Write → FaultsRose (O.faults out.old) (O.faults out.new) }
+    ensures write { IsErrOf result PlayFault.Write
+        → FaultsRose (O.faults out.old) (O.faults out.new) }
     // Where there was no memory, and at the end, no write failed.
     ensures memory { IsErrOf result PlayFault.OutOfMemory → O.faults out.new ≡ O.faults out.old }
     ensures steady { OnOk result (O.faults out.new ≡ O.faults out.old) }
-    ensures part { OnErr result ((front : List ℕ) × (rest : List ℕ) × (report_text_of mode scenario.now ≡ front ++ rest) × Adds (O.written out.old) (O.written out.new) front) }
+    ensures part { OnErr result
+        ((front : List ℕ) × (rest : List ℕ) × (report_text_of mode scenario.now ≡ front ++ rest)
+        × Adds (O.written out.old) (O.written out.new) front) }
     ensures count { O.faults out.old ≤ O.faults out.new }
-    ensures heard_as_listed { OnOk result (AreHeardAsListed (start_of scenario.now) (history scenario.now) (report_of mode (start_of scenario.now) scenario.now.steps)) }
-    ensures headline { OnOk result (Headline (start_of scenario.now) scenario.now.steps (history scenario.now) (report_of mode (start_of scenario.now) scenario.now.steps)) }
+    ensures heard_as_listed { OnOk result
+        (AreHeardAsListed (start_of scenario.now) (history scenario.now)
+        (report_of mode (start_of scenario.now) scenario.now.steps)) }
+    ensures headline { OnOk result
+        (Headline (start_of scenario.now) scenario.now.steps (history scenario.now)
+        (report_of mode (start_of scenario.now) scenario.now.steps)) }
     ensures inventory { OnOk result (RoundsAreComplete scenario.now) }
 {
     headline();
@@ -84,7 +93,8 @@ fn write_run<O: Sink>(
     requires scenario { IsScenario scenario.now }
     requires fresh { air.old ≡ new_air (start_of scenario.now) }
     ensures { (mode : ReportMode) → spelling.old ≡ new_spelling mode scenario.now.link
-        → IsWritten result mode scenario.now (O.written out.old) (O.written out.new) (O.faults out.old) (O.faults out.new) air.new }
+        → IsWritten result mode scenario.now (O.written out.old) (O.written out.new)
+        (O.faults out.old) (O.faults out.new) air.new }
 {
     let mut report = TextReport::new(spelling, out, line);
     tell_scenario(alloc, scenario, air, &mut report)
@@ -101,8 +111,10 @@ pub(crate) fn tell_scenario<R: Listener>(
     requires scenario { IsScenario scenario.now }
     requires fresh { air.old ≡ new_air (start_of scenario.now) }
     requires faultless { R.failed report.old ≡ None }
-    ensures { Ends result (IsPlayed R.hears R.failed scenario.now report.old report.new air.new)
-        (IsCutShort R.hears R.failed report.old report.new (run_lines (start_of scenario.now) scenario.now.steps)) }
+    ensures { EndsOrFails result
+        (IsPlayed R.hears R.failed scenario.now report.old report.new air.new)
+        (IsCutShort R.hears R.failed report.old report.new
+        (run_lines (start_of scenario.now) scenario.now.steps)) }
 {
     tell_run::<Brand, R>(Blank::new(1), alloc, scenario, air, report)
 }
@@ -122,8 +134,10 @@ fn tell_run<L: Ledger, R: Listener>(
     requires scenario { IsScenario scenario.now }
     requires fresh { air.old ≡ new_air (start_of scenario.now) }
     requires faultless { R.failed report.old ≡ None }
-    ensures { Ends result (IsPlayed R.hears R.failed scenario.now report.old report.new air.new)
-        (IsCutShort R.hears R.failed report.old report.new (run_lines (start_of scenario.now) scenario.now.steps)) }
+    ensures { EndsOrFails result
+        (IsPlayed R.hears R.failed scenario.now report.old report.new air.new)
+        (IsCutShort R.hears R.failed report.old report.new
+        (run_lines (start_of scenario.now) scenario.now.steps)) }
 {
     round_laws();
     prove!(air.len() <= u32::from(MOST_TAGS));
@@ -147,11 +161,14 @@ fn tell_steps<'a, L: Ledger, R: Listener>(
 ) -> Result<(), PlayFault>
     requires scenario { IsScenario scenario.now }
     requires fresh { air.old ≡ new_air (start_of scenario.now) }
-    requires at { IsAt (start_of scenario.now) 0 [] air.old run.old }
+    requires at { RunIsAt (start_of scenario.now) 0 [] air.old run.old }
     requires none { seen.old ≡ [] }
-    ensures ends { Ends result (StandsAt (λ lines. R.hears report.old lines report.new) (start_of scenario.now) 0 (history scenario.now) air.new run.new)
-        (IsCutShort R.hears R.failed report.old report.new (lines_behind (start_of scenario.now) (history scenario.now))) }
-    ensures seen { OnOk result (seen.new ≡ seen_in (pairs_in (history scenario.now))) }
+    ensures ends { EndsOrFails result
+        (StandsAt (λ lines. R.hears report.old lines report.new) (start_of scenario.now) 0
+        (history scenario.now) air.new run.new)
+        (IsCutShort R.hears R.failed report.old report.new
+        (lines_to_tell (start_of scenario.now) (history scenario.now))) }
+    ensures seen { OnOk result (seen.new ≡ seen_counts (pairs_in (history scenario.now))) }
 {
     let mut listener = SeenListener::new(report, seen);
     tell_to_last_step(scenario, air, run, &mut listener)
@@ -166,9 +183,12 @@ fn tell_to_last_step<'a, L: Ledger, R: Listener>(
 ) -> Result<(), PlayFault>
     requires scenario { IsScenario scenario.now }
     requires fresh { air.old ≡ new_air (start_of scenario.now) }
-    requires at { IsAt (start_of scenario.now) 0 [] air.old run.old }
-    ensures ends { Ends result (StandsAt (Passes R.hears [] report.old report.new) (start_of scenario.now) 0 (history scenario.now) air.new run.new)
-        (IsCutOff R.hears R.failed [] report.old report.new (lines_behind (start_of scenario.now) (history scenario.now))) }
+    requires at { RunIsAt (start_of scenario.now) 0 [] air.old run.old }
+    ensures ends { EndsOrFails result
+        (StandsAt (PassesOn R.hears [] report.old report.new) (start_of scenario.now) 0
+        (history scenario.now) air.new run.new)
+        (IsCutOff R.hears R.failed [] report.old report.new
+        (lines_to_tell (start_of scenario.now) (history scenario.now))) }
     ensures faultless { OnOk result (R.failed report.new ≡ None) }
 {
     tell_link(air, report);

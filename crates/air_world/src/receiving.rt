@@ -20,7 +20,8 @@ pub(crate) fn receive_last(
 )
     requires room { longest_stream ≤ bits.old.capacity }
     ensures room { bits.new.capacity ≡ bits.old.capacity }
-    ensures received { IsReceived (table_of air.now.link.code) (extended || air.now.link.trext) expect.now air.now.stream received.new }
+    ensures received { IsReceived (table_of air.now.link.code)
+        (extended || air.now.link.trext) expect.now air.now.stream received.new }
 {
     let link = air.link();
     receive(

@@ -2,9 +2,9 @@
 ghost use Rattle.std.specs.Prelude.{◌≡◌, ℕ, ◌+◌, ◌≤◌, ◌++◌, length, List, [], ◌∷◌, Some, None, OnOk, IfErr, IfOk};
 ghost use Rattle.air_events.specs.Streams.{longest_stream};
 ghost use Rattle.air_model.specs.Past.{Item, Start, next_record, past_behind_command};
-ghost use Rattle.air_world.specs.Playing.{IsAt, StandsAt, IsBetweenSteps, IsEndedBy, IsUnderway, most_in_slot};
+ghost use Rattle.air_world.specs.Playing.{RunIsAt, StandsAt, IsBetweenSteps, IsEndedBy, RunIsUnderway, most_in_slot};
 ghost use Rattle.air_world.specs.Saying.{IsBehind};
-ghost use Rattle.air_world.specs.Telling.{Ends, IsCutOff, Passes, lines_behind};
+ghost use Rattle.air_world.specs.Telling.{EndsOrFails, IsCutOff, PassesOn, lines_to_tell};
 ghost use Rattle.line_codes.specs.Codes.{table_of};
 ghost use Rattle.reply_grammar.specs.Reception.{reception_from};
 ghost use Rattle.reply_grammar.specs.declared.expected.Received.{Received};
@@ -88,13 +88,18 @@ impl<'a, L: Ledger> Run<'a, L> {
 
     /// Sends a command, in one exchange, tells of it, and says whom the channel gave.
     fn send<R: Listener>(&mut self, air: &mut Air, command: &Command, report: &mut R) -> Got
-        requires { IsUnderway 1 air.old self.old }
-        ensures plays { (start : Start) (earlier : ℕ) (past : List Item) (round slot : ℕ) → IsAt start earlier past air.old self.old
-            → IsAt start earlier (past_behind_command start round slot command.now past) air.new self.new }
-        ensures behind { (start : Start) (earlier : ℕ) (past : List Item) (round slot : ℕ) → IsAt start earlier past air.old self.old
+        requires { RunIsUnderway 1 air.old self.old }
+        ensures plays { (start : Start) (earlier : ℕ) (past : List Item) (round slot : ℕ)
+            → RunIsAt start earlier past air.old self.old
+            → RunIsAt start earlier
+            (past_behind_command start round slot command.now past) air.new self.new }
+        ensures behind { (start : Start) (earlier : ℕ) (past : List Item) (round slot : ℕ)
+            → RunIsAt start earlier past air.old self.old
             → IsBehind start.link (next_record start round slot command.now past) air.new result }
-        ensures told { (start : Start) (earlier : ℕ) (past : List Item) (round slot : ℕ) (before : List ReportLine) → IsAt start earlier past air.old self.old
-            → Passes R.hears before report.old report.new (before ++ exchange_lines start.link (next_record start round slot command.now past)) }
+        ensures told { (start : Start) (earlier : ℕ) (past : List Item) (round slot : ℕ)
+            (before : List ReportLine) → RunIsAt start earlier past air.old self.old
+            → PassesOn R.hears before report.old report.new
+            (before ++ exchange_lines start.link (next_record start round slot command.now past)) }
     {
         answers_are_replies();
         steps_keep_tags_legal();
@@ -110,7 +115,9 @@ impl<'a, L: Ledger> Run<'a, L> {
     /// The RN16 of the stream that came last, if it comes whole.
     fn hear_rn16(&mut self, air: &Air) -> Option<u16>
         ensures same { self.new ≡ self.old }
-        ensures received { (received : Received) × IsReceived (table_of air.now.link.code) air.now.link.trext Expect.Rn16 air.now.stream received
+        ensures received { (received : Received)
+            × IsReceived (table_of air.now.link.code) air.now.link.trext Expect.Rn16 air.now.stream
+            received
             × (result ≡ rn16_received (reception_from received)) }
     {
         receive_last(air, &Expect::Rn16, false, &mut self.bits, &mut self.rn16);
@@ -123,7 +130,9 @@ impl<'a, L: Ledger> Run<'a, L> {
     /// The PC and the EPC of the stream that came last, if they come whole.
     fn hear_epc(&mut self, air: &Air) -> Option<(u16, EpcWords)>
         ensures same { self.new ≡ self.old }
-        ensures received { (received : Received) × IsReceived (table_of air.now.link.code) air.now.link.trext Expect.Epc air.now.stream received
+        ensures received { (received : Received)
+            × IsReceived (table_of air.now.link.code) air.now.link.trext Expect.Epc air.now.stream
+            received
             × (result ≡ pair_received (reception_from received)) }
     {
         receive_last(air, &Expect::Epc, false, &mut self.bits, &mut self.epc);
@@ -143,11 +152,17 @@ impl<'a, L: Ledger> Run<'a, L> {
     ) -> Result<RoundEnd, PlayFault>
         requires between { IsBetweenSteps 1 air.old self.old }
         requires few { length operations.now.ops ≤ 32 }
-        ensures ends { (start : Start) (earlier : ℕ) (past : List Item) → IsAt start earlier past air.old self.old
-            → Ends result (StandsAt (Passes R.hears (lines_behind start past) report.old report.new) start earlier (past_behind_round start operations.now spec.now past) air.new self.new)
-            (IsCutOff R.hears R.failed (lines_behind start past) report.old report.new (lines_behind start (past_behind_round start operations.now spec.now past))) }
-        ensures end { (start : Start) (earlier : ℕ) (past : List Item) → IsAt start earlier past air.old self.old
-            → IfOk result (λ end. IsEndedBy end (past_behind_round start operations.now spec.now past)) }
+        ensures ends { (start : Start) (earlier : ℕ) (past : List Item)
+            → RunIsAt start earlier past air.old self.old
+            → EndsOrFails result
+            (StandsAt (PassesOn R.hears (lines_to_tell start past) report.old report.new) start
+            earlier (past_behind_round start operations.now spec.now past) air.new self.new)
+            (IsCutOff R.hears R.failed (lines_to_tell start past) report.old report.new
+            (lines_to_tell start (past_behind_round start operations.now spec.now past))) }
+        ensures end { (start : Start) (earlier : ℕ) (past : List Item)
+            → RunIsAt start earlier past air.old self.old
+            → IfOk result (λ end. IsEndedBy end
+            (past_behind_round start operations.now spec.now past)) }
     {
         round_laws();
         prove!(spec.limit() <= 70000);
@@ -167,7 +182,9 @@ impl<'a, L: Ledger> Run<'a, L> {
     /// Counts the end of a round, and tells of it.
     fn end_round<R: Listener>(&mut self, number: u32, end: RoundEnd, slots: u32, report: &mut R)
         ensures rest { self.new ≡ record self.old { rounds = number } }
-        ensures told { (before : List ReportLine) → Passes R.hears before report.old report.new (before ++ RoundLine number end slots ∷ []) }
+        ensures told { (before : List ReportLine)
+            → PassesOn R.hears before report.old report.new
+            (before ++ RoundLine number end slots ∷ []) }
     {
         self.rounds = number;
         report.tell(&Line::Round {
@@ -188,12 +205,16 @@ impl<'a, L: Ledger> Run<'a, L> {
         operations: &OpList,
         report: &mut R,
     ) -> Outcome
-        requires underway { IsUnderway most_in_slot air.old self.old }
+        requires underway { RunIsUnderway most_in_slot air.old self.old }
         requires few { length operations.now.ops ≤ 32 }
         requires expects { expectation_of command.now ≡ Some Expect.Rn16 }
-        ensures stands { (start : Start) (earlier : ℕ) (past : List Item) → IsAt start earlier past air.old self.old
-            → StandsAt (Passes R.hears (lines_behind start past) report.old report.new) start earlier (past_behind_slot start operations.now round slot command.now past) air.new self.new }
-        ensures outcome { (start : Start) (earlier : ℕ) (past : List Item) → IsAt start earlier past air.old self.old
+        ensures stands { (start : Start) (earlier : ℕ) (past : List Item)
+            → RunIsAt start earlier past air.old self.old
+            → StandsAt (PassesOn R.hears (lines_to_tell start past) report.old report.new) start
+            earlier (past_behind_slot start operations.now round slot command.now past) air.new
+            self.new }
+        ensures outcome { (start : Start) (earlier : ℕ) (past : List Item)
+            → RunIsAt start earlier past air.old self.old
             → result ≡ outcome_of (slot_reception start round slot command.now past) }
     {
         answers_are_replies();
@@ -220,10 +241,12 @@ impl<'a, L: Ledger> Run<'a, L> {
         operations: &OpList,
         report: &mut R,
     )
-        requires underway { IsUnderway 130 air.old self.old }
+        requires underway { RunIsUnderway 130 air.old self.old }
         requires few { length operations.now.ops ≤ 32 }
-        ensures { (start : Start) (earlier : ℕ) (past : List Item) → IsAt start earlier past air.old self.old
-            → StandsAt (Passes R.hears (lines_behind start past) report.old report.new) start earlier (past_behind_ack start operations.now round slot rn past) air.new self.new }
+        ensures { (start : Start) (earlier : ℕ) (past : List Item)
+            → RunIsAt start earlier past air.old self.old
+            → StandsAt (PassesOn R.hears (lines_to_tell start past) report.old report.new) start
+            earlier (past_behind_ack start operations.now round slot rn past) air.new self.new }
     {
         answers_are_replies();
         steps_keep_tags_legal();
@@ -254,7 +277,9 @@ pub(crate) fn check<R: Listener>(report: &R) -> Result<(), PlayFault>
 
 /// Tells that a tag is listed.
 fn tell_listed<R: Listener>(round: u32, slot: u32, pc: u16, epc: &EpcWords, report: &mut R)
-    ensures { (before : List ReportLine) → Passes R.hears before report.old report.new (before ++ ListLine round slot pc epc.now ∷ []) }
+    ensures { (before : List ReportLine)
+        → PassesOn R.hears before report.old report.new
+        (before ++ ListLine round slot pc epc.now ∷ []) }
 {
     report.tell(&Line::List {
         round,

@@ -3,7 +3,7 @@ ghost use Rattle.std.specs.Prelude.{◌≡◌, ◌++◌, List, [], ◌∷◌, fa
 ghost use Rattle.air_world.specs.Listing.{pairs_told};
 ghost use Rattle.report_lines.specs.Line.{line_of};
 ghost use Rattle.report_lines.specs.ReportLine.{ReportLine};
-ghost use Rattle.report_lines.specs.SeenCounts.{seen_in};
+ghost use Rattle.report_lines.specs.SeenCounts.{seen_counts};
 
 use report_lines::{Line, Listener, PlayFault, SeenCounts};
 
@@ -35,11 +35,13 @@ impl<'r, R: Listener> SeenListener<'r, R> {
 
     /// Counts what a line lists.
     fn count(&mut self, line: &Line<'_>)
-        ensures rest { self.new ≡ record self.old { seen = self.new.seen; out_of_memory = self.new.out_of_memory } }
+        ensures rest { self.new
+            ≡ record self.old { seen = self.new.seen; out_of_memory = self.new.out_of_memory } }
         ensures room { self.new.seen.ghost_name ≡ self.old.seen.ghost_name }
         ensures memory { self.new.out_of_memory ≡ false → self.old.out_of_memory ≡ false }
-        ensures seen { (lines : List ReportLine) → self.new.out_of_memory ≡ false → self.old.seen.now ≡ seen_in (pairs_told lines)
-            → self.new.seen.now ≡ seen_in (pairs_told (lines ++ line_of line.now ∷ [])) }
+        ensures seen { (lines : List ReportLine) → self.new.out_of_memory ≡ false
+            → self.old.seen.now ≡ seen_counts (pairs_told lines)
+            → self.new.seen.now ≡ seen_counts (pairs_told (lines ++ line_of line.now ∷ [])) }
     {
         let Line::List { pc, epc, .. } = *line else {
             return;
@@ -53,14 +55,14 @@ impl<'r, R: Listener> SeenListener<'r, R> {
 
 impl<'r, R: Listener> Listener for SeenListener<'r, R> {
     ghost use Rattle.std.specs.Prelude.{[], false, refl};
-    ghost use Rattle.air_world.specs.Listing.{fault_of, pairs_told};
-    ghost use Rattle.report_lines.specs.SeenCounts.{seen_in};
+    ghost use Rattle.air_world.specs.Listing.{first_fault_of, pairs_told};
+    ghost use Rattle.report_lines.specs.SeenCounts.{seen_counts};
 
     ghost hears = { λ first lines later. (later.report.ghost_name ≡ first.report.ghost_name) × (later.seen.ghost_name ≡ first.seen.ghost_name)
         × R.hears first.report.now lines later.report.now
-        × (first.seen.now ≡ [] → later.out_of_memory ≡ false → later.seen.now ≡ seen_in (pairs_told lines)) };
+        × (first.seen.now ≡ [] → later.out_of_memory ≡ false → later.seen.now ≡ seen_counts (pairs_told lines)) };
 
-    ghost failed = { λ listener. fault_of (R.failed listener.report.now) listener.out_of_memory };
+    ghost failed = { λ listener. first_fault_of (R.failed listener.report.now) listener.out_of_memory };
 
     fn tell(&mut self, line: &Line<'_>) {
         self.count(line);

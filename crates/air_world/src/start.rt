@@ -1,7 +1,7 @@
 //! The air of a scenario.
 ghost use Rattle.std.specs.Prelude.{◌≡◌, ◌≤◌, ◌++◌, IfOk, OnOk, map};
 ghost use Rattle.air_world.specs.NewAir.{IsGroupOfTags, new_air};
-ghost use Rattle.runs.specs.ScenarioStart.{start_of, tag_of};
+ghost use Rattle.runs.specs.ScenarioStart.{start_of, scenario_tag};
 ghost use Rattle.scenario.specs.Groups.{copies_of, copy_of, raised};
 ghost use Rattle.scenario.specs.Limits.{IsScenario};
 ghost use Rattle.scenario_lines.specs.TagForm.{IsTag, epc_length};
@@ -19,7 +19,7 @@ use tag_memory::Memory;
 /// A tag as a scenario gives it: ready, with the flags of a new tag and no draw made.
 fn new_tag(alloc: Global, spec: &TagSpec) -> Result<AnyTag, OutOfMemory>
     requires { IsTag spec.now }
-    ensures { IfOk result (λ tag. tag_value_of tag ≡ tag_of spec.now) }
+    ensures { IfOk result (λ tag. tag_value_of tag ≡ scenario_tag spec.now) }
 {
     let words = DrawWords::new(alloc, spec.words.words())?;
     AnyTag::of_image(alloc, &spec.image, spec.locks, words)
@@ -64,7 +64,7 @@ fn raised_words(alloc: Global, words: &DrawWords, by: u32) -> Result<DrawWords, 
 fn new_copy(alloc: Global, spec: &TagSpec, number: u32) -> Result<AnyTag, OutOfMemory>
     requires tag { IsTag spec.now }
     requires epc { 1 ≤ epc_length spec.now }
-    ensures { IfOk result (λ tag. tag_value_of tag ≡ tag_of (copy_of number spec.now)) }
+    ensures { IfOk result (λ tag. tag_value_of tag ≡ scenario_tag (copy_of number spec.now)) }
 {
     let memory = memory_of_copy(alloc, spec, number)?;
     let words = raised_words(alloc, &spec.words, number)?;
@@ -74,7 +74,8 @@ fn new_copy(alloc: Global, spec: &TagSpec, number: u32) -> Result<AnyTag, OutOfM
 /// Adds the tags of a group: the tag as it is written, and behind it its other copies.
 fn push_group(alloc: Global, tags: &mut Vec<AnyTag>, group: &TagGroup) -> Result<(), OutOfMemory>
     requires { IsGroupOfTags group.now }
-    ensures { OnOk result (map tag_value_of tags.new.items ≡ map tag_value_of tags.old.items ++ map tag_of (copies_of group.now)) }
+    ensures { OnOk result (map tag_value_of tags.new.items ≡ map tag_value_of tags.old.items
+        ++ map scenario_tag (copies_of group.now)) }
 {
     tags.push(new_tag(alloc, &group.spec)?)?;
     for number in 1..group.count {

@@ -1,6 +1,6 @@
 //! What a run counts.
 ghost use Rattle.std.specs.Prelude.{◌≡◌, ◌+◌, ◌-◌, ◌^◌, ◌&&◌, min, IfOk, OnOk};
-ghost use Rattle.air_world.specs.Counting.{Counts, nothing_counted};
+ghost use Rattle.air_world.specs.Counting.{CountsLines, nothing_counted};
 ghost use Rattle.air_world.specs.NewAir.{new_air};
 ghost use Rattle.runs.specs.CompleteRounds.{RoundsAreComplete};
 ghost use Rattle.runs.specs.Report.{run_lines};
@@ -43,7 +43,12 @@ impl Counting {
 
 /// Counts a round more, which ended so and had so many slots.
 fn count_round(counted: &mut Summary, end: RoundEnd, slots: u32)
-    ensures { counted.new ≡ record counted.old { slots = min (counted.old.slots + slots) (2 ^ 64 - 1); quiet = counted.old.quiet && is_quiet end } }
+    ensures { counted.new ≡ record
+        counted.old {
+          slots = min (counted.old.slots + slots)
+              (2 ^ 64 - 1);
+          quiet = counted.old.quiet && is_quiet end;
+        } }
 {
     counted.slots = counted.slots.saturating_add(u64::from(slots));
     counted.quiet = counted.quiet && matches!(end, RoundEnd::Quiet);
@@ -51,10 +56,10 @@ fn count_round(counted: &mut Summary, end: RoundEnd, slots: u32)
 
 impl Listener for Counting {
     ghost use Rattle.std.specs.Prelude.{None};
-    ghost use Rattle.air_world.specs.Counting.{Counts};
+    ghost use Rattle.air_world.specs.Counting.{CountsLines};
     ghost use Rattle.air_world.specs.laws.CountingLaws.{counts-nothing};
 
-    ghost hears = { λ first lines later. Counts lines first.summary later.summary };
+    ghost hears = { λ first lines later. CountsLines lines first.summary later.summary };
 
     ghost failed = { λ counting. None };
 
@@ -93,7 +98,9 @@ fn count_on(
 ) -> Result<(), PlayFault>
     requires scenario { IsScenario scenario.now }
     requires fresh { air ≡ new_air (start_of scenario.now) }
-    ensures { OnOk result (Counts (run_lines (start_of scenario.now) scenario.now.steps) counting.old.summary counting.new.summary) }
+    ensures { OnOk result (CountsLines
+        (run_lines (start_of scenario.now) scenario.now.steps) counting.old.summary
+        counting.new.summary) }
 {
     let mut air = air;
     tell_scenario(alloc, scenario, &mut air, counting)

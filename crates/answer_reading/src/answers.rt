@@ -26,7 +26,9 @@ fn decoded(bits: &Bits, expect: &Expect) -> Reply
 
 /// The reply that bits are with which a tag answers a command, whatever it was before. Of other bits nothing is known.
 pub fn reply_to(command: &Command, bits: &Bits) -> Reply
-    ensures { (state : StateValue) (reply : Reply) → IsSomeAnd (expect_of command.now state) (λ it. AnswersExpected reply it bits.now.items) → result ≡ reply }
+    ensures { (state : StateValue) (reply : Reply)
+        → IsSomeAnd (expect_of command.now state) (λ it. AnswersExpected reply it bits.now.items)
+        → result ≡ reply }
 {
     match expectation_of(command, bits.len() != HANDLE_BITS) {
         None => Reply::Header,

@@ -36,7 +36,8 @@ fn words_expected(count: u8, handle: u16) -> Expect
 /// What an interrogator expects in answer to a command (Annex C), where the tag holds a first half or doesn't; none where no answer
 /// may come.
 pub fn expectation_of(command: &Command, unfinished: bool) -> Option<Expect>
-    ensures { (state : StateValue) → has_half state ≡ unfinished → result ≡ expect_of command.now state }
+    ensures { (state : StateValue) → has_half state ≡ unfinished
+        → result ≡ expect_of command.now state }
 {
     match command {
         Command::QueryRep { .. } | Command::Query { .. } | Command::QueryAdjust { .. } => {
@@ -62,8 +63,11 @@ pub fn expectation_of(command: &Command, unfinished: bool) -> Option<Expect>
 /// Gives the reply that bits are, of which it is known that they answer what is expected, in place of another one. A reply has room for
 /// the longest list of words, and none is copied so.
 pub fn expected_reply_to(bits: &Bits, expect: &Option<Expect>, reply: &mut Reply)
-    requires { (answer : Reply) × IsSomeAnd expect.now (λ it. AnswersExpected answer it bits.now.items) }
-    ensures { (answer : Reply) → IsSomeAnd expect.now (λ it. AnswersExpected answer it bits.now.items) → reply.new ≡ answer }
+    requires { (answer : Reply)
+        × IsSomeAnd expect.now (λ it. AnswersExpected answer it bits.now.items) }
+    ensures { (answer : Reply)
+        → IsSomeAnd expect.now (λ it. AnswersExpected answer it bits.now.items)
+        → reply.new ≡ answer }
 {
     // By this law bits are one reply that is expected, or are refused.
     reply_laws();

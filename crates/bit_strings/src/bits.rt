@@ -39,7 +39,8 @@ impl Model for Bits {
 
     ghost view = { λ a. record { items = a.bits.items; capacity = a.room } };
 
-    ghost invariant = { λ a. (vec_len a.bits ≤ a.room) × (a.room ≤ vec_capacity a.bits) × (a.room < 2 ^ 32) };
+    ghost invariant = { λ a. (vec_len a.bits ≤ a.room) × (a.room ≤ vec_capacity a.bits)
+        × (a.room < 2 ^ 32) };
 }
 
 impl Bits {
@@ -104,7 +105,8 @@ impl Bits {
 
     /// The last bit; none where the list is empty.
     pub fn last(&self) -> Option<bool>
-        ensures value { IfSome result (λ bit. (front : List Bool) × (self.now.items ≡ front ++ bit ∷ [])) }
+        ensures value { IfSome result
+            (λ bit. (front : List Bool) × (self.now.items ≡ front ++ bit ∷ [])) }
         ensures none { IsNone result ↔ (self.now.items ≡ []) }
     {
         self.bits.last().copied()
@@ -122,7 +124,8 @@ impl Bits {
     /// for, and changes nothing.
     pub fn push(&mut self, bit: bool) -> Result<(), Full>
         ensures full { IsErr result ↔ (length self.old.items ≡ self.old.capacity) }
-        ensures room { length self.old.items < self.old.capacity → self.new ≡ record self.old { items = self.old.items ++ bit ∷ [] } }
+        ensures room { length self.old.items < self.old.capacity
+            → self.new ≡ record self.old { items = self.old.items ++ bit ∷ [] } }
         ensures err { OnErr result (self.new ≡ self.old) }
     {
         if self.bits.len() == self.room as usize {
@@ -165,7 +168,8 @@ impl Bits {
     /// nothing.
     pub fn copy_bytes(&mut self, bytes: &[u8], one: u8) -> Result<(), Full>
         ensures full { IsErr result ↔ (self.old.capacity < length bytes.now) }
-        ensures room { length bytes.now ≤ self.old.capacity → self.new ≡ record self.old { items = map (λ byte. byte == one) bytes.now } }
+        ensures room { length bytes.now ≤ self.old.capacity
+            → self.new ≡ record self.old { items = map (λ byte. byte == one) bytes.now } }
         ensures err { OnErr result (self.new ≡ self.old) }
     {
         if bytes.len() > self.room as usize {
@@ -179,7 +183,8 @@ impl Bits {
     /// Adds, for each byte, whether it is `one`, to a list that has room for as many bits.
     fn put_matches_reserved(&mut self, bytes: &[u8], one: u8)
         requires { length self.old.items + length bytes.now ≤ self.old.capacity }
-        ensures { self.new ≡ record self.old { items = self.old.items ++ map (λ byte. byte == one) bytes.now } }
+        ensures { self.new
+            ≡ record self.old { items = self.old.items ++ map (λ byte. byte == one) bytes.now } }
     {
         // Many are written to a place of their own first and added at once, so that the list isn't filled before.
         let mut bits = [false; TOGETHER];
@@ -196,7 +201,8 @@ impl Bits {
 
     /// Takes the last bit off and answers it; none where the list is empty, and then nothing changes.
     pub fn pop(&mut self) -> Option<bool>
-        ensures some { IfSome result (λ bit. self.old ≡ record self.new { items = self.new.items ++ bit ∷ [] }) }
+        ensures some { IfSome result
+            (λ bit. self.old ≡ record self.new { items = self.new.items ++ bit ∷ [] }) }
         ensures none { IsNone result ↔ (self.old.items ≡ []) }
         ensures unchanged { IfNone result (self.new ≡ self.old) }
     {
@@ -206,7 +212,8 @@ impl Bits {
     /// Inverts the bit at the place `at`, counted from 0.
     pub fn flip(&mut self, at: u32)
         requires { at < length self.old.items }
-        ensures value { (bit : Bool) → slice_get self.old.items at ≡ Some bit → self.new ≡ record self.old { items = slice_set self.old.items at (not bit) } }
+        ensures value { (bit : Bool) → slice_get self.old.items at ≡ Some bit
+            → self.new ≡ record self.old { items = slice_set self.old.items at (not bit) } }
         ensures capacity { self.new.capacity ≡ self.old.capacity }
     {
         self.bits[at as usize] = !self.bits[at as usize];

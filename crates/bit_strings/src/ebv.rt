@@ -31,8 +31,10 @@ impl Bits {
     /// enough free places, and changes nothing.
     pub fn put_ebv(&mut self, value: u32) -> Result<(), Full>
         requires { value < 2 ^ 28 }
-        ensures full { IsErr result ↔ (self.old.capacity < length self.old.items + length (ebv_of value)) }
-        ensures room { length self.old.items + length (ebv_of value) ≤ self.old.capacity → self.new ≡ record self.old { items = self.old.items ++ ebv_of value } }
+        ensures full { IsErr result
+            ↔ (self.old.capacity < length self.old.items + length (ebv_of value)) }
+        ensures room { length self.old.items + length (ebv_of value) ≤ self.old.capacity
+            → self.new ≡ record self.old { items = self.old.items ++ ebv_of value } }
         ensures err { OnErr result (self.new ≡ self.old) }
     {
         if self.capacity() - self.len() < 8 * blocks_of(value) {

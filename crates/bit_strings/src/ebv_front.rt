@@ -86,7 +86,8 @@ impl EbvFront {
         ensures begun { IsCutEbv self.new }
         ensures none { length self.old % 8 ≡ 0 → result ≡ 0 }
         ensures inside { length self.old % 8 + result ≤ 7 }
-        ensures edge { result < length bits.now → (length self.new % 8 ≡ 0) ⊎ (length self.new % 8 ≡ 7) }
+        ensures edge { result < length bits.now → (length self.new % 8 ≡ 0)
+            ⊎ (length self.new % 8 ≡ 7) }
     {
         let place = self.count % 8;
         if place == 0 {
@@ -143,7 +144,8 @@ impl EbvFront {
 
 /// The number that the digits of at most four blocks are.
 fn number_of_blocks(bits: u32) -> u32
-    ensures { (number : ℕ) (vector : List Bool) → IsEbv number vector → bits ≡ value_of vector → result ≡ number }
+    ensures { (number : ℕ) (vector : List Bool) → IsEbv number vector → bits ≡ value_of vector
+        → result ≡ number }
 {
     bits % 128
         + bits / 0x100 % 128 * 0x80

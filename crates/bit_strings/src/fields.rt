@@ -12,7 +12,8 @@ impl Bits {
         requires narrow { width ≤ 31 }
         requires fits { value < 2 ^ width }
         ensures full { IsErr result ↔ (self.old.capacity < length self.old.items + width) }
-        ensures room { length self.old.items + width ≤ self.old.capacity → self.new ≡ record self.old { items = self.old.items ++ field_of value width } }
+        ensures room { length self.old.items + width ≤ self.old.capacity
+            → self.new ≡ record self.old { items = self.old.items ++ field_of value width } }
         ensures err { OnErr result (self.new ≡ self.old) }
     {
         if self.capacity() - self.len() < width {
@@ -40,7 +41,8 @@ impl Bits {
     /// changes nothing.
     pub fn put_u16(&mut self, value: u16) -> Result<(), Full>
         ensures full { IsErr result ↔ (self.old.capacity < length self.old.items + 16) }
-        ensures room { length self.old.items + 16 ≤ self.old.capacity → self.new ≡ record self.old { items = self.old.items ++ field_of value 16 } }
+        ensures room { length self.old.items + 16 ≤ self.old.capacity
+            → self.new ≡ record self.old { items = self.old.items ++ field_of value 16 } }
         ensures err { OnErr result (self.new ≡ self.old) }
     {
         self.put_field(u32::from(value), 16)
@@ -59,7 +61,8 @@ impl Bits {
     /// fewer bits stand there.
     pub fn field(&self, from: u32, width: u32) -> Option<u32>
         requires { width ≤ 31 }
-        ensures some { IfSome result (λ value. value ≡ value_of (part_of self.now.items from width)) }
+        ensures some { IfSome result
+            (λ value. value ≡ value_of (part_of self.now.items from width)) }
         ensures none { IsNone result ↔ (length self.now.items < from + width) }
         ensures within { length self.now.items < 2 ^ 32 }
     {

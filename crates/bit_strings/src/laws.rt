@@ -7,7 +7,8 @@ ghost use Rattle.bit_strings.specs.Ebv.{IsEbv, ebv_of};
 pub fn field_laws()
     ensures length { (value width : ℕ) → length (field_of value width) ≡ width }
     ensures below { (bits : List Bool) → value_of bits < 2 ^ length bits }
-    ensures value { (value width : ℕ) → value < 2 ^ width → value_of (field_of value width) ≡ value }
+    ensures value { (value width : ℕ) → value < 2 ^ width
+        → value_of (field_of value width) ≡ value }
     ensures field { (bits : List Bool) → field_of (value_of bits) (length bits) ≡ bits }
 {}
 
@@ -17,5 +18,6 @@ pub fn ebv_laws()
     ensures some { (number : ℕ) → number < 2 ^ 28 → IsEbv number (ebv_of number) }
     ensures below { (number : ℕ) (bits : List Bool) → IsEbv number bits → number < 2 ^ 28 }
     ensures one { (number : ℕ) (bits : List Bool) → IsEbv number bits → bits ≡ ebv_of number }
-    ensures apart { (n m : ℕ) (xs ys more rest : List Bool) → IsEbv n xs → IsEbv m ys → xs ++ more ≡ ys ++ rest → (n ≡ m) × (xs ≡ ys) }
+    ensures apart { (n m : ℕ) (xs ys more rest : List Bool) → IsEbv n xs → IsEbv m ys
+        → xs ++ more ≡ ys ++ rest → (n ≡ m) × (xs ≡ ys) }
 {}

@@ -23,7 +23,8 @@ impl<T> Model for Bounded<T> {
 
     ghost view = { λ a. record { items = a.items.items; capacity = a.room } };
 
-    ghost invariant = { λ a. (vec_len a.items ≤ a.room) × (a.room ≤ vec_capacity a.items) × (a.room < 2 ^ 32) };
+    ghost invariant = { λ a. (vec_len a.items ≤ a.room) × (a.room ≤ vec_capacity a.items)
+        × (a.room < 2 ^ 32) };
 }
 
 impl<T> Bounded<T> {
@@ -110,7 +111,8 @@ impl<T: Drop> Bounded<T> {
     /// changes nothing.
     pub fn push(&mut self, item: T) -> Result<(), Full>
         ensures full { IsErr result ↔ (length self.old.items ≡ self.old.capacity) }
-        ensures room { length self.old.items < self.old.capacity → self.new ≡ record self.old { items = self.old.items ++ item ∷ [] } }
+        ensures room { length self.old.items < self.old.capacity
+            → self.new ≡ record self.old { items = self.old.items ++ item ∷ [] } }
         ensures err { OnErr result (self.new ≡ self.old) }
     {
         if self.items.len() == self.room as usize {

@@ -13,10 +13,13 @@ use text_fields::{code_named, one_bit};
 
 /// The line code, TRext and expectation that three fields spell; none exactly where one of them spells none.
 pub fn heard_as(code: &[u8], trext: &[u8], expect: &[u8]) -> Option<(Code, bool, Expect)>
-    ensures value { IfSome result (λ it. (code.now ≡ code_word it.0) × (trext.now ≡ binary_digit it.1 ∷ [])
+    ensures value { IfSome result
+        (λ it. (code.now ≡ code_word it.0) × (trext.now ≡ binary_digit it.1 ∷ [])
         × (expect.now ≡ expect_word it.2) × IsExpect it.2) }
-    ensures only { (named : Code) → (extended : Bool) → (expected : Expect) → code.now ≡ code_word named → trext.now ≡ binary_digit extended ∷ []
-        → IsExpect expected → expect.now ≡ expect_word expected → result ≡ Some (named, extended, expected) }
+    ensures only { (named : Code) → (extended : Bool) → (expected : Expect)
+        → code.now ≡ code_word named → trext.now ≡ binary_digit extended ∷ []
+        → IsExpect expected → expect.now ≡ expect_word expected
+        → result ≡ Some (named, extended, expected) }
 {
     let code = code_named(code)?;
     let trext = one_bit(trext)?;

@@ -97,7 +97,8 @@ impl Model for BlockWords {
 
     ghost view = { λ block. block.words.items };
 
-    ghost invariant = { λ block. (1 ≤ length block.words.items) × (length block.words.items ≤ 255) };
+    ghost invariant = { λ block. (1 ≤ length block.words.items)
+        × (length block.words.items ≤ 255) };
 
     ghost inverse = { λ words. record { words = record { items = words } } };
 }

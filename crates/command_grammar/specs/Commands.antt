@@ -41,8 +41,8 @@ pub record Part : Type 0 where
   pub bits : List Bool
 
 -- the bits that the characters 0 and 1 name
-abbrev pub binary : List ℕ → List Bool
-binary digits = map (λ digit. digit == 49) digits
+abbrev pub bits_of_text : List ℕ → List Bool
+bits_of_text digits = map (λ digit. digit == 49) digits
 
 -- one field: any bits of its width may stand in it
 abbrev pub plain_field : List Bool → List Part
@@ -115,20 +115,20 @@ with_crc16 parts = parts ++ named_field reasons.Crc16 (crc16_of (bits_of parts))
 
 -- 6.3.2.11 Table 6.18: the code of each command, written as its digits
 abbrev pub code_of : CommandKind → List Bool
-code_of kinds.QueryRep = binary (codes "00")
-code_of kinds.Ack = binary (codes "01")
-code_of kinds.Query = binary (codes "1000")
-code_of kinds.QueryAdjust = binary (codes "1001")
-code_of kinds.Select = binary (codes "1010")
-code_of kinds.Nak = binary (codes "11000000")
-code_of kinds.ReqRn = binary (codes "11000001")
-code_of kinds.Read = binary (codes "11000010")
-code_of kinds.Write = binary (codes "11000011")
-code_of kinds.Kill = binary (codes "11000100")
-code_of kinds.Lock = binary (codes "11000101")
-code_of kinds.Access = binary (codes "11000110")
-code_of kinds.BlockWrite = binary (codes "11000111")
-code_of kinds.BlockErase = binary (codes "11001000")
+code_of kinds.QueryRep = bits_of_text (codes "00")
+code_of kinds.Ack = bits_of_text (codes "01")
+code_of kinds.Query = bits_of_text (codes "1000")
+code_of kinds.QueryAdjust = bits_of_text (codes "1001")
+code_of kinds.Select = bits_of_text (codes "1010")
+code_of kinds.Nak = bits_of_text (codes "11000000")
+code_of kinds.ReqRn = bits_of_text (codes "11000001")
+code_of kinds.Read = bits_of_text (codes "11000010")
+code_of kinds.Write = bits_of_text (codes "11000011")
+code_of kinds.Kill = bits_of_text (codes "11000100")
+code_of kinds.Lock = bits_of_text (codes "11000101")
+code_of kinds.Access = bits_of_text (codes "11000110")
+code_of kinds.BlockWrite = bits_of_text (codes "11000111")
+code_of kinds.BlockErase = bits_of_text (codes "11001000")
 
 -- ... as the first field of a command
 abbrev pub code_field : CommandKind → List Part

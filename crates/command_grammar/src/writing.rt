@@ -99,7 +99,8 @@ pub(crate) fn put_crc16(out: &mut Bits)
 /// Adds the tag's RN16 or handle and the CRC-16, with which each access command ends.
 pub(crate) fn put_handle(out: &mut Bits, rn: u16)
     requires { length out.old.items + 32 ≤ out.old.capacity }
-    ensures items { out.new.items ≡ (out.old.items ++ field_of rn 16) ++ crc16_of (out.old.items ++ field_of rn 16) }
+    ensures items { out.new.items ≡ (out.old.items ++ field_of rn 16)
+        ++ crc16_of (out.old.items ++ field_of rn 16) }
     ensures capacity { out.new.capacity ≡ out.old.capacity }
 {
     put_word(out, rn);

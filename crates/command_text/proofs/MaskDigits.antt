@@ -2,7 +2,7 @@
 use Rattle.std.proofs.Common.{◌≡◌, ◌≢◌, ◌<◌, ◌≤◌, ℕ, Bool, List, [], ◌∷◌, ◌++◌, length, map, ap, arith, refl, sym, ◌∙◌, append_assoc}
 use Rattle.std.proofs.lemmas.List.{append-nil, length-append, length-map}
 use Rattle.text_fields.specs.Binary.{binary_digit, bits_of_digits}
-use Rattle.text_fields.specs.laws.BinaryLaws.{bits_of_digits-map}
+use Rattle.text_fields.proofs.BinaryLaws.{bits_of_digits-map}
 
 map-push : (bits : List Bool) (bit : Bool) → map binary_digit (bits ++ bit ∷ []) ≡ map binary_digit bits ++ binary_digit bit ∷ []
 map-push [] bit = refl

@@ -1,7 +1,7 @@
 -- The digits of a Lock's payload.
 use Rattle.std.proofs.Common.{◌≡◌, ◌<◌, ◌≤◌, ◌^◌, ◌+◌, ◌*◌, ◌/◌, ◌%◌, ℕ, List, [], ◌∷◌, take, drop, ap, arith, refl, sym, ◌∙◌, length, Option, Some, None, IfSome, IsNone, IsSomeAnd}
 use Rattle.text_fields.specs.Hexadecimal.{hex_digit, hex_word}
-use Rattle.text_fields.specs.laws.ToldApart.{hex_word_told}
+use Rattle.text_fields.proofs.ToldApart.{hex_word_told}
 use Rattle.command_text.specs.CommandText.{payload_digits}
 
 -- the first four digits spell a word

@@ -172,21 +172,21 @@ abbrev pub IsFaultyCommand : List (List ℕ) → FieldsFault → Type 0
 IsFaultyCommand fields fault = AreFaulty commands IsLegalCommand fields fault
 
 -- Profile: the field in which a refused bit stands
-abbrev pub reason_word : Reason → List ℕ
-reason_word reasons.Code = codes "code"
-reason_word reasons.UpDn = codes "updn"
-reason_word reasons.Target = codes "target"
-reason_word reasons.Bank = codes "bank"
-reason_word reasons.Ebv = codes "ebv"
-reason_word reasons.Truncate = codes "truncate"
-reason_word reasons.KillBits = codes "killbits"
-reason_word reasons.Count = codes "count"
-reason_word reasons.Crc5 = codes "crc5"
-reason_word reasons.Crc16 = codes "crc16"
-reason_word reasons.Extra = codes "extra"
+abbrev pub refused_field_word : Reason → List ℕ
+refused_field_word reasons.Code = codes "code"
+refused_field_word reasons.UpDn = codes "updn"
+refused_field_word reasons.Target = codes "target"
+refused_field_word reasons.Bank = codes "bank"
+refused_field_word reasons.Ebv = codes "ebv"
+refused_field_word reasons.Truncate = codes "truncate"
+refused_field_word reasons.KillBits = codes "killbits"
+refused_field_word reasons.Count = codes "count"
+refused_field_word reasons.Crc5 = codes "crc5"
+refused_field_word reasons.Crc16 = codes "crc16"
+refused_field_word reasons.Extra = codes "extra"
 
 -- Profile: why bits are no command, as a line without its line feed: the place of the first bit that no command has there
 -- and the field in which it stands, or the number of bits, which begin a command and are none
 abbrev pub command_refusal_line : CommandRefusal → List ℕ
-command_refusal_line (At place reason) = line_with (codes "refused" ∷ decimal place ∷ reason_word reason ∷ [])
+command_refusal_line (At place reason) = line_with (codes "refused" ∷ decimal place ∷ refused_field_word reason ∷ [])
 command_refusal_line (Short count) = line_with (codes "short" ∷ decimal count ∷ [])

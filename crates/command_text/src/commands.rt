@@ -27,7 +27,8 @@ use text_fields::{
 /// mask too or a hyphen where it is empty, words in four upper-case hexadecimal digits and the payload of
 /// a Lock in five.
 pub fn push_command(text: &mut String, command: &Command) -> Result<(), OutOfMemory>
-    ensures { OnOk result (string_bytes text.new ≡ string_bytes text.old ++ command_line command.now) }
+    ensures { OnOk result (string_bytes text.new ≡ string_bytes text.old
+        ++ command_line command.now) }
 {
     match command {
         Command::QueryRep { session } => push_session(text, "queryrep", session),
@@ -86,7 +87,8 @@ pub fn push_command(text: &mut String, command: &Command) -> Result<(), OutOfMem
 
 /// Writes the name of a command and the session.
 fn push_session(text: &mut String, name: &str, session: &Session) -> Result<(), OutOfMemory>
-    ensures { OnOk result (string_bytes text.new ≡ string_bytes text.old ++ line_with (name.now ∷ decimal session.now ∷ [])) }
+    ensures { OnOk result (string_bytes text.new ≡ string_bytes text.old
+        ++ line_with (name.now ∷ decimal session.now ∷ [])) }
 {
     push_named_number(text, name, u32::from(session.get()))
 }
@@ -111,7 +113,8 @@ fn push_round(
     q: &QValue,
 ) -> Result<(), OutOfMemory>
     ensures { OnOk result (string_bytes text.new ≡ string_bytes text.old
-        ++ space ∷ line_with (sel_word sel ∷ decimal session.now ∷ side_word target ∷ decimal q.now ∷ [])) }
+        ++ space ∷ line_with
+        (sel_word sel ∷ decimal session.now ∷ side_word target ∷ decimal q.now ∷ [])) }
 {
     push_next_name(text, sel_name(sel))?;
     push_next_number(text, u32::from(session.get()))?;
@@ -155,7 +158,8 @@ fn push_place(
     bank: Bank,
     pointer: &Pointer,
 ) -> Result<(), OutOfMemory>
-    ensures { OnOk result (string_bytes text.new ≡ string_bytes text.old ++ line_with (name.now ∷ bank_word bank ∷ decimal pointer.now ∷ [])) }
+    ensures { OnOk result (string_bytes text.new ≡ string_bytes text.old
+        ++ line_with (name.now ∷ bank_word bank ∷ decimal pointer.now ∷ [])) }
 {
     text.push_str(name)?;
     push_next_name(text, bank_name(bank))?;
@@ -173,7 +177,8 @@ fn push_counted(
     rn: u16,
 ) -> Result<(), OutOfMemory>
     ensures { OnOk result (string_bytes text.new ≡ string_bytes text.old
-        ++ line_with (name.now ∷ bank_word bank ∷ decimal pointer.now ∷ decimal count ∷ hex_word rn ∷ [])) }
+        ++ line_with (name.now ∷ bank_word bank ∷ decimal pointer.now ∷ decimal count ∷ hex_word
+        rn ∷ [])) }
 {
     push_place(text, name, bank, pointer)?;
     push_next_number(text, u32::from(count))?;
@@ -198,7 +203,8 @@ fn push_write(
 
 /// Writes the name of a command, the covered half of a password, and the tag's handle.
 fn push_half(text: &mut String, name: &str, covered: u16, rn: u16) -> Result<(), OutOfMemory>
-    ensures { OnOk result (string_bytes text.new ≡ string_bytes text.old ++ line_with (name.now ∷ hex_word covered ∷ hex_word rn ∷ [])) }
+    ensures { OnOk result (string_bytes text.new ≡ string_bytes text.old
+        ++ line_with (name.now ∷ hex_word covered ∷ hex_word rn ∷ [])) }
 {
     push_named_word(text, name, covered)?;
     push_next_word(text, rn)

@@ -18,10 +18,12 @@ pub(crate) fn command_named(name: &[u8]) -> Option<CommandKind>
 /// The command of this name, where it is Select or a command of an inventory round.
 fn other_command_named(name: &[u8]) -> Option<CommandKind>
     ensures value { IfSome result (λ kind. name.now ≡ command_name kind) }
-    ensures query_rep { name.now ≡ command_name CommandKind.QueryRep → result ≡ Some CommandKind.QueryRep }
+    ensures query_rep { name.now ≡ command_name CommandKind.QueryRep
+        → result ≡ Some CommandKind.QueryRep }
     ensures ack { name.now ≡ command_name CommandKind.Ack → result ≡ Some CommandKind.Ack }
     ensures query { name.now ≡ command_name CommandKind.Query → result ≡ Some CommandKind.Query }
-    ensures query_adjust { name.now ≡ command_name CommandKind.QueryAdjust → result ≡ Some CommandKind.QueryAdjust }
+    ensures query_adjust { name.now ≡ command_name CommandKind.QueryAdjust
+        → result ≡ Some CommandKind.QueryAdjust }
     ensures select { name.now ≡ command_name CommandKind.Select → result ≡ Some CommandKind.Select }
     ensures nak { name.now ≡ command_name CommandKind.Nak → result ≡ Some CommandKind.Nak }
 {
@@ -47,8 +49,10 @@ fn access_command_named(name: &[u8]) -> Option<CommandKind>
     ensures kill { name.now ≡ command_name CommandKind.Kill → result ≡ Some CommandKind.Kill }
     ensures lock { name.now ≡ command_name CommandKind.Lock → result ≡ Some CommandKind.Lock }
     ensures access { name.now ≡ command_name CommandKind.Access → result ≡ Some CommandKind.Access }
-    ensures block_write { name.now ≡ command_name CommandKind.BlockWrite → result ≡ Some CommandKind.BlockWrite }
-    ensures block_erase { name.now ≡ command_name CommandKind.BlockErase → result ≡ Some CommandKind.BlockErase }
+    ensures block_write { name.now ≡ command_name CommandKind.BlockWrite
+        → result ≡ Some CommandKind.BlockWrite }
+    ensures block_erase { name.now ≡ command_name CommandKind.BlockErase
+        → result ≡ Some CommandKind.BlockErase }
 {
     match name {
         b"req_rn" => Some(CommandKind::ReqRn),

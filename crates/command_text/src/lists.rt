@@ -10,7 +10,8 @@ use text_fields::{list_digits, words_from};
 /// The mask of at most 255 bits that a field spells.
 pub fn mask_of(field: &[u8]) -> Option<Mask>
     ensures value { IfSome result (λ mask. (field.now ≡ binary mask) × (length mask ≤ 255)) }
-    ensures only { (bits : List Bool) → length bits ≤ 255 → field.now ≡ binary bits → IsSomeAnd result (λ mask. mask ≡ bits) }
+    ensures only { (bits : List Bool) → length bits ≤ 255 → field.now ≡ binary bits
+        → IsSomeAnd result (λ mask. mask ≡ bits) }
 {
     mask_of_digits(list_digits(field)?)
 }
@@ -19,7 +20,8 @@ pub fn mask_of(field: &[u8]) -> Option<Mask>
 /// first.
 fn split_bit(digits: &[u8]) -> Option<(bool, &[u8])>
     ensures value { IfSome result (λ it. digits.now ≡ binary_digit it.0 ∷ it.1.now) }
-    ensures none { IfNone result ((bit : Bool) (behind : List ℕ) → digits.now ≢ binary_digit bit ∷ behind) }
+    ensures none { IfNone result
+        ((bit : Bool) (behind : List ℕ) → digits.now ≢ binary_digit bit ∷ behind) }
 {
     match digits {
         [b'0', behind @ ..] => Some((false, behind)),
@@ -30,8 +32,10 @@ fn split_bit(digits: &[u8]) -> Option<(bool, &[u8])>
 
 /// The mask of these digits; none exactly where a byte is no digit, or there are more than 255.
 fn mask_of_digits(digits: &[u8]) -> Option<Mask>
-    ensures value { IfSome result (λ mask. (digits.now ≡ map binary_digit mask) × (length mask ≤ 255)) }
-    ensures only { (bits : List Bool) → length bits ≤ 255 → digits.now ≡ map binary_digit bits → IsSomeAnd result (λ mask. mask ≡ bits) }
+    ensures value { IfSome result
+        (λ mask. (digits.now ≡ map binary_digit mask) × (length mask ≤ 255)) }
+    ensures only { (bits : List Bool) → length bits ≤ 255 → digits.now ≡ map binary_digit bits
+        → IsSomeAnd result (λ mask. mask ≡ bits) }
 {
     let mut mask = Mask::new();
     let mut rest = digits;
@@ -46,8 +50,10 @@ fn mask_of_digits(digits: &[u8]) -> Option<Mask>
 
 /// The block of 1 to 255 words that a field spells.
 pub fn block_of(field: &[u8]) -> Option<BlockWords>
-    ensures value { IfSome result (λ block. (field.now ≡ hex_words block) × IsWordList 1 255 block) }
-    ensures only { (words : List ℕ) → IsWordList 1 255 words → field.now ≡ hex_words words → IsSomeAnd result (λ block. block ≡ words) }
+    ensures value { IfSome result
+        (λ block. (field.now ≡ hex_words block) × IsWordList 1 255 block) }
+    ensures only { (words : List ℕ) → IsWordList 1 255 words → field.now ≡ hex_words words
+        → IsSomeAnd result (λ block. block ≡ words) }
 {
     let words = words_from(field, 1, 255)?;
     let mut room = [0_u16; 255];

@@ -1,7 +1,7 @@
 //! The words that stand for the choices in a command, written and read; and those for the reasons of a refusal.
 ghost use Rattle.std.specs.Prelude.{◌≡◌, [], ◌∷◌, IfSome, Some};
 ghost use Rattle.text_fields.specs.Binary.{binary_digit};
-ghost use Rattle.command_text.specs.CommandText.{bank_word, flag_word, mask_bank_word, reason_word, sel_word, side_letter, side_word, updn_word};
+ghost use Rattle.command_text.specs.CommandText.{bank_word, flag_word, mask_bank_word, refused_field_word, sel_word, side_letter, side_word, updn_word};
 
 use command_grammar::{Bank, FlagName, MaskBank, Reason, Sel, Side, UpDn};
 
@@ -174,7 +174,7 @@ pub fn bank_named(field: &[u8]) -> Option<Bank>
 
 /// The name of a reason.
 pub(crate) fn reason_name(reason: Reason) -> &'static str
-    ensures { result.now ≡ reason_word reason }
+    ensures { result.now ≡ refused_field_word reason }
 {
     match reason {
         Reason::Code => "code",

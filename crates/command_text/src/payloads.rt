@@ -10,8 +10,10 @@ use text_fields::{push_hex_digit, push_word, word};
 /// The payload of a Lock that a field spells in five digits. The first digit is that of the word which
 /// the first four spell.
 pub fn payload_of(field: &[u8]) -> Option<Payload>
-    ensures value { IfSome result (λ payload. (field.now ≡ payload_digits payload) × (payload ≤ 1048575)) }
-    ensures only { (n : ℕ) → n ≤ 1048575 → field.now ≡ payload_digits n → IsSomeAnd result (λ payload. payload ≡ n) }
+    ensures value { IfSome result
+        (λ payload. (field.now ≡ payload_digits payload) × (payload ≤ 1048575)) }
+    ensures only { (n : ℕ) → n ≤ 1048575 → field.now ≡ payload_digits n
+        → IsSomeAnd result (λ payload. payload ≡ n) }
 {
     if field.len() != 5 {
         return None;
@@ -26,7 +28,8 @@ pub fn payload_of(field: &[u8]) -> Option<Payload>
 /// Writes the payload of a Lock as the next field, in five upper-case hexadecimal digits. After an error
 /// the text may hold a part of it.
 pub fn push_next_payload(text: &mut String, payload: &Payload) -> Result<(), OutOfMemory>
-    ensures { OnOk result (string_bytes text.new ≡ string_bytes text.old ++ space ∷ payload_digits payload.now) }
+    ensures { OnOk result (string_bytes text.new ≡ string_bytes text.old
+        ++ space ∷ payload_digits payload.now) }
 {
     let number = payload.get();
     text.push(' ')?;

@@ -22,7 +22,9 @@ use text_fields::{Fields, FieldsFault, are_filled, is_at_end};
 /// Puts in place of another the command that the fields behind its name spell.
 fn read_behind_to(kind: CommandKind, fields: Fields, command: &mut Command) -> Option<()>
     ensures value { IsSome result → IsCommandBehind kind fields.entry command.new }
-    ensures none { IfNone result (AreFilled (command_field_count kind) fields.entry → (other : Command) → ¬ IsCommandBehind kind fields.entry other) }
+    ensures none { IfNone result
+        (AreFilled (command_field_count kind) fields.entry → (other : Command)
+        → ¬ IsCommandBehind kind fields.entry other) }
 {
     match kind {
         CommandKind::QueryRep => {
@@ -80,7 +82,8 @@ pub fn read_command_to(fields: Fields, command: &mut Command) -> Result<(), Fiel
     // What is read is spelled so.
     ensures ok { IsOk result → IsCommandText fields.entry command.new }
     // What is spelled so is read.
-    ensures only { (spelled : Command) → IsCommandText fields.entry spelled → IsOk result × (command.new ≡ spelled) }
+    ensures only { (spelled : Command) → IsCommandText fields.entry spelled → IsOk result
+        × (command.new ≡ spelled) }
     ensures refused { IfErr result (IsFaultyCommand fields.entry) }
     ensures err { OnErr result (command.new ≡ Nak) }
 {
@@ -96,7 +99,8 @@ pub fn read_command_to(fields: Fields, command: &mut Command) -> Result<(), Fiel
 /// Puts in place of another the command that fields spell; after a refusal some of it may stand there.
 fn read_named_to(mut fields: Fields, command: &mut Command) -> Result<(), FieldsFault>
     ensures ok { IsOk result → IsCommandText fields.entry command.new }
-    ensures only { (spelled : Command) → IsCommandText fields.entry spelled → IsOk result × (command.new ≡ spelled) }
+    ensures only { (spelled : Command) → IsCommandText fields.entry spelled → IsOk result
+        × (command.new ≡ spelled) }
     ensures refused { IfErr result (IsFaultyCommand fields.entry) }
 {
     let Some(name) = fields.next() else {
@@ -120,7 +124,8 @@ fn read_named_to(mut fields: Fields, command: &mut Command) -> Result<(), Fields
 /// As for [`read_command_to`].
 pub fn read_command(fields: Fields) -> Result<Command, FieldsFault>
     ensures ok { IfOk result (IsCommandText fields.entry) }
-    ensures only { (command : Command) → IsCommandText fields.entry command → IsOkAnd result (λ it. it ≡ command) }
+    ensures only { (command : Command) → IsCommandText fields.entry command
+        → IsOkAnd result (λ it. it ≡ command) }
     ensures refused { IfErr result (IsFaultyCommand fields.entry) }
 {
     let mut command = Command::Nak;

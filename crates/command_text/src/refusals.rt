@@ -14,7 +14,8 @@ use text_fields::{push_named_number, push_next_name};
 /// Profile: `refused` with the place, counted from 0, and the name of the field, or `short` with the
 /// number of the bits.
 pub fn push_command_refusal(text: &mut String, refusal: CommandRefusal) -> Result<(), OutOfMemory>
-    ensures { OnOk result (string_bytes text.new ≡ string_bytes text.old ++ command_refusal_line refusal) }
+    ensures { OnOk result (string_bytes text.new ≡ string_bytes text.old
+        ++ command_refusal_line refusal) }
 {
     match refusal {
         CommandRefusal::At(place, reason) => {

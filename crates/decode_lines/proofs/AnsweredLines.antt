@@ -6,11 +6,11 @@ use Rattle.text_fields.specs.Lines.{Lacks, line_feed}
 use Rattle.checked_lines.specs.declared.fault.FaultyLine.{FaultyLine}
 use Rattle.checked_lines.specs.laws.AnsweredLines.{answers_none}
 use Rattle.decode_lines.specs.Answer.{decode_rules}
-use Rattle.decode_lines.specs.Answered.{Stands}
+use Rattle.decode_lines.specs.Answered.{AnsweredSoFar}
 use Rattle.decode_lines.specs.DecodeLines.{IsFirstFault}
 
 -- before the first piece
-pub begins : (part text : List ℕ) → part ≡ [] → text ≡ [] → Stands None [] part text 1
+pub begins : (part text : List ℕ) → part ≡ [] → text ≡ [] → AnsweredSoFar None [] part text 1
 begins part text no_part no_text = rw no_part (answers_none decode_rules [] text no_text, All-nil (λ byte. byte ≢ line_feed))
 
 -- a line whose first part came before
@@ -21,13 +21,13 @@ pub line_lacks : (part end : List ℕ) → Lacks line_feed part → Lacks line_f
 line_lacks part end before lacks = All-append (λ byte. byte ≢ line_feed) part end before lacks
 
 -- a fault that is known is that of the input, if nothing more comes
-pub fault_known : (fault : Option FaultyLine) (known : FaultyLine) (input part text : List ℕ) (number : ℕ) → fault ≡ Some known → Stands fault input part text number → IsFirstFault input known
+pub fault_known : (fault : Option FaultyLine) (known : FaultyLine) (input part text : List ℕ) (number : ℕ) → fault ≡ Some known → AnsweredSoFar fault input part text number → IsFirstFault input known
 fault_known fault known input part text number is stands =
-    let told : Stands (Some known) input part text number = rw is at stands in
+    let told : AnsweredSoFar (Some known) input part text number = rw is at stands in
     subst (λ bytes. IsFirstFault bytes known) (append-nil input) (told [])
 
 -- where none is known the lines so far are answered
-pub none_known : (fault : Option FaultyLine) (input part text : List ℕ) (number : ℕ) → fault ≡ None → Stands fault input part text number → Stands None input part text number
+pub none_known : (fault : Option FaultyLine) (input part text : List ℕ) (number : ℕ) → fault ≡ None → AnsweredSoFar fault input part text number → AnsweredSoFar None input part text number
 none_known fault input part text number is stands = rw is at stands
 
 -- what is said of a refusal holds of its reason

@@ -7,17 +7,17 @@ use Rattle.line_code.specs.laws.Streams.{refused_is_none, same_answer as same_st
 use Rattle.line_code.specs.declared.refusal.LineRefusal.{LineRefusal}
 use Rattle.line_codes.specs.Codes.{table_of}
 use Rattle.sample_slicer.specs.declared.slicer.SliceRefusal.{SliceRefusal}
-use Rattle.sample_slicer.specs.laws.Samples.{same_answer as same_samples_answer}
+use Rattle.sample_slicer.proofs.Samples.{same_answer as same_samples_answer}
 use Rattle.reply_grammar.specs.declared.expected.Expect.{Expect}
 use Rattle.reply_grammar.specs.declared.expected.Reply.{Reply}
 use Rattle.reply_grammar.specs.declared.expected.ReplyRefusal.{ReplyRefusal}
 use Rattle.reply_grammar.specs.declared.expected.Received.{Received}
 use Rattle.reply_grammar.specs.laws.Passing.{answers_pass}
-use Rattle.reply_grammar.specs.laws.Replies.{one_reply, one_fault, passes_apart}
-use Rattle.reply_wire.specs.laws.ReceivedLaws.{same_bits, same_received}
+use Rattle.reply_grammar.proofs.Replies.{one_reply, one_fault, passes_apart}
+use Rattle.reply_wire.proofs.ReceivedLaws.{same_bits, same_received}
 use Rattle.pie_line.specs.declared.frame.FrameKind.{FrameKind}
 use Rattle.pie_line.specs.declared.frame.PieRefusal.{PieRefusal}
-use Rattle.pie_line.specs.laws.Frames.{frame-one, refusal-one, refuses-no_frame}
+use Rattle.pie_line.proofs.Frames.{frame-one, refusal-one, refuses-no_frame}
 use Rattle.command_grammar.specs.Commands.{IsFinishAnswer}
 use Rattle.command_grammar.specs.declared.commands.Command.{Command}
 use Rattle.command_grammar.specs.declared.refusal.CommandRefusal.{CommandRefusal}

@@ -5,7 +5,7 @@ use Rattle.std.specs.Str.{bytes_eq}
 use Rattle.std.proofs.lemmas.List.Elements.{All-nil, All-cons, All-head, All-tail}
 use Rattle.std.proofs.lemmas.List.{length-map}
 use Rattle.reply_text.specs.ReplyText.{expect_word}
-use Rattle.reply_text.specs.laws.FieldTexts.{expect_word_is_field_text}
+use Rattle.reply_text.proofs.FieldTexts.{expect_word_is_field_text}
 use Rattle.std.specs.List.{All}
 use Rattle.text_fields.specs.Lines.{fields_of}
 use Rattle.text_fields.specs.Binary.{binary, binary_digit}
@@ -15,7 +15,7 @@ use Rattle.bit_strings.specs.declared.code.Code.TheVariants.{Fm0, M2, M4, M8}
 use Rattle.hex.specs.Hex.{decode_of}
 use Rattle.hex.proofs.OnLiterals.{hex_on_literals}
 use Rattle.std.specs.Fmt.{decimal}
-use Rattle.text_fields.specs.laws.FieldTextLaws.{IsFieldText-decimal, IsFieldText-binary, IsFieldText-hex_words}
+use Rattle.text_fields.proofs.FieldTextLaws.{IsFieldText-decimal, IsFieldText-binary, IsFieldText-hex_words}
 use Rattle.text_fields.specs.Hexadecimal.{hex_words}
 use Rattle.decode_lines.specs.Request.{most_intervals, request_word, HasShape, request_kind, AreSpelled, IsWithinLimits, AsksBehind, AsksForRequest, AreFaulty, IsFaultyRequest}
 use Rattle.decode_lines.specs.declared.request.RequestKind.{RequestKind}

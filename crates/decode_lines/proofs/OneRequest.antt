@@ -5,11 +5,11 @@ use Rattle.std.specs.Fmt.{decimal}
 use Rattle.std.proofs.lemmas.List.Elements.{All-head, All-tail}
 use Rattle.text_fields.specs.Binary.{binary, binary_digit}
 use Rattle.text_fields.specs.CodeNames.{code_word}
-use Rattle.text_fields.specs.laws.ToldApart.{decimal_told, binary_told, hex_words_told}
+use Rattle.text_fields.proofs.ToldApart.{decimal_told, binary_told, hex_words_told}
 use Rattle.text_fields.specs.Hexadecimal.{hex_words}
 use Rattle.bit_strings.specs.declared.code.Code.{Code}
 use Rattle.reply_text.specs.ReplyText.{expect_word}
-use Rattle.reply_text.specs.laws.ToldApart.{expect_told}
+use Rattle.reply_text.proofs.ToldApart.{expect_told}
 use Rattle.decode_lines.specs.Request.{request_kind, AreSpelled, IsWithinLimits, AsksForRequest}
 use Rattle.decode_lines.specs.declared.request.RequestKind.TheVariants.{Stream as StreamKind}
 use Rattle.decode_lines.specs.declared.request.Request.{Request}

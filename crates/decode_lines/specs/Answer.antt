@@ -85,29 +85,29 @@ with_left left (Ok done) = Ok (left done)
 with_left left (Err refusal) = Err refusal
 
 -- an answer as a line, with its line feed
-abbrev pub answer_line : Answer → List ℕ
-answer_line (streamed (Ok bits)) = codes "bits " ++ binary bits ++ line_feed ∷ []
-answer_line (streamed (Err (Invalid place))) = codes "invalid " ++ decimal place ++ line_feed ∷ []
-answer_line (streamed (Err (Unfinished count))) = codes "unfinished " ++ decimal count ++ line_feed ∷ []
-answer_line (sliced (Ok levels)) = codes "levels " ++ binary levels ++ line_feed ∷ []
-answer_line (sliced (Err (Mixed place))) = codes "mixed " ++ decimal place ++ line_feed ∷ []
-answer_line (sliced (Err (Rest place))) = codes "rest " ++ decimal place ++ line_feed ∷ []
-answer_line (replied (Ok reply)) = reply_line reply ++ line_feed ∷ []
-answer_line (replied (Err refusal)) = refusal_line refusal ++ line_feed ∷ []
-answer_line (heard (Whole reply)) = reply_line reply ++ line_feed ∷ []
-answer_line (heard (Refused place)) = codes "refused " ++ decimal place ++ line_feed ∷ []
-answer_line (framed (Ok frame)) = frame_line frame.0 frame.1 ++ line_feed ∷ []
-answer_line (framed (Err refusal)) = pie_refusal_line refusal ++ line_feed ∷ []
-answer_line (commanded (Ok command)) = command_line command ++ line_feed ∷ []
-answer_line (commanded (Err refusal)) = command_refusal_line refusal ++ line_feed ∷ []
-answer_line (named (Ok sgtin)) = name_line sgtin ++ line_feed ∷ []
-answer_line (named (Err fault)) = epc_fault_line fault ++ line_feed ∷ []
-answer_line (worded (Ok words)) = sgtin_words_line words ++ line_feed ∷ []
-answer_line (worded (Err fault)) = uri_fault_line fault ++ line_feed ∷ []
+abbrev pub line_of_answer : Answer → List ℕ
+line_of_answer (streamed (Ok bits)) = codes "bits " ++ binary bits ++ line_feed ∷ []
+line_of_answer (streamed (Err (Invalid place))) = codes "invalid " ++ decimal place ++ line_feed ∷ []
+line_of_answer (streamed (Err (Unfinished count))) = codes "unfinished " ++ decimal count ++ line_feed ∷ []
+line_of_answer (sliced (Ok levels)) = codes "levels " ++ binary levels ++ line_feed ∷ []
+line_of_answer (sliced (Err (Mixed place))) = codes "mixed " ++ decimal place ++ line_feed ∷ []
+line_of_answer (sliced (Err (Rest place))) = codes "rest " ++ decimal place ++ line_feed ∷ []
+line_of_answer (replied (Ok reply)) = reply_line reply ++ line_feed ∷ []
+line_of_answer (replied (Err refusal)) = refusal_line refusal ++ line_feed ∷ []
+line_of_answer (heard (Whole reply)) = reply_line reply ++ line_feed ∷ []
+line_of_answer (heard (Refused place)) = codes "refused " ++ decimal place ++ line_feed ∷ []
+line_of_answer (framed (Ok frame)) = frame_line frame.0 frame.1 ++ line_feed ∷ []
+line_of_answer (framed (Err refusal)) = pie_refusal_line refusal ++ line_feed ∷ []
+line_of_answer (commanded (Ok command)) = command_line command ++ line_feed ∷ []
+line_of_answer (commanded (Err refusal)) = command_refusal_line refusal ++ line_feed ∷ []
+line_of_answer (named (Ok sgtin)) = name_line sgtin ++ line_feed ∷ []
+line_of_answer (named (Err fault)) = epc_fault_line fault ++ line_feed ∷ []
+line_of_answer (worded (Ok words)) = sgtin_words_line words ++ line_feed ∷ []
+line_of_answer (worded (Err fault)) = uri_fault_line fault ++ line_feed ∷ []
 
 -- what is said of one decode line
 abbrev pub decode_rules : LineRules Request Answer
-decode_rules = record { asks = AsksForRequest; is_faulty = IsFaultyRequest; answers = IsLineAnswer; line_of = answer_line }
+decode_rules = record { asks = AsksForRequest; is_faulty = IsFaultyRequest; answers = IsLineAnswer; line_of = line_of_answer }
 
 -- the text is the one before with the line of the request's answer at its end
 abbrev pub AddsAnswer : Request → (old new : List ℕ) → Type 0

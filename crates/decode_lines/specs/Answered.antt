@@ -8,6 +8,6 @@ use Rattle.decode_lines.specs.DecodeLines.{IsFirstFault}
 
 -- the lines so far are answered, and the part of a line stands behind them; or one of them is the first faulty line, whatever
 -- comes behind them
-abbrev pub Stands : Option FaultyLine → (input part text : List ℕ) → (number : ℕ) → Type 0
-Stands None input part text number = AnswersTo decode_rules input part text number × Lacks line_feed part
-Stands (Some fault) input part text number = (more : List ℕ) → IsFirstFault (input ++ more) fault
+abbrev pub AnsweredSoFar : Option FaultyLine → (input part text : List ℕ) → (number : ℕ) → Type 0
+AnsweredSoFar None input part text number = AnswersTo decode_rules input part text number × Lacks line_feed part
+AnsweredSoFar (Some fault) input part text number = (more : List ℕ) → IsFirstFault (input ++ more) fault

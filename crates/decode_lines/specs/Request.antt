@@ -18,8 +18,8 @@ use Rattle.pie_line.specs.Pie.{longest_interval}
 use Rattle.sample_slicer.specs.Samples.{most_samples}
 
 -- the most bits of a reply or a command
-abbrev pub most_bits : ℕ
-most_bits = 8240
+abbrev pub most_wire_bits : ℕ
+most_wire_bits = 8240
 
 -- the most intervals of a frame
 abbrev pub most_intervals : ℕ
@@ -89,10 +89,10 @@ abbrev pub IsWithinLimits : Request → Type 0
 IsWithinLimits (Stream code trext levels) = length levels ≤ most_levels
 IsWithinLimits (Samples threshold per_level samples) =
     (threshold ≤ 255) × (1 ≤ per_level) × (per_level ≤ 64) × (1 ≤ length samples) × (length samples ≤ most_samples)
-IsWithinLimits (Reply expect bits) = IsExpect expect × (length bits ≤ most_bits)
+IsWithinLimits (Reply expect bits) = IsExpect expect × (length bits ≤ most_wire_bits)
 IsWithinLimits (Heard code trext expect levels) = IsExpect expect × (length levels ≤ most_levels)
 IsWithinLimits (Pie intervals) = (1 ≤ length intervals) × (length intervals ≤ most_intervals) × All (λ interval. interval ≤ longest_interval) intervals
-IsWithinLimits (Command bits) = length bits ≤ most_bits
+IsWithinLimits (Command bits) = length bits ≤ most_wire_bits
 IsWithinLimits (Sgtin words) = (1 ≤ length words) × (length words ≤ 31) × All (λ word. word < 2 ^ 16) words
 IsWithinLimits (Uri text) = text ≢ []
 

@@ -57,8 +57,11 @@ impl Workspace {
         line: &[u8],
         text: &mut String,
     ) -> Result<Result<(), FaultReason>, OutOfMemory>
-        ensures ok { IfOk result (λ answered. OnOk answered (AnswersLine line.now (string_bytes text.old) (string_bytes text.new))) }
-        ensures refused { IfOk result (λ answered. IfErr answered (IsFaultyRequest (fields_of line.now))) }
+        ensures ok { IfOk result
+            (λ answered. OnOk answered
+            (AnswersLine line.now (string_bytes text.old) (string_bytes text.new))) }
+        ensures refused { IfOk result
+            (λ answered. IfErr answered (IsFaultyRequest (fields_of line.now))) }
     {
         match kind_of_line(line) {
             None => Ok(Err(FaultReason::Word)),
@@ -74,8 +77,12 @@ impl Workspace {
         others: Fields,
         text: &mut String,
     ) -> Result<Result<(), FaultReason>, OutOfMemory>
-        ensures ok { IfOk result (λ answered. OnOk answered (AnswersBehind RequestKind.Pie others.entry (string_bytes text.old) (string_bytes text.new))) }
-        ensures refused { IfOk result (λ answered. IfErr answered (AreFaulty RequestKind.Pie others.entry)) }
+        ensures ok { IfOk result
+            (λ answered. OnOk answered
+            (AnswersBehind RequestKind.Pie others.entry (string_bytes text.old)
+            (string_bytes text.new))) }
+        ensures refused { IfOk result
+            (λ answered. IfErr answered (AreFaulty RequestKind.Pie others.entry)) }
     {
         if let Err(reason) = read_intervals(others, &mut self.intervals) {
             return Ok(Err(reason));
@@ -95,8 +102,12 @@ impl Workspace {
         others: Fields,
         text: &mut String,
     ) -> Result<Result<(), FaultReason>, OutOfMemory>
-        ensures ok { IfOk result (λ answered. OnOk answered (AnswersBehind (RequestKind.Stream code) others.entry (string_bytes text.old) (string_bytes text.new))) }
-        ensures refused { IfOk result (λ answered. IfErr answered (AreFaulty (RequestKind.Stream code) others.entry)) }
+        ensures ok { IfOk result
+            (λ answered. OnOk answered
+            (AnswersBehind (RequestKind.Stream code) others.entry (string_bytes text.old)
+            (string_bytes text.new))) }
+        ensures refused { IfOk result
+            (λ answered. IfErr answered (AreFaulty (RequestKind.Stream code) others.entry)) }
     {
         match read_stream(others.again(), &mut self.rooms.levels) {
             Some(trext) => {
@@ -115,7 +126,9 @@ impl Workspace {
         text: &mut String,
     ) -> Result<Result<(), FaultReason>, OutOfMemory>
         requires { kind ≢ RequestKind.Pie }
-        ensures ok { IfOk result (λ answered. OnOk answered (AnswersBehind kind others.entry (string_bytes text.old) (string_bytes text.new))) }
+        ensures ok { IfOk result
+            (λ answered. OnOk answered
+            (AnswersBehind kind others.entry (string_bytes text.old) (string_bytes text.new))) }
         ensures refused { IfOk result (λ answered. IfErr answered (AreFaulty kind others.entry)) }
     {
         let request = match request_of(kind, others) {
@@ -162,7 +175,8 @@ impl Rooms {
     /// Adds the answer to a request at the end of the text, as a line.
     fn answer(&mut self, request: &Request, text: &mut String) -> Result<(), OutOfMemory>
         requires limits { IsWithinLimits request.now }
-        ensures { OnOk result (AddsAnswer request.now (string_bytes text.old) (string_bytes text.new)) }
+        ensures { OnOk result
+            (AddsAnswer request.now (string_bytes text.old) (string_bytes text.new)) }
     {
         match request {
             Request::Stream {
@@ -198,7 +212,9 @@ impl Rooms {
         text: &mut String,
     ) -> Result<(), OutOfMemory>
         requires { length levels.now ≤ MOST_LEVELS }
-        ensures { OnOk result (AddsAnswer (Request.Stream code trext levels.now) (string_bytes text.old) (string_bytes text.new)) }
+        ensures { OnOk result
+            (AddsAnswer (Request.Stream code trext levels.now) (string_bytes text.old)
+            (string_bytes text.new)) }
     {
         levels.copy_to(&mut self.levels);
         self.answer_levels(code, trext, text)
@@ -212,7 +228,9 @@ impl Rooms {
         text: &mut String,
     ) -> Result<(), OutOfMemory>
         requires { length self.old.levels.items ≤ MOST_LEVELS }
-        ensures { OnOk result (AddsAnswer (Request.Stream code trext self.old.levels.items) (string_bytes text.old) (string_bytes text.new)) }
+        ensures { OnOk result
+            (AddsAnswer (Request.Stream code trext self.old.levels.items) (string_bytes text.old)
+            (string_bytes text.new)) }
     {
         let outcome = decode_levels(code, trext, &self.levels, &mut self.bits);
         push_outcome(text, outcome, &self.bits)
@@ -227,7 +245,9 @@ impl Rooms {
         text: &mut String,
     ) -> Result<(), OutOfMemory>
         requires { IsWithinLimits (Request.Samples threshold per_level samples.now) }
-        ensures { OnOk result (AddsAnswer (Request.Samples threshold per_level samples.now) (string_bytes text.old) (string_bytes text.new)) }
+        ensures { OnOk result
+            (AddsAnswer (Request.Samples threshold per_level samples.now) (string_bytes text.old)
+            (string_bytes text.new)) }
     {
         read_samples(samples, &mut self.samples)?;
         let outcome = slice_levels(&self.samples, threshold, per_level, &mut self.levels);
@@ -242,7 +262,9 @@ impl Rooms {
         text: &mut String,
     ) -> Result<(), OutOfMemory>
         requires { IsWithinLimits (Request.Reply expect.now bits.now) }
-        ensures { OnOk result (AddsAnswer (Request.Reply expect.now bits.now) (string_bytes text.old) (string_bytes text.new)) }
+        ensures { OnOk result
+            (AddsAnswer (Request.Reply expect.now bits.now) (string_bytes text.old)
+            (string_bytes text.new)) }
     {
         bits.copy_to(&mut self.bits);
         let outcome = decode_reply(&self.bits, expect);
@@ -259,7 +281,9 @@ impl Rooms {
         text: &mut String,
     ) -> Result<(), OutOfMemory>
         requires { IsWithinLimits (Request.Heard code trext expect.now levels.now) }
-        ensures { OnOk result (AddsAnswer (Request.Heard code trext expect.now levels.now) (string_bytes text.old) (string_bytes text.new)) }
+        ensures { OnOk result
+            (AddsAnswer (Request.Heard code trext expect.now levels.now) (string_bytes text.old)
+            (string_bytes text.new)) }
     {
         levels.copy_to(&mut self.levels);
         receive(
@@ -276,7 +300,9 @@ impl Rooms {
     /// Adds the frame that intervals are, or why they are none.
     fn answer_frame(&mut self, intervals: &Numbers, text: &mut String) -> Result<(), OutOfMemory>
         requires { IsWithinLimits (Request.Pie intervals.now) }
-        ensures { OnOk result (AddsAnswer (Request.Pie intervals.now) (string_bytes text.old) (string_bytes text.new)) }
+        ensures { OnOk result
+            (AddsAnswer (Request.Pie intervals.now) (string_bytes text.old)
+            (string_bytes text.new)) }
     {
         let outcome = decode_frame(intervals.list(), &mut self.bits);
         push_framed(text, &outcome, &self.bits)
@@ -285,7 +311,9 @@ impl Rooms {
     /// Adds the command that bits are, or why they are none.
     fn answer_command(&mut self, bits: &Digits, text: &mut String) -> Result<(), OutOfMemory>
         requires { IsWithinLimits (Request.Command bits.now) }
-        ensures { OnOk result (AddsAnswer (Request.Command bits.now) (string_bytes text.old) (string_bytes text.new)) }
+        ensures { OnOk result
+            (AddsAnswer (Request.Command bits.now) (string_bytes text.old)
+            (string_bytes text.new)) }
     {
         bits.copy_to(&mut self.bits);
         decode_command_to(self.bits.as_slice(), &mut self.command);
@@ -294,7 +322,8 @@ impl Rooms {
 
     /// Adds the trade item number that words carry, or why they carry none.
     fn answer_sgtin(&mut self, words: &Words, text: &mut String) -> Result<(), OutOfMemory>
-        ensures { OnOk result (AddsAnswer (Request.Sgtin words.now) (string_bytes text.old) (string_bytes text.new)) }
+        ensures { OnOk result
+            (AddsAnswer (Request.Sgtin words.now) (string_bytes text.old) (string_bytes text.new)) }
     {
         words.copy_to(&mut self.words)?;
         let outcome = Sgtin::decode(&self.words);
@@ -313,7 +342,8 @@ fn read_samples(samples: &HexBytes, out: &mut Vec<u8>) -> Result<(), OutOfMemory
 
 /// Adds the words of the trade item number that a URI names, or why it names none.
 fn answer_uri(uri: &RawField, text: &mut String) -> Result<(), OutOfMemory>
-    ensures { OnOk result (AddsAnswer (Request.Uri uri.now) (string_bytes text.old) (string_bytes text.new)) }
+    ensures { OnOk result (AddsAnswer (Request.Uri uri.now) (string_bytes text.old)
+        (string_bytes text.new)) }
 {
     let outcome = words_of_uri(uri.as_slice());
     push_worded(text, &outcome)
@@ -321,7 +351,8 @@ fn answer_uri(uri: &RawField, text: &mut String) -> Result<(), OutOfMemory>
 
 /// The words of the trade item number that a URI names, or why it names none.
 fn words_of_uri(uri: &[u8]) -> Result<[u16; 6], UriFault>
-    ensures ok { IfOk result (λ words. (sgtin : SgtinValue) × IsUriOf sgtin uri.now × IsSgtin sgtin words) }
+    ensures ok { IfOk result
+        (λ words. (sgtin : SgtinValue) × IsUriOf sgtin uri.now × IsSgtin sgtin words) }
     ensures refused { IfErr result (λ fault. RefusesUri fault uri.now) }
 {
     let sgtin = Sgtin::read_uri(uri)?;

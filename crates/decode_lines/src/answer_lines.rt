@@ -1,7 +1,7 @@
 //! What was read of a line, as the line that answers it.
 ghost use Rattle.std.specs.Prelude.{◌≡◌, ◌++◌, OnOk};
 ghost use Rattle.std.specs.String.{string_bytes};
-ghost use Rattle.decode_lines.specs.Answer.{answer_line, streamed, sliced, replied, heard, framed, commanded, named, worded, with_left};
+ghost use Rattle.decode_lines.specs.Answer.{line_of_answer, streamed, sliced, replied, heard, framed, commanded, named, worded, with_left};
 
 use bit_strings::{Bits, Levels, OutOfMemory};
 use command_grammar::{Command, CommandRefusal};
@@ -22,7 +22,8 @@ pub(crate) fn push_outcome(
     outcome: Result<(), LineRefusal>,
     bits: &Bits,
 ) -> Result<(), OutOfMemory>
-    ensures { OnOk result (string_bytes text.new ≡ string_bytes text.old ++ answer_line (streamed (with_left (λ done. bits.now.items) outcome))) }
+    ensures { OnOk result (string_bytes text.new ≡ string_bytes text.old
+        ++ line_of_answer (streamed (with_left (λ done. bits.now.items) outcome))) }
 {
     match outcome {
         Ok(()) => {
@@ -47,7 +48,8 @@ pub(crate) fn push_slicing(
     outcome: Result<(), SliceRefusal>,
     levels: &Levels,
 ) -> Result<(), OutOfMemory>
-    ensures { OnOk result (string_bytes text.new ≡ string_bytes text.old ++ answer_line (sliced (with_left (λ done. levels.now.items) outcome))) }
+    ensures { OnOk result (string_bytes text.new ≡ string_bytes text.old
+        ++ line_of_answer (sliced (with_left (λ done. levels.now.items) outcome))) }
 {
     match outcome {
         Ok(()) => {
@@ -71,7 +73,8 @@ pub(crate) fn push_replied(
     text: &mut String,
     outcome: &Result<Reply, ReplyRefusal>,
 ) -> Result<(), OutOfMemory>
-    ensures { OnOk result (string_bytes text.new ≡ string_bytes text.old ++ answer_line (replied outcome.now)) }
+    ensures { OnOk result (string_bytes text.new ≡ string_bytes text.old
+        ++ line_of_answer (replied outcome.now)) }
 {
     match outcome {
         Ok(reply) => push_reply(text, reply)?,
@@ -82,7 +85,8 @@ pub(crate) fn push_replied(
 
 /// Adds what was received, as a line.
 pub(crate) fn push_received(text: &mut String, received: &Received) -> Result<(), OutOfMemory>
-    ensures { OnOk result (string_bytes text.new ≡ string_bytes text.old ++ answer_line (heard received.now)) }
+    ensures { OnOk result (string_bytes text.new ≡ string_bytes text.old
+        ++ line_of_answer (heard received.now)) }
 {
     match received {
         Received::Whole(reply) => push_reply(text, reply)?,
@@ -100,7 +104,8 @@ pub(crate) fn push_framed(
     outcome: &Result<FrameKind, PieRefusal>,
     bits: &Bits,
 ) -> Result<(), OutOfMemory>
-    ensures { OnOk result (string_bytes text.new ≡ string_bytes text.old ++ answer_line (framed (with_left (λ kind. (kind, bits.now.items)) outcome.now))) }
+    ensures { OnOk result (string_bytes text.new ≡ string_bytes text.old
+        ++ line_of_answer (framed (with_left (λ kind. (kind, bits.now.items)) outcome.now))) }
 {
     match outcome {
         Ok(kind) => push_frame(text, kind, bits)?,
@@ -114,7 +119,8 @@ pub(crate) fn push_commanded(
     text: &mut String,
     outcome: &Result<Command, CommandRefusal>,
 ) -> Result<(), OutOfMemory>
-    ensures { OnOk result (string_bytes text.new ≡ string_bytes text.old ++ answer_line (commanded outcome.now)) }
+    ensures { OnOk result (string_bytes text.new ≡ string_bytes text.old
+        ++ line_of_answer (commanded outcome.now)) }
 {
     match outcome {
         Ok(command) => push_command(text, command)?,
@@ -128,7 +134,8 @@ pub(crate) fn push_named(
     text: &mut String,
     outcome: &Result<Sgtin, EpcFault>,
 ) -> Result<(), OutOfMemory>
-    ensures { OnOk result (string_bytes text.new ≡ string_bytes text.old ++ answer_line (named outcome.now)) }
+    ensures { OnOk result (string_bytes text.new ≡ string_bytes text.old
+        ++ line_of_answer (named outcome.now)) }
 {
     match outcome {
         Ok(sgtin) => push_name(text, sgtin)?,
@@ -142,7 +149,8 @@ pub(crate) fn push_worded(
     text: &mut String,
     outcome: &Result<[u16; 6], UriFault>,
 ) -> Result<(), OutOfMemory>
-    ensures { OnOk result (string_bytes text.new ≡ string_bytes text.old ++ answer_line (worded outcome.now)) }
+    ensures { OnOk result (string_bytes text.new ≡ string_bytes text.old
+        ++ line_of_answer (worded outcome.now)) }
 {
     match outcome {
         Ok(words) => push_sgtin_words(text, words)?,

@@ -19,8 +19,10 @@ use text_fields::split_line;
 
 /// Decode lines have at most one text of answers, and at most one fault line.
 pub fn decode_lines_have_one_text()
-    ensures answers { (bytes one other : List ℕ) → Decodes bytes one → Decodes bytes other → one ≡ other }
-    ensures fault_line { (bytes one other : List ℕ) → IsFaultText bytes one → IsFaultText bytes other → one ≡ other }
+    ensures answers { (bytes one other : List ℕ) → Decodes bytes one → Decodes bytes other
+        → one ≡ other }
+    ensures fault_line { (bytes one other : List ℕ) → IsFaultText bytes one
+        → IsFaultText bytes other → one ≡ other }
 {
     // The bits of a command line have one outcome, and so have words and URIs.
     one_outcome();
@@ -30,12 +32,14 @@ pub fn decode_lines_have_one_text()
 
 /// Where each line asks for something there is no faulty line.
 pub fn decode_lines_are_not_faulty()
-    ensures { (bytes : List ℕ) (fault : FaultyLine) → IsGrammatical bytes → IsFirstFault bytes fault → ⊥ }
+    ensures { (bytes : List ℕ) (fault : FaultyLine) → IsGrammatical bytes → IsFirstFault bytes fault
+        → ⊥ }
 {}
 
 /// Each request within its limits has an answer.
 pub fn requests_have_an_answer()
-    ensures { (request : Request) → IsWithinLimits request → (answer : Answer) × IsLineAnswer request answer }
+    ensures { (request : Request) → IsWithinLimits request → (answer : Answer)
+        × IsLineAnswer request answer }
 {
     code_laws();
     line_code::one_answer();
@@ -50,7 +54,8 @@ pub fn requests_have_an_answer()
 
 /// A line asks for something, or is faulty.
 fn lines_ask_or_are_faulty(line: &[u8])
-    ensures { ((request : Request) × AsksForRequest line.now request) ⊎ ((reason : FaultReason) × IsFaultyRequest (fields_of line.now) reason) }
+    ensures { ((request : Request) × AsksForRequest line.now request)
+        ⊎ ((reason : FaultReason) × IsFaultyRequest (fields_of line.now) reason) }
 {
     // The intervals of a frame are numbers, or are refused.
     numbers_or_refused();

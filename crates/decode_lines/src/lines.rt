@@ -3,7 +3,7 @@ ghost use Rattle.std.specs.Prelude.{◌≡◌, ◌<◌, ◌≤◌, ◌+◌, ◌^
 ghost use Rattle.std.specs.String.{string_bytes};
 ghost use Rattle.text_fields.specs.Lines.{fields_of};
 ghost use Rattle.decode_lines.specs.Answer.{AnswersLine};
-ghost use Rattle.decode_lines.specs.Answered.{Stands};
+ghost use Rattle.decode_lines.specs.Answered.{AnsweredSoFar};
 ghost use Rattle.decode_lines.specs.DecodeLines.{Decodes, IsFirstFault};
 ghost use Rattle.decode_lines.specs.Request.{IsFaultyRequest};
 
@@ -31,7 +31,8 @@ pub(crate) struct Answering {
 impl Answering {
     /// The answers to an input of which nothing came yet.
     pub(crate) fn new(alloc: Global) -> Result<Answering, OutOfMemory>
-        ensures stands { IfOk result (λ it. Stands it.fault [] it.part.items (string_bytes it.text) it.number) }
+        ensures stands { IfOk result
+            (λ it. AnsweredSoFar it.fault [] it.part.items (string_bytes it.text) it.number) }
         ensures number { IfOk result (λ it. it.number ≡ 1) }
     {
         Ok(Answering {
@@ -47,8 +48,10 @@ impl Answering {
     pub(crate) fn take(&mut self, piece: &[u8]) -> Result<(), OutOfMemory>
         requires { self.old.number + length piece.now < 2 ^ 32 }
         ensures stands { OnOk result ((input : List ℕ)
-            → Stands self.old.fault input self.old.part.items (string_bytes self.old.text) self.old.number
-            → Stands self.new.fault (input ++ piece.now) self.new.part.items (string_bytes self.new.text) self.new.number) }
+            → AnsweredSoFar self.old.fault input self.old.part.items
+            (string_bytes self.old.text) self.old.number
+            → AnsweredSoFar self.new.fault (input ++ piece.now) self.new.part.items
+            (string_bytes self.new.text) self.new.number) }
         ensures number { self.new.number ≤ self.old.number + length piece.now }
     {
         if self.fault.is_some() {
@@ -71,8 +74,13 @@ impl Answering {
 
     /// Answers the line of which this is the end, without its line feed.
     fn end_line(&mut self, end: &[u8]) -> Result<Result<(), FaultReason>, OutOfMemory>
-        ensures ok { IfOk result (λ answered. OnOk answered (AnswersLine (self.old.part.items ++ end.now) (string_bytes self.old.text) (string_bytes self.new.text))) }
-        ensures refused { IfOk result (λ answered. IfErr answered (IsFaultyRequest (fields_of (self.old.part.items ++ end.now)))) }
+        ensures ok { IfOk result
+            (λ answered. OnOk answered
+            (AnswersLine (self.old.part.items ++ end.now) (string_bytes self.old.text)
+            (string_bytes self.new.text))) }
+        ensures refused { IfOk result
+            (λ answered. IfErr answered
+            (IsFaultyRequest (fields_of (self.old.part.items ++ end.now)))) }
         ensures none { OnOk result (self.new.part.items ≡ []) }
         ensures number { self.new.number ≡ self.old.number }
         ensures fault { self.new.fault ≡ self.old.fault }
@@ -88,8 +96,14 @@ impl Answering {
 
     /// The answers to all lines, where the input ended; or its first faulty line.
     pub(crate) fn end(self) -> Result<String, FaultyLine>
-        ensures ok { IfOk result (λ text. (input : List ℕ) → Stands self.fault input self.part.items (string_bytes self.text) self.number → Decodes input (string_bytes text)) }
-        ensures refused { IfErr result (λ fault. (input : List ℕ) → Stands self.fault input self.part.items (string_bytes self.text) self.number → IsFirstFault input fault) }
+        ensures ok { IfOk result
+            (λ text. (input : List ℕ)
+            → AnsweredSoFar self.fault input self.part.items (string_bytes self.text) self.number
+            → Decodes input (string_bytes text)) }
+        ensures refused { IfErr result
+            (λ fault. (input : List ℕ)
+            → AnsweredSoFar self.fault input self.part.items (string_bytes self.text) self.number
+            → IsFirstFault input fault) }
     {
         let Answering {
             workspace: _,

@@ -116,7 +116,8 @@ fn kind_of(word: &[u8]) -> Option<RequestKind>
 /// What a first field says that names no line code.
 fn other_kind(word: &[u8]) -> Option<RequestKind>
     ensures found { IfSome result (λ kind. word.now ≡ request_word kind) }
-    ensures none { IfNone result ((kind : RequestKind) → NamesNoCode kind → word.now ≢ request_word kind) }
+    ensures none { IfNone result
+        ((kind : RequestKind) → NamesNoCode kind → word.now ≢ request_word kind) }
 {
     match word {
         b"samples" => Some(RequestKind::Samples),
@@ -134,7 +135,9 @@ fn other_kind(word: &[u8]) -> Option<RequestKind>
 /// without its line feed.
 pub fn kind_of_line(line: &[u8]) -> Option<(RequestKind, Fields<'_>)>
     ensures some { IfSome result (λ it. fields_of line.now ≡ request_word it.0 ∷ it.1) }
-    ensures none { IfNone result ((kind : RequestKind) (others : List (List ℕ)) → fields_of line.now ≢ request_word kind ∷ others) }
+    ensures none { IfNone result
+        ((kind : RequestKind) (others : List (List ℕ))
+        → fields_of line.now ≢ request_word kind ∷ others) }
 {
     let mut fields = Fields::new(line);
     let word = fields.next()?;

@@ -1,6 +1,6 @@
 //! The answers to the lines of a source.
 ghost use Rattle.std.specs.Prelude.{◌≡◌, ◌<◌, ◌≤◌, ◌+◌, ◌^◌, ℕ, List, length, IfOk, IfErr, OnOk, IsErrOf, vec_len};
-ghost use Rattle.air_io.specs.Flow.{AtEnd, FaultsRose, Reads};
+ghost use Rattle.air_io.specs.Flow.{AtEnd, FaultsRose, TakesBytes};
 ghost use Rattle.air_io.specs.ReadEnds.{UnlessFault, most_read};
 ghost use Rattle.decode_lines.specs.DecodeLines.{Decodes, IsFirstFault};
 ghost use Rattle.std.specs.String.{string_bytes};
@@ -35,17 +35,23 @@ pub fn answer_source<I: Source>(
     limit: u32,
 ) -> Result<Result<String, FaultyLine>, ReadEnd>
     requires { limit + 1 < 2 ^ 32 }
-    ensures ok { IfOk result (λ answered. (input : List ℕ) × Reads (I.left source.old) (I.left source.new) input
+    ensures ok { IfOk result
+        (λ answered. (input : List ℕ) × TakesBytes (I.left source.old) (I.left source.new) input
         × (length input ≤ limit) × AtEnd (I.left source.new)
-        × IfOk answered (λ text. Decodes input (string_bytes text)) × IfErr answered (IsFirstFault input)) }
+        × IfOk answered (λ text. Decodes input (string_bytes text))
+        × IfErr answered (IsFirstFault input)) }
     ensures too_long { IsErrOf result ReadEnd.TooLong
-        → ((bytes : List ℕ) × Reads (I.left source.old) (I.left source.new) bytes × (length bytes ≡ limit + 1)) }
-    ensures fault { IsErrOf result ReadEnd.Fault → FaultsRose (I.faults source.old) (I.faults source.new) }
+        → ((bytes : List ℕ) × TakesBytes (I.left source.old) (I.left source.new) bytes
+        × (length bytes ≡ limit + 1)) }
+    ensures fault { IsErrOf result ReadEnd.Fault
+        → FaultsRose (I.faults source.old) (I.faults source.new) }
     // No read failed where no failure is told.
     ensures steady { OnOk result (I.faults source.new ≡ I.faults source.old) }
-    ensures unfailing { IfErr result (λ end. UnlessFault end (I.faults source.new ≡ I.faults source.old)) }
+    ensures unfailing { IfErr result
+        (λ end. UnlessFault end (I.faults source.new ≡ I.faults source.old)) }
     ensures part { IfErr result (λ end. (bytes : List ℕ)
-        × Reads (I.left source.old) (I.left source.new) bytes × (length bytes ≤ most_read end limit)) }
+        × TakesBytes (I.left source.old) (I.left source.new) bytes
+        × (length bytes ≤ most_read end limit)) }
     ensures count { I.faults source.old ≤ I.faults source.new }
 {
     let mut buffer = empty_buffer(alloc)?;

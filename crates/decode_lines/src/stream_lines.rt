@@ -16,7 +16,8 @@ const TOGETHER: usize = 128;
 /// then leave any levels in the list.
 pub fn read_stream(mut others: Fields, levels: &mut Levels) -> Option<bool>
     requires { most_levels ≤ levels.old.capacity }
-    ensures value { IfSome result (λ trext. others.entry ≡ (binary_digit trext ∷ []) ∷ binary levels.new.items ∷ []) }
+    ensures value { IfSome result
+        (λ trext. others.entry ≡ (binary_digit trext ∷ []) ∷ binary levels.new.items ∷ []) }
     ensures few { IfSome result (λ trext. length levels.new.items ≤ most_levels) }
     ensures capacity { levels.new.capacity ≡ levels.old.capacity }
 {
@@ -51,7 +52,8 @@ fn read_digits(digits: &[u8], bits: &mut Levels) -> bool
 fn put_whole_part(digits: &[u8; TOGETHER], bits: &mut Levels) -> bool
     requires { length bits.old.items + length digits.now ≤ bits.old.capacity }
     ensures digits { IsTrue result ↔ AllPass is_binary_digit digits.now }
-    ensures bits { bits.new ≡ record bits.old { items = bits.old.items ++ bits_of_digits digits.now } }
+    ensures bits { bits.new
+        ≡ record bits.old { items = bits.old.items ++ bits_of_digits digits.now } }
 {
     let mut part = [false; TOGETHER];
     let binary = write_bits(digits, &mut part);
@@ -64,7 +66,8 @@ fn put_part(digits: &[u8], bits: &mut Levels) -> bool
     requires few { length digits.now ≤ TOGETHER }
     requires room { length bits.old.items + length digits.now ≤ bits.old.capacity }
     ensures digits { IsTrue result ↔ AllPass is_binary_digit digits.now }
-    ensures bits { bits.new ≡ record bits.old { items = bits.old.items ++ bits_of_digits digits.now } }
+    ensures bits { bits.new
+        ≡ record bits.old { items = bits.old.items ++ bits_of_digits digits.now } }
 {
     let mut room = [false; TOGETHER];
     let part = &mut room[..digits.len()];

@@ -7,17 +7,17 @@ use Rattle.bit_strings.specs.declared.code.Code.TheVariants.{Fm0, M2, M4, M8}
 use Rattle.text_fields.specs.Lines.{fields_of}
 use Rattle.text_fields.specs.Binary.{binary, binary_digit}
 use Rattle.text_fields.specs.CodeNames.{code_word}
-use Rattle.text_fields.specs.laws.FieldTextLaws.{IsFieldText-decimal, IsFieldText-binary}
-use Rattle.text_fields.specs.laws.ToldApart.{decimal_told, binary_told}
-use Rattle.text_fields.specs.laws.FilledFields.{Filled, none_filled, one_more}
+use Rattle.text_fields.proofs.FieldTextLaws.{IsFieldText-decimal, IsFieldText-binary}
+use Rattle.text_fields.proofs.ToldApart.{decimal_told, binary_told}
+use Rattle.text_fields.proofs.FilledFields.{Filled, none_filled, one_more}
 use Rattle.command_text.specs.CommandText.{commands}
-use Rattle.command_text.specs.laws.CommandTexts.{command_told}
-use Rattle.command_text.specs.laws.FieldTexts.{bit_is, code_is}
-use Rattle.command_text.specs.laws.ToldApart.{code_told, digit_told}
+use Rattle.command_text.proofs.CommandTexts.{command_told}
+use Rattle.command_text.proofs.FieldTexts.{bit_is, code_is}
+use Rattle.command_text.proofs.ToldApart.{code_told, digit_told}
 use Rattle.reply_text.specs.ReplyText.{expect_word, reply_fields, replies}
-use Rattle.reply_text.specs.laws.ReplyTexts.{reply_told}
-use Rattle.reply_text.specs.laws.FieldTexts.{expect_word_is_field_text}
-use Rattle.reply_text.specs.laws.ToldApart.{expect_told}
+use Rattle.reply_text.proofs.ReplyTexts.{reply_told}
+use Rattle.reply_text.proofs.FieldTexts.{expect_word_is_field_text}
+use Rattle.reply_text.proofs.ToldApart.{expect_told}
 use Rattle.pie_line.specs.declared.frame.Lead.{Lead}
 use Rattle.pie_line.specs.declared.frame.Lead.TheVariants.{Preamble, FrameSync}
 use Rattle.checked_lines.specs.declared.fault.FaultReason.{FaultReason}
@@ -25,7 +25,7 @@ use Rattle.checked_lines.specs.declared.fault.FaultReason.TheVariants.{Word, Sha
 use Rattle.checked_lines.specs.laws.OneLine.{TellLines}
 use Rattle.encode_lines.proofs.Shapes.{command_shape, reply_shape, shaped}
 use Rattle.encode_lines.specs.EncodeLines.{encode_rules}
-use Rattle.encode_lines.specs.Request.{lead_word, kind_word, request_kind, other_fields, IsWithinLimits, AsksBehind, AsksForRequest, NamesNone, HasShape, AreFaulty, AreFaultyBehind, IsFaultyRequest}
+use Rattle.encode_lines.specs.Request.{lead_word, kind_word, request_kind, request_fields, IsWithinLimits, AsksBehind, AsksForRequest, NamesNone, HasShape, AreFaulty, AreFaultyBehind, IsFaultyRequest}
 use Rattle.encode_lines.specs.declared.request.LineKind.{LineKind}
 use Rattle.encode_lines.specs.declared.request.LineKind.TheVariants.{Stream as StreamKind, Pie as PieKind, Command as CommandKind, Reply as ReplyKind, Heard as HeardKind}
 use Rattle.encode_lines.specs.declared.request.Request.{Request}
@@ -72,7 +72,7 @@ lead_told Preamble FrameSync same = cc
 lead_told FrameSync Preamble same = cc
 
 -- the fields behind the first spell one request of a kind
-same_behind : (one other : Request) (others : List (List ℕ)) → request_kind one ≡ request_kind other → others ≡ other_fields one → others ≡ other_fields other
+same_behind : (one other : Request) (others : List (List ℕ)) → request_kind one ≡ request_kind other → others ≡ request_fields one → others ≡ request_fields other
     → IsWithinLimits one → IsWithinLimits other → one ≡ other
 same_behind (Stream code trext bits) (Stream code' trext' bits') others kinds spelled spelled' within within' =
     let fields : (binary_digit trext ∷ []) ∷ binary bits ∷ [] ≡ (binary_digit trext' ∷ []) ∷ binary bits' ∷ [] = sym spelled ∙ spelled' in
@@ -122,7 +122,7 @@ number_filled : (n : ℕ) → n ≤ 999999 → Filled (decimal n)
 number_filled n few = (IsFieldText-decimal n (omega arith)).filled
 
 -- the fields of a request have the shape that its kind wants
-request_shape : (request : Request) (others : List (List ℕ)) → others ≡ other_fields request → IsWithinLimits request → HasShape (request_kind request) others
+request_shape : (request : Request) (others : List (List ℕ)) → others ≡ request_fields request → IsWithinLimits request → HasShape (request_kind request) others
 request_shape (Stream code trext bits) others spelling limits =
     rw spelling (one_more 1 (binary_digit trext ∷ []) (binary bits ∷ []) (bit_is trext).filled (one_more 0 (binary bits) [] (IsFieldText-binary bits).filled none_filled))
 request_shape (Pie tari rtcal trcal pw lead bits) others spelling limits =

@@ -5,9 +5,9 @@ use Rattle.bit_strings.specs.declared.code.Code.{Code}
 use Rattle.text_fields.specs.Binary.{binary_digit}
 use Rattle.text_fields.specs.CodeNames.{code_word}
 use Rattle.text_fields.specs.NamedFields.{AreFilled}
-use Rattle.text_fields.specs.laws.FilledFields.{Filled, have_6, none_filled, one_more}
+use Rattle.text_fields.proofs.FilledFields.{Filled, have_6, none_filled, one_more}
 use Rattle.reply_text.specs.ReplyText.{expect_word, other_reply_fields, reply_fields, reply_kind, IsExpect, IsReplyText}
-use Rattle.reply_text.specs.laws.ReplyTexts.{replies_are}
+use Rattle.reply_text.proofs.ReplyTexts.{replies_are}
 use Rattle.reply_grammar.specs.declared.expected.Expect.{Expect}
 use Rattle.reply_grammar.specs.declared.expected.Reply.{Reply as OneReply}
 use Rattle.checked_lines.specs.declared.fault.FaultReason.{FaultReason}

@@ -1,14 +1,14 @@
 -- Fields that spell a command or a reply have its shape.
 use Rattle.std.proofs.Common.{ℕ, List, refl}
 use Rattle.text_fields.specs.NamedFields.{AreSpelling, HaveShape, NameNothing, Vocabulary}
-use Rattle.text_fields.specs.laws.NamedFieldLaws.{IsVocabulary}
+use Rattle.text_fields.proofs.NamedFieldLaws.{IsVocabulary}
 use Rattle.command_grammar.specs.Commands.{IsLegalCommand}
 use Rattle.command_grammar.specs.declared.commands.Command.{Command}
 use Rattle.command_text.specs.CommandText.{commands, IsCommandText}
-use Rattle.command_text.specs.laws.CommandTexts.{commands_are}
+use Rattle.command_text.proofs.CommandTexts.{commands_are}
 use Rattle.reply_grammar.specs.declared.expected.Reply.{Reply}
 use Rattle.reply_text.specs.ReplyText.{replies, IsReplyForm, IsReplyText}
-use Rattle.reply_text.specs.laws.ReplyTexts.{replies_are}
+use Rattle.reply_text.proofs.ReplyTexts.{replies_are}
 
 -- fields that spell a value have the shape that its kind wants
 spelled_shape : {K V : Type 0} (words : Vocabulary K V) (IsInRange : V → Type 0) → IsVocabulary words IsInRange → (fields : List (List ℕ)) (value : V) → AreSpelling words IsInRange fields value

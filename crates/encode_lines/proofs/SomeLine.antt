@@ -6,11 +6,11 @@ use Rattle.pie_line.specs.Link.{LinkValue, IsTari, IsRtCal, IsTrCal, IsPw}
 use Rattle.pie_line.specs.declared.frame.Lead.{Lead}
 use Rattle.pie_line.specs.declared.link.LinkRefusal.TheVariants.{Tari, RtCal, TrCal, Pw}
 use Rattle.reply_grammar.specs.Table.{CanBeSent, Suits, suits}
-use Rattle.reply_grammar.specs.laws.Suiting.{suits-true, suits-from}
+use Rattle.reply_grammar.proofs.Suiting.{suits-true, suits-from}
 use Rattle.reply_grammar.specs.declared.expected.Expect.{Expect}
 use Rattle.reply_grammar.specs.declared.expected.Reply.{Reply}
 use Rattle.reply_grammar.specs.declared.expected.Reply.TheVariants.{Rn16, Epc, Handle, Words, Header, Error}
-use Rattle.encode_lines.specs.Written.{AreWritten, AreOfReply, IsAllowed, IsWave, RefusesLink, link_of}
+use Rattle.encode_lines.specs.Written.{AreWritten, AreOfReply, IsAllowedReply, IsWave, RefusesLink, link_of}
 use Rattle.encode_lines.specs.declared.request.Request.{Request}
 use Rattle.encode_lines.specs.declared.request.Request.TheVariants.{Stream, Pie, Command, Reply as ReplyLine, Heard}
 
@@ -55,10 +55,10 @@ sent_or_not (Words words) = le_or_not 1 (length words)
 sent_or_not Header = inl tt
 sent_or_not (Error code) = inl tt
 
-allowed_or_not : (expect : Expect) (reply : Reply) → OrNot (IsAllowed expect reply)
+allowed_or_not : (expect : Expect) (reply : Reply) → OrNot (IsAllowedReply expect reply)
 allowed_or_not expect reply = both (by_suits expect reply (suits reply expect) refl) (sent_or_not reply)
 
-some_of_reply : (expect : Expect) (reply : Reply) (written : List (List ℕ)) → OrNot (IsAllowed expect reply) → (fields : List (List ℕ)) × AreOfReply expect reply written fields
+some_of_reply : (expect : Expect) (reply : Reply) (written : List (List ℕ)) → OrNot (IsAllowedReply expect reply) → (fields : List (List ℕ)) × AreOfReply expect reply written fields
 some_of_reply expect reply written (inl allowed) = (_, inl (allowed, refl))
 some_of_reply expect reply written (inr none) = (_, inr (none, refl))
 

@@ -7,7 +7,7 @@ use Rattle.bit_strings.specs.declared.code.Code.{Code}
 use Rattle.text_fields.specs.Binary.{binary, binary_digit}
 use Rattle.text_fields.specs.CodeNames.{code_word}
 use Rattle.text_fields.specs.Lines.{fields_behind, line_feed, line_with}
-use Rattle.text_fields.specs.laws.LineLaws.{line_with-fields_behind}
+use Rattle.text_fields.proofs.LineLaws.{line_with-fields_behind}
 use Rattle.line_code.specs.Stream.{stream_of}
 use Rattle.line_codes.specs.Codes.{table_of}
 use Rattle.pie_line.specs.Link.{LinkValue, IsLegalLink}
@@ -19,7 +19,7 @@ use Rattle.reply_grammar.specs.declared.expected.Expect.{Expect}
 use Rattle.reply_grammar.specs.declared.expected.Reply.{Reply}
 use Rattle.reply_text.specs.ReplyText.{expect_word}
 use Rattle.encode_lines.specs.EncodeLines.{AddsWave, AddsWritten, written_line}
-use Rattle.encode_lines.specs.Written.{IsAllowed, refusal_word, refused_fields, reply_bits}
+use Rattle.encode_lines.specs.Written.{IsAllowedReply, refusal_word, refused_fields, reply_bits}
 use Rattle.encode_lines.specs.declared.request.Request.{Request}
 use Rattle.encode_lines.specs.declared.request.Request.TheVariants.{Pie, Reply as ReplyLine, Heard}
 
@@ -32,7 +32,7 @@ pub if_ok_then : {T E : Type 0} (r : Result T E) (new more other wanted : List �
 if_ok_then (Ok done) new more other wanted left same = left ∙ same
 if_ok_then (Err error) new more other wanted left same = tt
 
-pub reply_written : (expect : Expect) (reply : Reply) (bits : List Bool) (old new : List ℕ) → IsAllowed expect reply → bits ≡ reply_bits expect reply
+pub reply_written : (expect : Expect) (reply : Reply) (bits : List Bool) (old new : List ℕ) → IsAllowedReply expect reply → bits ≡ reply_bits expect reply
     → new ≡ old ++ written_line (codes "reply" ∷ expect_word expect ∷ binary bits ∷ []) → AddsWritten (ReplyLine expect reply) old new
 reply_written expect reply bits old new allowed same line = record {
   answer = codes "reply" ∷ expect_word expect ∷ binary bits ∷ [];
@@ -40,7 +40,7 @@ reply_written expect reply bits old new allowed same line = record {
   line = line;
 }
 
-pub heard_written : (code : Code) (trext : Bool) (expect : Expect) (reply : Reply) (old new : List ℕ) → IsAllowed expect reply
+pub heard_written : (code : Code) (trext : Bool) (expect : Expect) (reply : Reply) (old new : List ℕ) → IsAllowedReply expect reply
     → new ≡ old ++ written_line (codes "heard" ∷ code_word code ∷ (binary_digit trext ∷ []) ∷ expect_word expect ∷ binary (stream_of (table_of code) trext (reply_bits expect reply)) ∷ [])
     → AddsWritten (Heard code trext expect reply) old new
 heard_written code trext expect reply old new allowed line = record {
@@ -49,10 +49,10 @@ heard_written code trext expect reply old new allowed line = record {
   line = line;
 }
 
-pub reply_refused : (expect : Expect) (reply : Reply) (old new : List ℕ) → ¬ IsAllowed expect reply → new ≡ old ++ written_line (refused_fields (codes "reply")) → AddsWritten (ReplyLine expect reply) old new
+pub reply_refused : (expect : Expect) (reply : Reply) (old new : List ℕ) → ¬ IsAllowedReply expect reply → new ≡ old ++ written_line (refused_fields (codes "reply")) → AddsWritten (ReplyLine expect reply) old new
 reply_refused expect reply old new none line = record { answer = refused_fields (codes "reply"); right = inr (none, refl); line = line }
 
-pub heard_refused : (code : Code) (trext : Bool) (expect : Expect) (reply : Reply) (old new : List ℕ) → ¬ IsAllowed expect reply → new ≡ old ++ written_line (refused_fields (codes "reply"))
+pub heard_refused : (code : Code) (trext : Bool) (expect : Expect) (reply : Reply) (old new : List ℕ) → ¬ IsAllowedReply expect reply → new ≡ old ++ written_line (refused_fields (codes "reply"))
     → AddsWritten (Heard code trext expect reply) old new
 heard_refused code trext expect reply old new none line = record { answer = refused_fields (codes "reply"); right = inr (none, refl); line = line }
 

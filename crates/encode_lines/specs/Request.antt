@@ -58,12 +58,12 @@ request_kind (Reply expect reply) = ReplyKind
 request_kind (Heard code trext expect reply) = HeardKind
 
 -- the one spelling of a request, behind the first field
-abbrev pub other_fields : Request → List (List ℕ)
-other_fields (Stream code trext bits) = (binary_digit trext ∷ []) ∷ binary bits ∷ []
-other_fields (Pie tari rtcal trcal pw lead bits) = decimal tari ∷ decimal rtcal ∷ decimal trcal ∷ decimal pw ∷ lead_word lead ∷ binary bits ∷ []
-other_fields (Command command) = command_fields command
-other_fields (Reply expect reply) = expect_word expect ∷ reply_fields reply
-other_fields (Heard code trext expect reply) = code_word code ∷ (binary_digit trext ∷ []) ∷ expect_word expect ∷ reply_fields reply
+abbrev pub request_fields : Request → List (List ℕ)
+request_fields (Stream code trext bits) = (binary_digit trext ∷ []) ∷ binary bits ∷ []
+request_fields (Pie tari rtcal trcal pw lead bits) = decimal tari ∷ decimal rtcal ∷ decimal trcal ∷ decimal pw ∷ lead_word lead ∷ binary bits ∷ []
+request_fields (Command command) = command_fields command
+request_fields (Reply expect reply) = expect_word expect ∷ reply_fields reply
+request_fields (Heard code trext expect reply) = code_word code ∷ (binary_digit trext ∷ []) ∷ expect_word expect ∷ reply_fields reply
 
 -- the limits on the numbers and lists of a line: a stream has the bits of the longest reply at most
 abbrev pub IsWithinLimits : Request → Type 0
@@ -77,7 +77,7 @@ IsWithinLimits (Heard code trext expect reply) = IsExpect expect × IsReplyForm 
 -- behind a first field of this kind, these fields ask for this
 pub record AsksBehind (kind : LineKind) (others : List (List ℕ)) (request : Request) : Type 0 where
   pub same_kind : kind ≡ request_kind request
-  pub spelling : others ≡ other_fields request
+  pub spelling : others ≡ request_fields request
   pub limits : IsWithinLimits request
 
 -- the line asks for this

@@ -33,8 +33,8 @@ refusal_word Pw = codes "pw"
 
 -- the reply is one that is allowed where this is expected: of its kind, with so many words, with this handle, and an EPC has as
 -- many words as the first five bits of its PC say
-abbrev pub IsAllowed : Expect → Reply → Type 0
-IsAllowed expect reply = Suits reply expect × CanBeSent reply
+abbrev pub IsAllowedReply : Expect → Reply → Type 0
+IsAllowedReply expect reply = Suits reply expect × CanBeSent reply
 
 -- the bits of a reply, with the handle that is expected in an error, in a header and behind words
 abbrev pub reply_bits : Expect → Reply → List Bool
@@ -57,7 +57,7 @@ pub record RefusesLink (tari rtcal trcal pw : ℕ) (fields : List (List ℕ)) : 
 
 -- the fields are these where the reply is allowed, and a refusal where it isn't
 abbrev pub AreOfReply : Expect → Reply → List (List ℕ) → List (List ℕ) → Type 0
-AreOfReply expect reply written fields = (IsAllowed expect reply × (fields ≡ written)) ⊎ ((¬ IsAllowed expect reply) × (fields ≡ refused_fields (codes "reply")))
+AreOfReply expect reply written fields = (IsAllowedReply expect reply × (fields ≡ written)) ⊎ ((¬ IsAllowedReply expect reply) × (fields ≡ refused_fields (codes "reply")))
 
 -- what is written for each request
 abbrev pub AreWritten : Request → List (List ℕ) → Type 0

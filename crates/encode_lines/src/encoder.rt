@@ -7,7 +7,7 @@ ghost use Rattle.reply_grammar.specs.Table.{handle_of, longest_reply};
 ghost use Rattle.reply_text.specs.ReplyText.{IsReplyForm};
 ghost use Rattle.encode_lines.specs.EncodeLines.{AddsWave, AddsWritten, EncodesLine};
 ghost use Rattle.encode_lines.specs.Request.{AsksForRequest, IsWithinLimits, longest_levels, most_frame_bits, most_frame_intervals};
-ghost use Rattle.encode_lines.specs.Written.{IsAllowed};
+ghost use Rattle.encode_lines.specs.Written.{IsAllowedReply};
 ghost use Rattle.encode_lines.specs.declared.request.Request.{Request};
 
 use crate::output::{
@@ -64,7 +64,8 @@ impl Encoder {
     /// for something.
     pub fn encode_line(&mut self, line: &[u8], text: &mut String) -> Result<(), OutOfMemory>
         requires { (request : Request) × AsksForRequest line.now request }
-        ensures { OnOk result (EncodesLine line.now (string_bytes text.old) (string_bytes text.new)) }
+        ensures { OnOk result
+            (EncodesLine line.now (string_bytes text.old) (string_bytes text.new)) }
     {
         match request_of(line) {
             Ok(request) => self.encode(&request, text),
@@ -75,7 +76,8 @@ impl Encoder {
     /// Adds what is written for a request at the end of the text, as a line.
     fn encode(&mut self, request: &Request, text: &mut String) -> Result<(), OutOfMemory>
         requires { IsWithinLimits request.now }
-        ensures { OnOk result (AddsWritten request.now (string_bytes text.old) (string_bytes text.new)) }
+        ensures { OnOk result
+            (AddsWritten request.now (string_bytes text.old) (string_bytes text.new)) }
     {
         match request {
             Request::Stream { code, trext, bits } => self.encode_stream(*code, *trext, bits, text),
@@ -107,7 +109,9 @@ impl Encoder {
         text: &mut String,
     ) -> Result<(), OutOfMemory>
         requires { length bits.now ≤ longest_reply }
-        ensures { OnOk result (AddsWritten (Request.Stream code trext bits.now) (string_bytes text.old) (string_bytes text.new)) }
+        ensures { OnOk result
+            (AddsWritten (Request.Stream code trext bits.now) (string_bytes text.old)
+            (string_bytes text.new)) }
     {
         bits.copy_to(&mut self.bits);
         self.stream(code, trext);
@@ -134,7 +138,9 @@ impl Encoder {
         text: &mut String,
     ) -> Result<(), OutOfMemory>
         requires { length bits.now ≤ most_frame_bits }
-        ensures { OnOk result (AddsWritten (Request.Pie tari rtcal trcal pw lead bits.now) (string_bytes text.old) (string_bytes text.new)) }
+        ensures { OnOk result
+            (AddsWritten (Request.Pie tari rtcal trcal pw lead bits.now) (string_bytes text.old)
+            (string_bytes text.new)) }
     {
         match Link::new(tari, rtcal, trcal, pw, false, Code::Fm0, false) {
             Ok(link) => self.encode_wave(&link, lead, bits, text),
@@ -151,7 +157,8 @@ impl Encoder {
         text: &mut String,
     ) -> Result<(), OutOfMemory>
         requires { length bits.now ≤ most_frame_bits }
-        ensures { OnOk result (AddsWave link.now lead bits.now (string_bytes text.old) (string_bytes text.new)) }
+        ensures { OnOk result
+            (AddsWave link.now lead bits.now (string_bytes text.old) (string_bytes text.new)) }
     {
         bits.copy_to(&mut self.bits);
         encode_frame(link, lead, &self.bits, &mut self.intervals);
@@ -164,7 +171,9 @@ impl Encoder {
         command: &Command,
         text: &mut String,
     ) -> Result<(), OutOfMemory>
-        ensures { OnOk result (AddsWritten (Request.Command command.now) (string_bytes text.old) (string_bytes text.new)) }
+        ensures { OnOk result
+            (AddsWritten (Request.Command command.now) (string_bytes text.old)
+            (string_bytes text.new)) }
     {
         encode_command(command, &mut self.bits);
         push_command_bits(text, &self.bits)
@@ -178,7 +187,9 @@ impl Encoder {
         text: &mut String,
     ) -> Result<(), OutOfMemory>
         requires { IsReplyForm reply.now }
-        ensures { OnOk result (AddsWritten (Request.Reply expect.now reply.now) (string_bytes text.old) (string_bytes text.new)) }
+        ensures { OnOk result
+            (AddsWritten (Request.Reply expect.now reply.now) (string_bytes text.old)
+            (string_bytes text.new)) }
     {
         if !is_allowed(expect, reply) {
             return push_reply_refusal(text);
@@ -197,7 +208,9 @@ impl Encoder {
         text: &mut String,
     ) -> Result<(), OutOfMemory>
         requires { IsReplyForm reply.now }
-        ensures { OnOk result (AddsWritten (Request.Heard code trext expect.now reply.now) (string_bytes text.old) (string_bytes text.new)) }
+        ensures { OnOk result
+            (AddsWritten (Request.Heard code trext expect.now reply.now) (string_bytes text.old)
+            (string_bytes text.new)) }
     {
         if !is_allowed(expect, reply) {
             return push_reply_refusal(text);
@@ -225,7 +238,7 @@ fn handle_of(expect: &Expect) -> u16
 /// with as many words as the first five bits of its PC say.
 fn is_allowed(expect: &Expect, reply: &Reply) -> bool
     requires { IsReplyForm reply.now }
-    ensures { IsTrue result ↔ IsAllowed expect.now reply.now }
+    ensures { IsTrue result ↔ IsAllowedReply expect.now reply.now }
 {
     match (reply, expect) {
         (Reply::Rn16(_), Expect::Rn16) => true,

@@ -11,13 +11,16 @@ use text_fields::split_line;
 
 /// Encode lines have at most one text, and at most one fault line.
 pub fn encode_lines_have_one_text()
-    ensures written { (bytes one other : List ℕ) → Encodes bytes one → Encodes bytes other → one ≡ other }
-    ensures fault_line { (bytes one other : List ℕ) → IsFaultText bytes one → IsFaultText bytes other → one ≡ other }
+    ensures written { (bytes one other : List ℕ) → Encodes bytes one → Encodes bytes other
+        → one ≡ other }
+    ensures fault_line { (bytes one other : List ℕ) → IsFaultText bytes one
+        → IsFaultText bytes other → one ≡ other }
 {}
 
 /// Where each line asks for something there is no faulty line.
 pub fn encode_lines_are_not_faulty()
-    ensures { (bytes : List ℕ) (fault : FaultyLine) → IsGrammatical bytes → IsFirstFault bytes fault → ⊥ }
+    ensures { (bytes : List ℕ) (fault : FaultyLine) → IsGrammatical bytes → IsFirstFault bytes fault
+        → ⊥ }
 {}
 
 /// For each request a line is written.

@@ -24,7 +24,8 @@ pub(crate) fn push_stream(
     levels: &Levels,
 ) -> Result<(), OutOfMemory>
     ensures { OnOk result (string_bytes text.new ≡ string_bytes text.old
-        ++ written_line (code_word code ∷ (binary_digit trext ∷ []) ∷ binary levels.now.items ∷ [])) }
+        ++ written_line (code_word code ∷
+        (binary_digit trext ∷ []) ∷ binary levels.now.items ∷ [])) }
 {
     text.push_str(name_of(code))?;
     push_next_name(text, bit_name(trext))?;
@@ -47,7 +48,8 @@ pub(crate) fn push_wave(
 
 /// Writes the line of a link that is refused.
 pub(crate) fn push_link_refusal(text: &mut String, refusal: LinkRefusal) -> Result<(), OutOfMemory>
-    ensures { OnOk result (string_bytes text.new ≡ string_bytes text.old ++ written_line (refused_fields (refusal_word refusal))) }
+    ensures { OnOk result (string_bytes text.new ≡ string_bytes text.old
+        ++ written_line (refused_fields (refusal_word refusal))) }
 {
     text.push_str(match refusal {
         LinkRefusal::Tari => "refused tari\n",

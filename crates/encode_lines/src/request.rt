@@ -251,7 +251,8 @@ fn heard_of<'a>(mut others: Fields<'a>) -> Result<Request<'a>, FaultReason>
 /// The next three fields; none exactly where fewer are left.
 fn next_three<'a>(fields: &mut Fields<'a>) -> Option<(&'a [u8], &'a [u8], &'a [u8])>
     ensures value { IfSome result (λ it. fields.old ≡ it.0.now ∷ it.1.now ∷ it.2.now ∷ fields.new) }
-    ensures none { IfNone result ((a b c : List ℕ) (rest : List (List ℕ)) → fields.old ≢ a ∷ b ∷ c ∷ rest) }
+    ensures none { IfNone result
+        ((a b c : List ℕ) (rest : List (List ℕ)) → fields.old ≢ a ∷ b ∷ c ∷ rest) }
 {
     let first = fields.next()?;
     let second = fields.next()?;

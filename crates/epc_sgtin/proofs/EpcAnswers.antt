@@ -9,7 +9,7 @@ use Rattle.bit_strings.specs.laws.Words.{length-bits_of_words, bits_of_words-sam
 use Rattle.epc_sgtin.specs.SgtinValue.{SgtinValue, IsLegalSgtin}
 use Rattle.epc_sgtin.specs.Partitions.{partition_row}
 use Rattle.epc_sgtin.specs.Epc.{IsSgtin, header}
-use Rattle.epc_sgtin.specs.EpcFaults.{RefusesEpc, header_in, partition_in, company_in, item_in, digits_in, IsEpcAnswer}
+use Rattle.epc_sgtin.specs.EpcFaults.{RefusesEpc, header_in, partition_in, company_in, item_in, digits_in, IsSgtinAnswer}
 use Rattle.epc_sgtin.specs.declared.encoding.EpcFault.{EpcFault}
 use Rattle.epc_sgtin.specs.declared.encoding.EpcFault.TheVariants.{Length, Header, Partition, Company, Item}
 use Rattle.epc_sgtin.proofs.BitFields.{three_words}
@@ -171,7 +171,7 @@ some_answer (a ∷ b ∷ c ∷ d ∷ e ∷ f ∷ []) all =
     halved_answer (a ∷ b ∷ c ∷ d ∷ e ∷ f ∷ []) front back
     (six_words (a ∷ b ∷ c ∷ []) (d ∷ e ∷ f ∷ []) front back (three_words_half a b c front pa pb pc (sym first)) (three_words_half d e f back pd pe pf (sym second)) (omega arith) (omega arith))
 
-pub one_answer : (words : List ℕ) (one other : Result SgtinValue EpcFault) → IsEpcAnswer one words → IsEpcAnswer other words → one ≡ other
+pub one_answer : (words : List ℕ) (one other : Result SgtinValue EpcFault) → IsSgtinAnswer one words → IsSgtinAnswer other words → one ≡ other
 one_answer words (Ok one) (Ok other) l r = ap (λ (sgtin : SgtinValue). Ok sgtin) (one_sgtin one other words l r)
 one_answer words (Ok one) (Err fault) l r = absurd (apart one words fault l r)
 one_answer words (Err fault) (Ok other) l r = absurd (apart other words fault r l)

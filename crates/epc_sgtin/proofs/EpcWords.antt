@@ -10,7 +10,7 @@ use Rattle.bit_strings.specs.Words.{bits_of_words}
 use Rattle.epc_sgtin.specs.SgtinValue.{SgtinValue, IsLegalSgtin, IsCompany, IsItem}
 use Rattle.epc_sgtin.specs.Partitions.{partition_row}
 use Rattle.epc_sgtin.specs.Epc.{IsSgtin, header}
-use Rattle.epc_sgtin.specs.EpcFaults.{RefusesEpc, HasHeader, HasPartition, header_in, partition_in, company_in, item_in, digits_in}
+use Rattle.epc_sgtin.specs.EpcFaults.{RefusesEpc, HasSgtinHeader, HasPartition, header_in, partition_in, company_in, item_in, digits_in}
 use Rattle.epc_sgtin.specs.declared.encoding.EpcFault.TheVariants.{Header, Partition, Company, Item}
 use Rattle.epc_sgtin.proofs.BitFields.{two_halves, both_parts}
 use Rattle.epc_sgtin.proofs.PartitionRows.{fits_row}
@@ -111,7 +111,7 @@ front_of_words words front back are =
 pub wrong_header : (words : List ℕ) (front back : ℕ) → AreHalved words front back → front / 2 ^ 40 ≢ header → RefusesEpc Header words
 wrong_header words front back are other = (are.six, λ same. other (sym (front_of_words words front back are).0 ∙ same))
 
-has_header : (words : List ℕ) (front back : ℕ) → AreHalved words front back → front / 2 ^ 40 ≡ header → HasHeader words
+has_header : (words : List ℕ) (front back : ℕ) → AreHalved words front back → front / 2 ^ 40 ≡ header → HasSgtinHeader words
 has_header words front back are same = (are.six, (front_of_words words front back are).0 ∙ same)
 
 -- there is no such partition

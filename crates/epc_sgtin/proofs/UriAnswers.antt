@@ -12,7 +12,7 @@ use Rattle.std.proofs.lemmas.Fmt.{IsAscii-decimal, IsAscii-from_digits, decimal_
 use Rattle.std.proofs.lemmas.List.Elements.{All-weaker}
 use Rattle.std.proofs.lemmas.List.Sums.{AllPass-from_list_all, list_all-from_AllPass}
 use Rattle.text_fields.specs.Lines.{Lacks, pieces_between}
-use Rattle.text_fields.specs.laws.LineLaws.{pieces_between-cut, whole_piece}
+use Rattle.text_fields.proofs.LineLaws.{pieces_between-cut, whole_piece}
 use Rattle.epc_sgtin.specs.SgtinValue.{SgtinValue, IsLegalSgtin, IsCompanyDigits, all_digits}
 use Rattle.epc_sgtin.specs.Uri.{padded, dot, prefix, uri_parts, uri_of, IsUriOf}
 use Rattle.epc_sgtin.specs.UriFaults.{is_digit, AreDigits, IsFilterPart, IsCompanyPart, IsItemPart, IsSerialPart, UriParts, RefusesUri, IsUriAnswer}

@@ -26,18 +26,18 @@ abbrev pub digits_in : List Bool → ℕ
 digits_in bits = (partition_row (partition_in bits)).company_digits
 
 -- there are six words, which begin with the header
-abbrev pub HasHeader : List ℕ → Type 0
-HasHeader words = (length words ≡ 6) × (header_in (bits_of_words words) ≡ header)
+abbrev pub HasSgtinHeader : List ℕ → Type 0
+HasSgtinHeader words = (length words ≡ 6) × (header_in (bits_of_words words) ≡ header)
 
 -- behind it stands a partition that the table has
 abbrev pub HasPartition : List ℕ → Type 0
-HasPartition words = HasHeader words × (partition_in (bits_of_words words) ≢ 7)
+HasPartition words = HasSgtinHeader words × (partition_in (bits_of_words words) ≢ 7)
 
 -- the first that fails
 abbrev pub RefusesEpc : EpcFault → List ℕ → Type 0
 RefusesEpc Length words = length words ≢ 6
 RefusesEpc Header words = (length words ≡ 6) × (header_in (bits_of_words words) ≢ header)
-RefusesEpc Partition words = HasHeader words × (partition_in (bits_of_words words) ≡ 7)
+RefusesEpc Partition words = HasSgtinHeader words × (partition_in (bits_of_words words) ≡ 7)
 RefusesEpc Company words =
     let bits = bits_of_words words in HasPartition words × (¬ IsCompany (digits_in bits) (company_in bits))
 RefusesEpc Item words =
@@ -45,6 +45,6 @@ RefusesEpc Item words =
     HasPartition words × IsCompany (digits_in bits) (company_in bits) × (¬ IsItem (digits_in bits) (item_in bits))
 
 -- the answer to words: the SGTIN whose words they are, or why they are those of none
-abbrev pub IsEpcAnswer : Result SgtinValue EpcFault → List ℕ → Type 0
-IsEpcAnswer (Ok sgtin) words = IsSgtin sgtin words
-IsEpcAnswer (Err fault) words = RefusesEpc fault words
+abbrev pub IsSgtinAnswer : Result SgtinValue EpcFault → List ℕ → Type 0
+IsSgtinAnswer (Ok sgtin) words = IsSgtin sgtin words
+IsSgtinAnswer (Err fault) words = RefusesEpc fault words

@@ -9,22 +9,22 @@ pub record Partition : Type 0 where
   pub item_bits : ℕ
   pub item_digits : ℕ
 
-abbrev pub row : ℕ → ℕ → ℕ → ℕ → Partition
-row company_bits company_digits item_bits item_digits =
+abbrev pub partition_with : ℕ → ℕ → ℕ → ℕ → Partition
+partition_with company_bits company_digits item_bits item_digits =
     record { company_bits = company_bits; company_digits = company_digits; item_bits = item_bits; item_digits = item_digits }
 
 -- the rows of the partitions from 0 to 6: bits and digits of the company, bits and digits of the item
 abbrev pub partitions : List Partition
 partitions =
-    row 40 12 4 1
-    ∷ row 37 11 7 2
-    ∷ row 34 10 10 3
-    ∷ row 30 9 14 4
-    ∷ row 27 8 17 5
-    ∷ row 24 7 20 6
-    ∷ row 20 6 24 7
+    partition_with 40 12 4 1
+    ∷ partition_with 37 11 7 2
+    ∷ partition_with 34 10 10 3
+    ∷ partition_with 30 9 14 4
+    ∷ partition_with 27 8 17 5
+    ∷ partition_with 24 7 20 6
+    ∷ partition_with 20 6 24 7
     ∷ []
 
 -- the row of a partition; a number above 6 has none, and gets no bits and no digits
 abbrev pub partition_row : ℕ → Partition
-partition_row partition = slice_index_or partitions partition (row 0 0 0 0)
+partition_row partition = slice_index_or partitions partition (partition_with 0 0 0 0)

@@ -35,7 +35,7 @@ pub enum EpcFault {
 
 impl Sgtin {
     ghost use Rattle.epc_sgtin.specs.Epc.{IsSgtin};
-    ghost use Rattle.epc_sgtin.specs.EpcFaults.{RefusesEpc, IsEpcAnswer};
+    ghost use Rattle.epc_sgtin.specs.EpcFaults.{RefusesEpc, IsSgtinAnswer};
     ghost use Rattle.epc_sgtin.specs.SgtinValue.{SgtinValue};
     ghost use Rattle.epc_sgtin.specs.declared.encoding.EpcFault.{EpcFault};
 
@@ -57,7 +57,8 @@ impl Sgtin {
         ensures ok { IfOk result (λ sgtin. IsSgtin sgtin words.now) }
         ensures refused { IfErr result (λ fault. RefusesEpc fault words.now) }
         // What the words are is answered.
-        ensures only { (answer : Result SgtinValue EpcFault) → IsEpcAnswer answer words.now → result ≡ answer }
+        ensures only { (answer : Result SgtinValue EpcFault) → IsSgtinAnswer answer words.now
+            → result ≡ answer }
     {
         let [first, second, third, fourth, fifth, sixth] = words else {
             return Err(EpcFault::Length);

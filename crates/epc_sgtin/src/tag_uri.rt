@@ -77,7 +77,8 @@ impl Sgtin {
         ensures ok { IfOk result (λ sgtin. IsUriOf sgtin text.now) }
         ensures refused { IfErr result (λ fault. RefusesUri fault text.now) }
         // What the text is is answered.
-        ensures only { (answer : Result SgtinValue UriFault) → IsUriAnswer answer text.now → result ≡ answer }
+        ensures only { (answer : Result SgtinValue UriFault) → IsUriAnswer answer text.now
+            → result ≡ answer }
     {
         let Some(rest) = behind_prefix(text) else {
             return Err(UriFault::Prefix);
@@ -130,7 +131,8 @@ fn behind_prefix(text: &[u8]) -> Option<&[u8]>
 
 /// The first place of a dot, counted from 0; none exactly where there is no dot.
 fn first_dot(text: &[u8]) -> Option<usize>
-    ensures found { IfSome result (λ place. text.now ≡ take place text.now ++ dot ∷ drop (place + 1) text.now) }
+    ensures found { IfSome result
+        (λ place. text.now ≡ take place text.now ++ dot ∷ drop (place + 1) text.now) }
     ensures first { IfSome result (λ place. Lacks dot (take place text.now)) }
     ensures within { IfSome result (λ place. place < length text.now) }
     ensures none { IfNone result (Lacks dot text.now) }
@@ -140,7 +142,8 @@ fn first_dot(text: &[u8]) -> Option<usize>
 
 /// What stands before the first dot, and what stands behind it; none exactly where there is no dot.
 fn split_at_dot(text: &[u8]) -> Option<(&[u8], &[u8])>
-    ensures pieces { IfSome result (λ parts. pieces_between dot text.now ≡ parts.0.now ∷ pieces_between dot parts.1.now) }
+    ensures pieces { IfSome result
+        (λ parts. pieces_between dot text.now ≡ parts.0.now ∷ pieces_between dot parts.1.now) }
     ensures none { IfNone result (pieces_between dot text.now ≡ text.now ∷ []) }
 {
     let end = first_dot(text)?;
@@ -149,7 +152,8 @@ fn split_at_dot(text: &[u8]) -> Option<(&[u8], &[u8])>
 
 /// The four parts that dots join; none exactly where there are not four.
 fn four_parts(text: &[u8]) -> Option<(&[u8], &[u8], &[u8], &[u8])>
-    ensures parts { IfSome result (λ it. pieces_between dot text.now ≡ it.0.now ∷ it.1.now ∷ it.2.now ∷ it.3.now ∷ []) }
+    ensures parts { IfSome result
+        (λ it. pieces_between dot text.now ≡ it.0.now ∷ it.1.now ∷ it.2.now ∷ it.3.now ∷ []) }
     ensures none { IfNone result (length (pieces_between dot text.now) ≢ 4) }
 {
     let (first, rest) = split_at_dot(text)?;
@@ -172,7 +176,8 @@ fn filter_of(part: &[u8]) -> Option<u8>
 
 /// The company that a part writes.
 fn company_of(part: &[u8]) -> Option<u64>
-    ensures some { IfSome result (λ company. IsCompanyPart part.now × (company < 10 ^ length part.now)
+    ensures some { IfSome result
+        (λ company. IsCompanyPart part.now × (company < 10 ^ length part.now)
         × (part.now ≡ padded company (length part.now))) }
     ensures none { IfNone result (¬ IsCompanyPart part.now) }
 {
@@ -186,9 +191,11 @@ fn company_of(part: &[u8]) -> Option<u64>
 fn item_of(part: &[u8], company_digits: usize) -> Option<u32>
     requires least { 6 ≤ company_digits }
     requires most { company_digits ≤ 12 }
-    ensures some { IfSome result (λ item. (company_digits + length part.now ≡ all_digits) × AreDigits part.now
+    ensures some { IfSome result
+        (λ item. (company_digits + length part.now ≡ all_digits) × AreDigits part.now
         × (item < 10 ^ length part.now) × (part.now ≡ padded item (length part.now))) }
-    ensures none { IfNone result (company_digits + length part.now ≡ all_digits → ¬ AreDigits part.now) }
+    ensures none { IfNone result
+        (company_digits + length part.now ≡ all_digits → ¬ AreDigits part.now) }
 {
     if company_digits + part.len() != usize::from(ITEM_AND_COMPANY_DIGITS) {
         return None;

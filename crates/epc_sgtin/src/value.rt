@@ -44,7 +44,8 @@ impl Model for Sgtin {
 
     ghost view = { λ a. record { filter = a.filter; digits = a.digits; company = a.company; item = a.item; serial = a.serial } };
 
-    ghost invariant = { λ a. IsLegalSgtin (record { filter = a.filter; digits = a.digits; company = a.company; item = a.item; serial = a.serial }) };
+    ghost invariant = { λ a. IsLegalSgtin
+        (record { filter = a.filter; digits = a.digits; company = a.company; item = a.item; serial = a.serial }) };
 
     ghost inverse = { λ v. record { filter = v.filter; digits = v.digits; company = v.company; item = v.item; serial = v.serial } };
 }
@@ -65,9 +66,13 @@ impl Sgtin {
         item: u32,
         serial: u64,
     ) -> Result<Sgtin, SgtinRefusal>
-        ensures sgtin { IfOk result (λ sgtin. sgtin ≡ record { filter = filter; digits = digits; company = company; item = item; serial = serial }) }
+        ensures sgtin { IfOk result
+            (λ sgtin. sgtin
+            ≡ record { filter = filter; digits = digits; company = company; item = item; serial = serial }) }
         ensures legal { IfOk result IsLegalSgtin }
-        ensures refused { IfErr result (λ refusal. IsFirstWrong refusal (record { filter = filter; digits = digits; company = company; item = item; serial = serial })) }
+        ensures refused { IfErr result
+            (λ refusal. IsFirstWrong refusal
+            (record { filter = filter; digits = digits; company = company; item = item; serial = serial })) }
     {
         if filter > 7 {
             return Err(SgtinRefusal::Filter);

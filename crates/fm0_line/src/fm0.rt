@@ -92,7 +92,8 @@ fn second_level(first: bool, bit: bool) -> bool
 
 /// The levels of four symbols, one behind the other, by the level before them and by their bits, which are the last four of a number.
 fn four_symbols(before: bool, number: u16) -> &'static [bool; 8]
-    ensures { result.now ≡ blocks fm0 (record { before = true; phase = before }) (field_of number 4) }
+    ensures { result.now ≡ blocks fm0 (record { before = true; phase = before })
+        (field_of number 4) }
 {
     &FOUR_SYMBOLS[16 * (before as usize) + (number % 16) as usize]
 }
@@ -111,7 +112,8 @@ fn word_of(levels: &[bool]) -> u32
 /// Whether each of the 32 levels of a word is the same as the one before it, as the bits of a number. The first of them follows the level `before`.
 #[inline]
 fn stays_of(before: bool, word: u32) -> u32
-    ensures { (levels : List Bool) → length levels ≡ 32 → word ≡ mask_l levels → result ≡ mask_l (stays before levels) }
+    ensures { (levels : List Bool) → length levels ≡ 32 → word ≡ mask_l levels
+        → result ≡ mask_l (stays before levels) }
 {
     !(word ^ (word << 1 | u32::from(before)))
 }
@@ -119,7 +121,8 @@ fn stays_of(before: bool, word: u32) -> u32
 /// Whether the second level of each of 16 symbols is the same as its first, as digits. All are tried at once.
 #[inline]
 fn digits_of_middles(stays: u32) -> [u8; 16]
-    ensures { (places : List Bool) → length places ≡ 32 → stays ≡ mask_l places → result ≡ map digit_of (odds places) }
+    ensures { (places : List Bool) → length places ≡ 32 → stays ≡ mask_l places
+        → result ≡ map digit_of (odds places) }
 {
     let middles = u8x16::from_array(MIDDLES);
     let bytes = u8x4::from_array(stays.to_le_bytes()).swizzle([
@@ -134,7 +137,8 @@ fn digits_of_middles(stays: u32) -> [u8; 16]
 /// The bits of 16 symbols, by whether their second levels are the same as their first.
 #[inline]
 fn bits_of_middles(stays: u32) -> [bool; 16]
-    ensures { (places : List Bool) → length places ≡ 32 → stays ≡ mask_l places → result ≡ odds places }
+    ensures { (places : List Bool) → length places ≡ 32 → stays ≡ mask_l places
+        → result ≡ odds places }
 {
     let digits = digits_of_middles(stays);
     let mut bits = [false; 16];

@@ -7,6 +7,8 @@ ghost use Rattle.gen2_crc.specs.Crc.{crc5_of, crc16_of};
 pub fn crc_laws()
     ensures five { (message : List Bool) → length (crc5_of message) ≡ 5 }
     ensures sixteen { (message : List Bool) → length (crc16_of message) ≡ 16 }
-    ensures field5 { (message : List Bool) → field_of (value_of (crc5_of message)) 5 ≡ crc5_of message }
-    ensures field16 { (message : List Bool) → field_of (value_of (crc16_of message)) 16 ≡ crc16_of message }
+    ensures field5 { (message : List Bool)
+        → field_of (value_of (crc5_of message)) 5 ≡ crc5_of message }
+    ensures field16 { (message : List Bool)
+        → field_of (value_of (crc16_of message)) 16 ≡ crc16_of message }
 {}

@@ -55,7 +55,8 @@ pub fn crc16_of_bits(bits: &[bool]) -> u16
 /// bits ends with its own CRC-16.
 pub fn residue_ok(bits: &Bits) -> bool
     ensures register { IsTrue result ↔ (register_of bits.now.items ≡ residue) }
-    ensures message { (front last : List Bool) → bits.now.items ≡ front ++ last → length last ≡ 16 → (IsTrue result ↔ (last ≡ crc16_of front)) }
+    ensures message { (front last : List Bool) → bits.now.items ≡ front ++ last → length last ≡ 16
+        → (IsTrue result ↔ (last ≡ crc16_of front)) }
 {
     let mut crc = Crc16::new();
     crc.push_all(bits.as_slice());

@@ -47,7 +47,8 @@ impl Crc16 {
 
     /// Stands for one bit more.
     pub fn push(&mut self, bit: bool)
-        ensures { (bits : List Bool) → RegisterStandsFor self.old bits → RegisterStandsFor self.new (bits ++ bit ∷ []) }
+        ensures { (bits : List Bool) → RegisterStandsFor self.old bits
+            → RegisterStandsFor self.new (bits ++ bit ∷ []) }
     {
         self.register = shifted16(self.register, bit);
     }
@@ -55,7 +56,8 @@ impl Crc16 {
     /// Stands for the 16 bits of a word more.
     #[inline]
     pub fn push_word(&mut self, word: u16)
-        ensures { (bits : List Bool) → RegisterStandsFor self.old bits → RegisterStandsFor self.new (bits ++ field_of word 16) }
+        ensures { (bits : List Bool) → RegisterStandsFor self.old bits
+            → RegisterStandsFor self.new (bits ++ field_of word 16) }
     {
         self.register = shifted_by_word(self.register ^ word);
     }
@@ -63,14 +65,16 @@ impl Crc16 {
     /// Stands for the 8 bits of an octet more.
     #[inline]
     fn push_octet(&mut self, octet: u8)
-        ensures { (bits : List Bool) → RegisterStandsFor self.old bits → RegisterStandsFor self.new (bits ++ field_of octet 8) }
+        ensures { (bits : List Bool) → RegisterStandsFor self.old bits
+            → RegisterStandsFor self.new (bits ++ field_of octet 8) }
     {
         self.register = shifted_by_octet(self.register ^ 256 * u16::from(octet));
     }
 
     /// Stands for the bits of these words more.
     pub fn push_words(&mut self, words: &[u16])
-        ensures { (front : List Bool) → RegisterStandsFor self.old front → RegisterStandsFor self.new (front ++ bits_of_words words.now) }
+        ensures { (front : List Bool) → RegisterStandsFor self.old front
+            → RegisterStandsFor self.new (front ++ bits_of_words words.now) }
     {
         for word in words {
             self.push_word(*word);
@@ -79,7 +83,8 @@ impl Crc16 {
 
     /// Stands for these bits more. They are taken 16 at a time, as far as they go.
     pub fn push_all(&mut self, bits: &[bool])
-        ensures { (front : List Bool) → RegisterStandsFor self.old front → RegisterStandsFor self.new (front ++ bits.now) }
+        ensures { (front : List Bool) → RegisterStandsFor self.old front
+            → RegisterStandsFor self.new (front ++ bits.now) }
     {
         let words = bits.len() / 16;
         for at in 0..words {
@@ -91,7 +96,8 @@ impl Crc16 {
     /// Stands for these bits more, which are fewer than 16. The first eight are taken at once, where there are as many.
     #[inline]
     fn push_few(&mut self, bits: &[bool])
-        ensures { (front : List Bool) → RegisterStandsFor self.old front → RegisterStandsFor self.new (front ++ bits.now) }
+        ensures { (front : List Bool) → RegisterStandsFor self.old front
+            → RegisterStandsFor self.new (front ++ bits.now) }
     {
         if bits.len() < 8 {
             return self.push_each(bits);
@@ -104,7 +110,8 @@ impl Crc16 {
     /// Stands for these bits more, taken one by one.
     #[inline]
     fn push_each(&mut self, bits: &[bool])
-        ensures { (front : List Bool) → RegisterStandsFor self.old front → RegisterStandsFor self.new (front ++ bits.now) }
+        ensures { (front : List Bool) → RegisterStandsFor self.old front
+            → RegisterStandsFor self.new (front ++ bits.now) }
     {
         for bit in bits {
             self.push(*bit);
@@ -113,14 +120,16 @@ impl Crc16 {
 
     /// The CRC-16 of the bits.
     pub fn value(&self) -> u16
-        ensures { (bits : List Bool) → RegisterStandsFor self.now bits → result ≡ value_of (crc16_of bits) }
+        ensures { (bits : List Bool) → RegisterStandsFor self.now bits
+            → result ≡ value_of (crc16_of bits) }
     {
         !self.register
     }
 
     /// Whether the register holds 1D0Fh.
     pub fn is_residue(&self) -> bool
-        ensures { (bits : List Bool) → RegisterStandsFor self.now bits → (IsTrue result ↔ (register_of bits ≡ residue)) }
+        ensures { (bits : List Bool) → RegisterStandsFor self.now bits
+            → (IsTrue result ↔ (register_of bits ≡ residue)) }
     {
         self.register == RESIDUE
     }
@@ -141,7 +150,8 @@ fn shifted16(register: u16, bit: bool) -> u16
 /// The register 16 zeros later. Long division takes differences to differences, so that each byte has a table of its own.
 #[inline]
 fn shifted_by_word(register: u16) -> u16
-    ensures { field_of result 16 ≡ remainder_of (field_of register 16) others16 (replicate 16 false) }
+    ensures { field_of result 16
+        ≡ remainder_of (field_of register 16) others16 (replicate 16 false) }
 {
     let upper = (register >> 8) as usize;
     let lower = (register % 256) as usize;
@@ -164,7 +174,8 @@ fn octet_of(bits: &[bool]) -> u8
 /// The register 8 zeros later. Its lower byte is then the upper one.
 #[inline]
 fn shifted_by_octet(register: u16) -> u16
-    ensures { field_of result 16 ≡ remainder_of (field_of register 16) others16 (replicate 8 false) }
+    ensures { field_of result 16
+        ≡ remainder_of (field_of register 16) others16 (replicate 8 false) }
 {
     let upper = (register >> 8) as usize;
     let lower = register % 256;

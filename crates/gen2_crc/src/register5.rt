@@ -41,14 +41,16 @@ impl Crc5 {
 
     /// Stands for one bit more.
     pub fn push(&mut self, bit: bool)
-        ensures { (bits : List Bool) → self.old ≡ value_of (crc5_of bits) → self.new ≡ value_of (crc5_of (bits ++ bit ∷ [])) }
+        ensures { (bits : List Bool) → self.old ≡ value_of (crc5_of bits)
+            → self.new ≡ value_of (crc5_of (bits ++ bit ∷ [])) }
     {
         self.register = shifted5(self.register, bit);
     }
 
     /// Stands for these bits more.
     pub fn push_all(&mut self, bits: &[bool])
-        ensures { (front : List Bool) → self.old ≡ value_of (crc5_of front) → self.new ≡ value_of (crc5_of (front ++ bits.now)) }
+        ensures { (front : List Bool) → self.old ≡ value_of (crc5_of front)
+            → self.new ≡ value_of (crc5_of (front ++ bits.now)) }
     {
         for bit in bits {
             self.push(*bit);

@@ -4,7 +4,7 @@ use Rattle.std.proofs.Math.Nat.{min-eq_left, min-eq_right, min-le_left, le_of_lt
 use Rattle.std.proofs.Math.Seq.{take-length, drop-length, take-append_seam, drop-append_seam}
 use Rattle.std.proofs.lemmas.Bool.{cases_lt}
 use Rattle.std.proofs.lemmas.List.{append-nil, append_assoc, take-append-drop, length-take-le, length-drop}
-use Rattle.gen2_library.specs.Called.{IsFront, Gives, GivesFront, Overflows}
+use Rattle.gen2_library.specs.Called.{IsFrontOfText, Gives, GivesFront, Overflows}
 use Rattle.top_call.specs.Job.{Job, Defines}
 use Rattle.top_call.specs.StatusNumber.{status_number}
 use Rattle.top_call.specs.declared.status.Status.{Status}
@@ -46,7 +46,7 @@ gives T a leaves few named = record {
   is = whole-there a leaves few;
 }
 
-gives-front : (T : List ℕ → Type 0) (a : Call) → Leaves a → length a.written ≤ length a.old → IsFront T a.written → GivesFront T a.new a.count
+gives-front : (T : List ℕ → Type 0) (a : Call) → Leaves a → length a.written ≤ length a.old → IsFrontOfText T a.written → GivesFront T a.new a.count
 gives-front T a leaves few front = record {
   front = a.written;
   rest = front.rest;
@@ -56,7 +56,7 @@ gives-front T a leaves few front = record {
 }
 
 -- where there is none for the last of them, the room is full of their front
-overflows : (T : List ℕ → Type 0) (a : Call) → Leaves a → length a.old < length a.written → IsFront T a.written → Overflows T a.new a.count
+overflows : (T : List ℕ → Type 0) (a : Call) → Leaves a → length a.old < length a.written → IsFrontOfText T a.written → Overflows T a.new a.count
 overflows T a leaves many front =
     let few : length a.old ≤ length a.written = le_of_lt many in
     let n : a.count ≡ length a.old = leaves.count_is ∙ min-eq_right few in
@@ -159,12 +159,12 @@ pub record Says (job : Job) (bytes written : List ℕ) (status : Status) : Type 
   pub bad_input : status ≡ BadInput → job.refuses bytes written
   pub bad_words : status ≡ BadWords → written ≡ []
   pub too_long : status ≡ TooLong → written ≡ []
-  pub write_fault : status ≡ WriteFault → IsFront (Defines job bytes) written
-  pub out_of_memory : status ≡ OutOfMemory → (written ≡ []) ⊎ IsFront (Defines job bytes) written
+  pub write_fault : status ≡ WriteFault → IsFrontOfText (Defines job bytes) written
+  pub out_of_memory : status ≡ OutOfMemory → (written ≡ []) ⊎ IsFrontOfText (Defines job bytes) written
   pub no_read_fault : status ≢ ReadFault
 
 -- a whole text is a front of itself
-all-front : (T : List ℕ → Type 0) (written : List ℕ) → T written → IsFront T written
+all-front : (T : List ℕ → Type 0) (written : List ℕ) → T written → IsFrontOfText T written
 all-front T written named = record { rest = []; named = subst T (sym (append-nil written)) named }
 
 some-bytes : (written : List ℕ) (room : ℕ) → room < length written → written ≡ [] → ⊥
@@ -172,7 +172,7 @@ some-bytes written room many none = omega (arith, many, ap length none)
 
 -- so where more bytes came than there is room for, they are a front of the defined text
 front-of-text : (job : Job) (bytes written : List ℕ) (room : ℕ) (status : Status) → Says job bytes written status → room < length written
-    → IsFront (Defines job bytes) written
+    → IsFrontOfText (Defines job bytes) written
 front-of-text job bytes written room Done says many = all-front (Defines job bytes) written (inl (says.done refl))
 front-of-text job bytes written room BadInput says many = all-front (Defines job bytes) written (inr (says.bad_input refl))
 front-of-text job bytes written room WriteFault says many = says.write_fault refl

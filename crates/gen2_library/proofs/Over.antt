@@ -1,15 +1,15 @@
 -- What the clauses of the program say over memory, where the input and what was written are lists.
 use Rattle.std.proofs.Common.{◌≡◌, ◌⊎◌, ℕ, ◌+◌, ◌≤◌, ◌<◌, Bool, List, ◌++◌, length, Some, true, false, [], refl, sym, ◌∙◌, ap, subst, arith, inl, inr, length-append, if◌then◌else◌}
 use Rattle.std.proofs.lemmas.List.{append-nil}
-use Rattle.air_io.specs.Flow.{Reads, AtEnd, FaultsRose}
-use Rattle.gen2_library.specs.Called.{input_of, IsFront}
+use Rattle.air_io.specs.Flow.{TakesBytes, AtEnd, FaultsRose}
+use Rattle.gen2_library.specs.Called.{input_of, IsFrontOfText}
 use Rattle.top_call.specs.Job.{Job, Defines}
 use Rattle.top_call.specs.Outcome.{input_limit, TakesInput, ReadsTooMuch, SpeaksOfNoInput, WritesWhole, WritesFront}
 use Rattle.top_call.specs.declared.status.Status.{Status}
 use Rattle.top_call.specs.declared.status.Status.TheVariants.{Done, BadWords, BadInput, ReadFault, WriteFault, TooLong, OutOfMemory}
 
 -- what was read to its end is all of the input
-all-read : (told left bytes : List ℕ) → Reads (Some told) (Some left) bytes → AtEnd (Some left) → bytes ≡ told
+all-read : (told left bytes : List ℕ) → TakesBytes (Some told) (Some left) bytes → AtEnd (Some left) → bytes ≡ told
 all-read told left bytes reads end = let is : told ≡ bytes ++ left = cc in sym (is ∙ ap (λ rest. bytes ++ rest) end ∙ append-nil bytes)
 
 -- what a word took of its input is all of it, or nothing where it reads none
@@ -38,7 +38,7 @@ whole job T input told left before written at writes =
 
 -- and of one that was cut off it is a front
 front-of : (job : Job) (told left written : List ℕ) → WritesFront job (Some told) (Some left) (Some []) (Some written)
-    → IsFront (Defines job (input_of job told)) written
+    → IsFrontOfText (Defines job (input_of job told)) written
 front-of job told left written writes =
     let bytes : writes.bytes ≡ input_of job told = taken-is job.input told left writes.bytes writes.taken in
     let text : writes.adds.front ≡ written = let added = writes.adds.added in cc in
@@ -48,9 +48,9 @@ front-of job told left written writes =
     }
 
 pub front : (job : Job) (input told left before written : List ℕ) → AtCall input told before
-    → WritesFront job (Some told) (Some left) (Some before) (Some written) → IsFront (Defines job (input_of job input)) written
+    → WritesFront job (Some told) (Some left) (Some before) (Some written) → IsFrontOfText (Defines job (input_of job input)) written
 front job input told left before written at writes =
-    subst (λ i. IsFront (Defines job (input_of job i)) written) at.told_is
+    subst (λ i. IsFrontOfText (Defines job (input_of job i)) written) at.told_is
     (front-of job told left written (subst (λ b. WritesFront job (Some told) (Some left) (Some b) (Some written)) at.unwritten writes))
 
 -- an input of which too much was read is too long

@@ -19,7 +19,7 @@ abbrev pub input_of : Job → List ℕ → List ℕ
 input_of job input = if job.input then input else []
 
 -- the bytes are a front of a text that T names
-pub record IsFront (T : List ℕ → Type 0) (front : List ℕ) : Type 0 where
+pub record IsFrontOfText (T : List ℕ → Type 0) (front : List ℕ) : Type 0 where
   pub rest : List ℕ
   pub named : T (front ++ rest)
 

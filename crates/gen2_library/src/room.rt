@@ -65,8 +65,10 @@ impl Room {
     /// there was no room, and where a write failed and none came too many there was no memory.
     pub fn status_behind(&self, room: usize, status: Status) -> Status
         ensures longer { room < length self.now.written → result ≡ Status.WriteFault }
-        ensures no_memory { length self.now.written ≤ room → status ≡ Status.WriteFault → result ≡ Status.OutOfMemory }
-        ensures same { length self.now.written ≤ room → status ≢ Status.WriteFault → result ≡ status }
+        ensures no_memory { length self.now.written ≤ room → status ≡ Status.WriteFault
+            → result ≡ Status.OutOfMemory }
+        ensures same { length self.now.written ≤ room → status ≢ Status.WriteFault
+            → result ≡ status }
     {
         if self.bytes.len() > room {
             Status::WriteFault

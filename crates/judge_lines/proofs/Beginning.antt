@@ -7,7 +7,7 @@ use Rattle.text_fields.specs.Lines.{fields_of, lines_of}
 use Rattle.judge_lines.specs.Judged.{IsNoTagFor, IsRefusedFor}
 use Rattle.judge_lines.specs.declared.judging.Refusal.{Refusal}
 use Rattle.judge_lines.specs.declared.judging.Refusal.TheVariants.{Line, OutOfMemory}
-use Rattle.judge_lines.specs.LogText.{IsFaultyTag, IsFirstFault, begun, log_rules, logged, start, version_line, with_word, within}
+use Rattle.judge_lines.specs.LogText.{IsFaultyTag, IsFirstFault, begun, log_rules, logged, start, log_version_line, with_word, within}
 use Rattle.judge_lines.specs.Reading.{HasReadLog}
 use Rattle.checked_lines.specs.declared.fault.FaultReason.{FaultReason}
 use Rattle.checked_lines.specs.declared.fault.FaultReason.TheVariants.{End, Version}
@@ -16,11 +16,11 @@ use Rattle.checked_lines.specs.declared.fault.FaultReason.TheVariants.{End, Vers
 pub first_wanted : (bytes : List ℕ) → lines_of bytes ≡ bytes ∷ [] → IsFirstFault bytes 1 End
 first_wanted bytes last = unended_read log_rules start 1 (lines_of bytes) start 1 bytes (none_read log_rules start 1 (lines_of bytes)) last (λ none may. may)
 
-pub first_faulty : (bytes line behind : List ℕ) → lines_of bytes ≡ line ∷ lines_of behind → line ≢ version_line → IsFirstFault bytes 1 Version
+pub first_faulty : (bytes line behind : List ℕ) → lines_of bytes ≡ line ∷ lines_of behind → line ≢ log_version_line → IsFirstFault bytes 1 Version
 first_faulty bytes line behind cut other =
     fault_read log_rules start 1 (lines_of bytes) start 1 (lines_of bytes) (record { line = line; rest = behind; cut = cut }) Version (none_read log_rules start 1 (lines_of bytes)) (refl, other)
 
-pub version_read : (bytes line behind : List ℕ) → lines_of bytes ≡ line ∷ lines_of behind → line ≡ version_line → HasReadTo log_rules start 1 (lines_of bytes) begun 2 (lines_of behind)
+pub version_read : (bytes line behind : List ℕ) → lines_of bytes ≡ line ∷ lines_of behind → line ≡ log_version_line → HasReadTo log_rules start 1 (lines_of bytes) begun 2 (lines_of behind)
 version_read bytes line behind cut is =
     one_read log_rules start 1 (lines_of bytes) start 1 (lines_of bytes) (record { line = line; rest = behind; cut = cut }) begun (none_read log_rules start 1 (lines_of bytes)) (is, refl)
 

@@ -11,8 +11,8 @@ use Rattle.command_grammar.specs.declared.commands.Command.TheVariants.{QueryRep
 use Rattle.command_grammar.specs.declared.kinds.CommandKind.{CommandKind}
 use Rattle.command_grammar.specs.declared.kinds.CommandKind.TheVariants as kinds
 use Rattle.command_text.specs.CommandText.{IsCommandBehind, bank_word, command_name, commands, flag_word, mask_bank_word, payload_digits, sel_word, side_word, updn_word}
-use Rattle.command_text.specs.laws.CommandTexts.{commands_are}
-use Rattle.command_text.specs.laws.ToldApart.{block_of_list, list_of_block}
+use Rattle.command_text.proofs.CommandTexts.{commands_are}
+use Rattle.command_text.proofs.ToldApart.{block_of_list, list_of_block}
 use Rattle.scenario_lines.specs.Spelling.{flag_text}
 use Rattle.scenario_lines.proofs.Decisions.{Any, Decided, Spelled, behind_decided as then, nothing_decided as end, same_answer}
 use Rattle.scenario_lines.proofs.FieldsDecided.{IsWithin, any_bank_decided, bank_decided, bit_decided, bits_decided, code_decided, decimal_decided as number, flag_decided, payload_decided, side_decided, tried, word_decided, words_decided}

@@ -11,7 +11,7 @@ use Rattle.probe_lines.specs.Said.{Stimulus, StimulusEffect, Does}
 use Rattle.probe_lines.specs.Said as said
 use Rattle.text_fields.specs.Lines.{fields_of, lines_of}
 use Rattle.judge_lines.specs.SeenLine.{BeginsAsAnswer, SpellSeen}
-use Rattle.judge_lines.specs.LogText.{GoesTo, IsFaultyNext, IsFaultySeen, IsFirstFault, IsLogText, Standing, asked, behind_effect, ended, log_rules, start, within}
+use Rattle.judge_lines.specs.LogText.{GoesTo, IsFaultyNext, IsFaultySeen, IsFirstFault, IsLogText, LogStanding, asked, behind_effect, ended, log_rules, start, within}
 use Rattle.judge_lines.specs.Reading.{HasReadLog, IsFaultOf}
 use Rattle.checked_lines.specs.declared.fault.FaultReason.{FaultReason}
 use Rattle.checked_lines.specs.declared.fault.FaultReason.TheVariants.{End, Extra}
@@ -25,12 +25,12 @@ pub exchange_pushed : (log : List LogEntry) (heard : Option Command) (seen : Opt
 exchange_pushed log heard seen = lines_pushed log (Exchange heard seen)
 
 -- a line that leads on
-read_on : (bytes : List ℕ) (from to : Standing) (number : ℕ) (rest line behind : List ℕ) → HasReadTo log_rules start 1 (lines_of bytes) from number (lines_of rest)
+read_on : (bytes : List ℕ) (from to : LogStanding) (number : ℕ) (rest line behind : List ℕ) → HasReadTo log_rules start 1 (lines_of bytes) from number (lines_of rest)
     → lines_of rest ≡ line ∷ lines_of behind → GoesTo from line to → HasReadTo log_rules start 1 (lines_of bytes) to (number + 1) (lines_of behind)
 read_on bytes from to number rest line behind so_far cut goes =
     one_read log_rules start 1 (lines_of bytes) from number (lines_of rest) (record { line = line; rest = behind; cut = cut }) to so_far goes
 
-renumbered : (bytes : List ℕ) (standing : Standing) (one other : ℕ) (left : List (List ℕ)) → one ≡ other → HasReadTo log_rules start 1 (lines_of bytes) standing one left
+renumbered : (bytes : List ℕ) (standing : LogStanding) (one other : ℕ) (left : List (List ℕ)) → one ≡ other → HasReadTo log_rules start 1 (lines_of bytes) standing one left
     → HasReadTo log_rules start 1 (lines_of bytes) standing other left
 renumbered bytes standing one other left same so_far = subst (λ (number : ℕ). HasReadTo log_rules start 1 (lines_of bytes) standing number left) same so_far
 

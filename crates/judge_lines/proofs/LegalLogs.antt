@@ -15,7 +15,7 @@ use Rattle.reply_grammar.specs.declared.expected.Reply.TheVariants.{Rn16, Epc, H
 use Rattle.reply_text.specs.ReplyText.{IsReplyForm}
 use Rattle.text_fields.specs.Lines.{lines_of}
 use Rattle.judge_lines.specs.SeenLine.{IsSeen}
-use Rattle.judge_lines.specs.LogText.{GoesTo, IsLogText, LeadsTo, Standing, asked, begun, behind_effect, ended, log_rules, start, within}
+use Rattle.judge_lines.specs.LogText.{GoesTo, IsLogText, LogLeadsTo, LogStanding, asked, begun, behind_effect, ended, log_rules, start, within}
 
 -- an entry more
 legal_pushed : (log : List LogEntry) (entry : LogEntry) → IsLegalLog log → IsLegalEntry entry → IsLegalLog (log ++ entry ∷ [])
@@ -49,7 +49,7 @@ seen_small None is = omega arith
 seen_small (Some seen) is = reply_small seen.reply is
 
 -- where a text stands
-abbrev IsLegalStanding : Standing → Type 0
+abbrev IsLegalStanding : LogStanding → Type 0
 IsLegalStanding start = Unit {0}
 IsLegalStanding begun = Unit {0}
 IsLegalStanding (within tag log) = IsLegalLog log
@@ -61,12 +61,12 @@ behind_legal tag log (said.Hears command) are is = (are, is)
 behind_legal tag log said.Nothing are is = (are, tt)
 behind_legal tag log (said.Befalls event) are is = legal_pushed log (entries.Befalls event) are tt
 
-lead_legal : (tag : LoggedTag) (log : List LogEntry) (says : ProbeLine) (to : Standing) → IsLegalLog log → IsProbeLine says → LeadsTo tag log says to → IsLegalStanding to
+lead_legal : (tag : LoggedTag) (log : List LogEntry) (says : ProbeLine) (to : LogStanding) → IsLegalLog log → IsProbeLine says → LogLeadsTo tag log says to → IsLegalStanding to
 lead_legal tag log said.End to are is leads = subst IsLegalStanding (sym leads) are
 lead_legal tag log (said.Does stimulus) to are is leads =
     subst IsLegalStanding (sym leads.leads) (behind_legal tag log leads.effect are (effect_legal stimulus leads.effect is leads.has))
 
-goes_legal : (from to : Standing) (line : List ℕ) → IsLegalStanding from → GoesTo from line to → IsLegalStanding to
+goes_legal : (from to : LogStanding) (line : List ℕ) → IsLegalStanding from → GoesTo from line to → IsLegalStanding to
 goes_legal start to line are goes = subst IsLegalStanding (sym goes.1) tt
 goes_legal begun to line are goes = subst IsLegalStanding (sym goes.leads) tt
 goes_legal (within tag log) to line are goes = lead_legal tag log goes.says to are goes.spells.is goes.leads
@@ -75,7 +75,7 @@ goes_legal (asked tag log heard) to line are goes =
     (legal_pushed log (entries.Exchange heard goes.seen) are.0 (record { heard_is = are.1; seen_is = seen_small goes.seen goes.spells.is }))
 goes_legal (ended tag log) to line are goes = absurd goes
 
-from_legal : (from : Standing) (number : ℕ) (lines : List (List ℕ)) (tag : LoggedTag) (log : List LogEntry) → IsLegalStanding from
+from_legal : (from : LogStanding) (number : ℕ) (lines : List (List ℕ)) (tag : LoggedTag) (log : List LogEntry) → IsLegalStanding from
     → HasOutcomeFrom log_rules from number lines (Whole (ended tag log)) → IsLegalLog log
 from_legal from number [] tag log are is = absurd is
 from_legal from number (line ∷ []) tag log are is = subst IsLegalStanding (sym is.2) are

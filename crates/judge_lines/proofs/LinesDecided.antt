@@ -6,11 +6,11 @@ use Rattle.air_events.specs.declared.Event.TheVariants as events
 use Rattle.command_fields.specs.declared.choices.FlagName.TheVariants.{S0}
 use Rattle.command_grammar.specs.Commands.{IsLegalCommand}
 use Rattle.command_text.specs.CommandText.{commands, flag_word}
-use Rattle.command_text.specs.laws.FieldTexts.{flag_is}
+use Rattle.command_text.proofs.FieldTexts.{flag_is}
 use Rattle.scenario_lines.proofs.ToldNames.{event_word_told}
-use Rattle.text_fields.specs.laws.FilledFields.{none_filled, one_more}
+use Rattle.text_fields.proofs.FilledFields.{none_filled, one_more}
 use Rattle.log_verdicts.specs.Log.{Seen}
-use Rattle.probe_lines.specs.LineFaults.{BeginsWith, IsFaultyProbeLine}
+use Rattle.probe_lines.specs.LineFaults.{BeginsWithWord, IsFaultyProbeLine}
 use Rattle.probe_lines.specs.ProbeLine.{IsProbeEvent, SpellsProbeLine, SpellsTag, line_word, probe_events}
 use Rattle.probe_lines.specs.ProbeText.{BeginsAsTag, IsFaultyTagLine}
 use Rattle.probe_lines.specs.Said.{ProbeLine}
@@ -39,7 +39,7 @@ use Rattle.text_fields.specs.declared.fields_fault.FieldsFault.TheVariants.{Word
 use Rattle.judge_lines.proofs.CommandsDecided.{commands_decided}
 use Rattle.judge_lines.proofs.RepliesDecided.{replies_decided}
 use Rattle.judge_lines.proofs.VocabularyDecided.{AreDecided, SpellOrAreFaulty, filled_decided, spell_or_are_faulty}
-use Rattle.judge_lines.specs.SeenLine.{AreFaultySeen, SpellSeen, mark_word}
+use Rattle.judge_lines.specs.SeenLine.{AreFaultySeen, SpellSeen, seen_mark_word}
 
 -- no more fields
 abbrev nothing : Unit {0} → List (List ℕ)
@@ -99,7 +99,7 @@ SaysOrIsFaulty fields = ((line : ProbeLine) × SpellsProbeLine fields line) ⊎ 
 
 bits_or_faulty : (others : List (List ℕ)) → SaysOrIsFaulty (line_word words.Bits ∷ others)
 bits_or_faulty others =
-    let begins : BeginsWith (line_word words.Bits ∷ others) words.Bits = record { others = others; first = refl } in
+    let begins : BeginsWithWord (line_word words.Bits ∷ others) words.Bits = record { others = others; first = refl } in
     elim (filled_decided 1 others) [
       | inr unfilled ↦ inr (Shape, inl (record { word = words.Bits; begins = begins; behind = unfilled }))
       | inl filled ↦ elim (then (bits_decided 0 8240) end others) [
@@ -128,7 +128,7 @@ end_or_faulty [] = inl (said.End, record { spelling = refl; is = tt })
 end_or_faulty (field ∷ others) =
     inr (Shape, inl (record { word = words.End; begins = record { others = field ∷ others; first = refl }; behind = λ same. cc }))
 
-command_or_faulty : (fields : List (List ℕ)) → ((word : LineWord) → ¬ BeginsWith fields word) → SpellOrAreFaulty commands IsLegalCommand fields → SaysOrIsFaulty fields
+command_or_faulty : (fields : List (List ℕ)) → ((word : LineWord) → ¬ BeginsWithWord fields word) → SpellOrAreFaulty commands IsLegalCommand fields → SaysOrIsFaulty fields
 command_or_faulty fields other (inl found) = inl (said.Does (said.SendsCommand found.0), record { spelling = found.1.spelling; is = found.1.in_range })
 command_or_faulty fields other (inr faulty) = inr (faulty.0, inr (record { other = other; faulty = faulty.1 }))
 
@@ -163,38 +163,38 @@ says_or_is_faulty (first ∷ others) = elim (word_decided first) [
 abbrev pub TellsOrIsFaulty : List (List ℕ) → Type 0
 TellsOrIsFaulty others = ((seen : Option Seen) × SpellSeen others seen) ⊎ ((fault : FieldsFault) × AreFaultySeen others fault)
 
-silent_or_faulty : (behind : List (List ℕ)) → TellsOrIsFaulty (mark_word Silent ∷ behind)
+silent_or_faulty : (behind : List (List ℕ)) → TellsOrIsFaulty (seen_mark_word Silent ∷ behind)
 silent_or_faulty [] = inl (None, record { spelling = refl; is = tt })
 silent_or_faulty (field ∷ behind) =
     inr (Shape, inl (record { mark = Silent; behind = field ∷ behind; marked = refl; faulty = λ same. cc }))
 
-plain_or_faulty : (behind : List (List ℕ)) → SpellOrAreFaulty replies IsReplyForm behind → TellsOrIsFaulty (mark_word Plain ∷ behind)
+plain_or_faulty : (behind : List (List ℕ)) → SpellOrAreFaulty replies IsReplyForm behind → TellsOrIsFaulty (seen_mark_word Plain ∷ behind)
 plain_or_faulty behind (inl found) =
     inl (
       Some (record { reply = found.0; extended = false }),
-      record { spelling = ap (λ (rest : List (List ℕ)). mark_word Plain ∷ rest) found.1.spelling; is = found.1.in_range },
+      record { spelling = ap (λ (rest : List (List ℕ)). seen_mark_word Plain ∷ rest) found.1.spelling; is = found.1.in_range },
     )
 plain_or_faulty behind (inr faulty) = inr (faulty.0, inl (record { mark = Plain; behind = behind; marked = refl; faulty = faulty.1 }))
 
-extended_or_faulty : (behind : List (List ℕ)) → SpellOrAreFaulty replies IsReplyForm behind → TellsOrIsFaulty (mark_word Extended ∷ behind)
+extended_or_faulty : (behind : List (List ℕ)) → SpellOrAreFaulty replies IsReplyForm behind → TellsOrIsFaulty (seen_mark_word Extended ∷ behind)
 extended_or_faulty behind (inl found) =
     inl (
       Some (record { reply = found.0; extended = true }),
-      record { spelling = ap (λ (rest : List (List ℕ)). mark_word Extended ∷ rest) found.1.spelling; is = found.1.in_range },
+      record { spelling = ap (λ (rest : List (List ℕ)). seen_mark_word Extended ∷ rest) found.1.spelling; is = found.1.in_range },
     )
 extended_or_faulty behind (inr faulty) = inr (faulty.0, inl (record { mark = Extended; behind = behind; marked = refl; faulty = faulty.1 }))
 
-marked_or_faulty : (mark : Answered) (behind : List (List ℕ)) → TellsOrIsFaulty (mark_word mark ∷ behind)
+marked_or_faulty : (mark : Answered) (behind : List (List ℕ)) → TellsOrIsFaulty (seen_mark_word mark ∷ behind)
 marked_or_faulty Silent behind = silent_or_faulty behind
 marked_or_faulty Plain behind = plain_or_faulty behind (spell_or_are_faulty replies IsReplyForm replies_decided behind)
 marked_or_faulty Extended behind = extended_or_faulty behind (spell_or_are_faulty replies IsReplyForm replies_decided behind)
 
-no_mark : (field : List ℕ) → field ≢ mark_word Silent → field ≢ mark_word Plain → field ≢ mark_word Extended → (mark : Answered) → field ≡ mark_word mark → ⊥
+no_mark : (field : List ℕ) → field ≢ seen_mark_word Silent → field ≢ seen_mark_word Plain → field ≢ seen_mark_word Extended → (mark : Answered) → field ≡ seen_mark_word mark → ⊥
 no_mark field silent plain extended Silent is = silent is
 no_mark field silent plain extended Plain is = plain is
 no_mark field silent plain extended Extended is = extended is
 
-mark_decided : (field : List ℕ) → Decided (Spelled mark_word Any field)
+mark_decided : (field : List ℕ) → Decided (Spelled seen_mark_word Any field)
 mark_decided field =
     tried Silent tt (λ silent. tried Plain tt (λ plain. tried Extended tt (λ extended. inr (λ found. no_mark field silent plain extended found.0 found.2))))
 

@@ -7,27 +7,27 @@ use Rattle.command_grammar.specs.declared.commands.Command.{Command}
 use Rattle.log_verdicts.specs.Log.{LogEntry, LoggedTag, Seen, Exchange, lines_in}
 use Rattle.log_verdicts.specs.Log as entries
 use Rattle.probe_lines.specs.Answers.{HasEffect}
-use Rattle.probe_lines.specs.LineFaults.{BeginsWith, IsFaultyProbeLine}
+use Rattle.probe_lines.specs.LineFaults.{BeginsWithWord, IsFaultyProbeLine}
 use Rattle.probe_lines.specs.ProbeLine.{SpellsProbeLine}
 use Rattle.probe_lines.specs.ProbeText.{IsTooMuch, most_stimuli}
 use Rattle.probe_lines.specs.Said.{ProbeLine, Stimulus, StimulusEffect, Does}
 use Rattle.probe_lines.specs.Said as said
 use Rattle.probe_lines.specs.declared.line.LineWord.TheVariants as words
-use Rattle.probe_lines.specs.laws.LineLaws.{LineLaws, TagLineLaws}
+use Rattle.probe_lines.specs.laws.LineLaws.{ProbeLineLaws, TagLineLaws}
 use Rattle.scenario_lines.specs.declared.tag.TagSpec.{TagSpec}
 use Rattle.text_fields.specs.Lines.{fields_of}
 use Rattle.text_fields.specs.declared.fields_fault.FieldsFault.{FieldsFault}
 use Rattle.text_fields.specs.declared.fields_fault.FieldsFault.TheVariants as reasons
-use Rattle.text_fields.specs.laws.NamedFieldLaws.{same_behind}
+use Rattle.text_fields.proofs.NamedFieldLaws.{same_behind}
 use Rattle.judge_lines.specs.SeenLine.{AreFaultySeen, BeginsAsAnswer, SpellSeen, answer_word}
-use Rattle.judge_lines.specs.LogText.{DoesNext, GoesTo, HasUnknownWord, IsFaultyAsAnswer, IsFaultyAsOther, IsFaultyHere, IsFaultyNext, IsFaultySeen, LeadsTo, Standing, TellsNext, TellsSeen, TellsTag, asked, begun, behind_effect, ended, log_rules, logged, start, with_word, within}
+use Rattle.judge_lines.specs.LogText.{DoesNext, GoesTo, HasUnknownWord, IsFaultyAsAnswer, IsFaultyAsOther, IsFaultyLogLine, IsFaultyNext, IsFaultySeen, LogLeadsTo, LogStanding, TellsNextEntry, TellsSeen, TellsLoggedTag, asked, begun, behind_effect, ended, log_rules, logged, start, with_word, within}
 use Rattle.checked_lines.specs.declared.fault.FaultReason.{FaultReason}
 use Rattle.checked_lines.specs.declared.fault.FaultReason.TheVariants.{Extra, End, Version, Word, Order, Limit, Shape, Number, Pc}
 use Rattle.judge_lines.specs.laws.SeenLaws.{SeenLaws}
 
 -- what the laws of single lines say
 pub record Known : Type 0 where
-  pub lines : LineLaws
+  pub lines : ProbeLineLaws
   pub tags : TagLineLaws
   pub seen : SeenLaws
   pub one_effect : (said : List Stimulus) (one other : List StimulusEffect) → AllZip HasEffect said one → AllZip HasEffect said other → one ≡ other
@@ -40,19 +40,19 @@ same_others fields one other = (same_behind answer_word answer_word one.others o
 same_effect : (one other : StimulusEffect) → one ∷ [] ≡ other ∷ [] → one ≡ other
 same_effect one other same = cc
 
-one_lead : Known → (tag : LoggedTag) (log : List LogEntry) (says : ProbeLine) (one other : Standing) → LeadsTo tag log says one → LeadsTo tag log says other → one ≡ other
+one_lead : Known → (tag : LoggedTag) (log : List LogEntry) (says : ProbeLine) (one other : LogStanding) → LogLeadsTo tag log says one → LogLeadsTo tag log says other → one ≡ other
 one_lead known tag log said.End one other leads leads' = leads ∙ sym leads'
 one_lead known tag log (said.Does stimulus) one other leads leads' =
     let same = same_effect leads.effect leads'.effect
     (known.one_effect (stimulus ∷ []) (leads.effect ∷ []) (leads'.effect ∷ []) (leads.has, tt) (leads'.has, tt)) in
     leads.leads ∙ ap (λ (effect : StimulusEffect). behind_effect tag log effect) same ∙ sym leads'.leads
 
-one_next : Known → (tag : LoggedTag) (log : List LogEntry) (fields : List (List ℕ)) (one other : Standing) → TellsNext tag log fields one → TellsNext tag log fields other → one ≡ other
+one_next : Known → (tag : LoggedTag) (log : List LogEntry) (fields : List (List ℕ)) (one other : LogStanding) → TellsNextEntry tag log fields one → TellsNextEntry tag log fields other → one ≡ other
 one_next known tag log fields one other tells tells' =
     let same = known.lines.told fields tells'.says tells.says tells'.spells tells.spells in
-    one_lead known tag log tells.says one other tells.leads (subst (λ (says : ProbeLine). LeadsTo tag log says other) same tells'.leads)
+    one_lead known tag log tells.says one other tells.leads (subst (λ (says : ProbeLine). LogLeadsTo tag log says other) same tells'.leads)
 
-one_seen : Known → (tag : LoggedTag) (log : List LogEntry) (heard : Option Command) (fields : List (List ℕ)) (one other : Standing)
+one_seen : Known → (tag : LoggedTag) (log : List LogEntry) (heard : Option Command) (fields : List (List ℕ)) (one other : LogStanding)
     → TellsSeen tag log heard fields one → TellsSeen tag log heard fields other → one ≡ other
 one_seen known tag log heard fields one other tells tells' =
     let others = same_others fields tells'.begins tells.begins in
@@ -60,12 +60,12 @@ one_seen known tag log heard fields one other tells tells' =
     (subst (λ (list : List (List ℕ)). SpellSeen list tells'.seen) others tells'.spells) in
     tells.leads ∙ ap (λ (seen : Option Seen). within tag (log ++ Exchange heard seen ∷ [])) same ∙ sym tells'.leads
 
-one_tag : Known → (line : List ℕ) (one other : Standing) → TellsTag line one → TellsTag line other → one ≡ other
+one_tag : Known → (line : List ℕ) (one other : LogStanding) → TellsLoggedTag line one → TellsLoggedTag line other → one ≡ other
 one_tag known line one other tells tells' =
     let same = known.tags.told (with_word (fields_of line)) tells.tag tells'.tag tells.spells tells'.spells in
     tells.leads ∙ ap (λ (tag : TagSpec). within (logged tag) []) same ∙ sym tells'.leads
 
-one_standing : Known → (from one other : Standing) (line : List ℕ) → GoesTo from line one → GoesTo from line other → one ≡ other
+one_standing : Known → (from one other : LogStanding) (line : List ℕ) → GoesTo from line one → GoesTo from line other → one ≡ other
 one_standing known start one other line goes goes' = goes.1 ∙ sym goes'.1
 one_standing known begun one other line goes goes' = one_tag known line one other goes goes'
 one_standing known (within tag log) one other line goes goes' = one_next known tag log (fields_of line) one other goes goes'
@@ -73,7 +73,7 @@ one_standing known (asked tag log heard) one other line goes goes' = one_seen kn
 one_standing known (ended tag log) one other line goes goes' = absurd goes
 
 -- a word that is unknown is the reason
-unknown_other : LineLaws → (fields : List (List ℕ)) (fault : FieldsFault) → HasUnknownWord fields → IsFaultyAsOther fields fault → reasons.Word ≡ fault
+unknown_other : ProbeLineLaws → (fields : List (List ℕ)) (fault : FieldsFault) → HasUnknownWord fields → IsFaultyAsOther fields fault → reasons.Word ≡ fault
 unknown_other laws fields fault (inl answer) other = absurd (other.other answer.begins)
 unknown_other laws fields fault (inr first) other = laws.one_fault fields reasons.Word fault first.faulty other.faulty
 
@@ -83,7 +83,7 @@ unknown_answer laws fields fault (inl first) answer =
     laws.one_fault answer.begins.others reasons.Word fault
     (subst (λ (list : List (List ℕ)). AreFaultySeen list reasons.Word) (same_others fields first.begins answer.begins) first.faulty) answer.faulty
 
-pub no_unknown_other : LineLaws → (fields : List (List ℕ)) → HasUnknownWord fields → IsFaultyAsOther fields reasons.Shape ⊎ IsFaultyAsOther fields reasons.Number → ⊥
+pub no_unknown_other : ProbeLineLaws → (fields : List (List ℕ)) → HasUnknownWord fields → IsFaultyAsOther fields reasons.Shape ⊎ IsFaultyAsOther fields reasons.Number → ⊥
 no_unknown_other laws fields unknown (inl shape) = let same = unknown_other laws fields reasons.Shape unknown shape in cc
 no_unknown_other laws fields unknown (inr number) = let same = unknown_other laws fields reasons.Number unknown number in cc
 
@@ -102,7 +102,7 @@ pub answer_known : SeenLaws → (fields : List (List ℕ)) (begins : BeginsAsAns
 answer_known laws fields begins seen spells (inl answer) = answer_not_faulty laws fields begins seen reasons.Word spells answer
 answer_known laws fields begins seen spells (inr other) = other.other begins
 
-pub other_known : LineLaws → (fields : List (List ℕ)) (line : ProbeLine) → (¬ BeginsAsAnswer fields) → SpellsProbeLine fields line → HasUnknownWord fields → ⊥
+pub other_known : ProbeLineLaws → (fields : List (List ℕ)) (line : ProbeLine) → (¬ BeginsAsAnswer fields) → SpellsProbeLine fields line → HasUnknownWord fields → ⊥
 other_known laws fields line other spells (inl answer) = other answer.begins
 other_known laws fields line other spells (inr faulty) = laws.not_faulty fields line reasons.Word spells faulty.faulty
 
@@ -187,7 +187,7 @@ one_seen_reason known count fields one End a b = absurd b
 one_seen_reason known count fields one Version a b = absurd b
 one_seen_reason known count fields one Pc a b = absurd b
 
-one_reason : Known → (from : Standing) (line : List ℕ) (one other : FaultReason) → IsFaultyHere from line one → IsFaultyHere from line other → one ≡ other
+one_reason : Known → (from : LogStanding) (line : List ℕ) (one other : FaultReason) → IsFaultyLogLine from line one → IsFaultyLogLine from line other → one ≡ other
 one_reason known start line one other a b = a.0 ∙ sym b.0
 one_reason known begun line one other a b = known.tags.one_fault (with_word (fields_of line)) one other a b
 one_reason known (within tag log) line one other a b = one_next_reason known (lines_in log) (fields_of line) one other a b
@@ -195,12 +195,12 @@ one_reason known (asked tag log heard) line one other a b = one_seen_reason know
 one_reason known (ended tag log) line one other a b = a ∙ sym b
 
 -- a line that says something has room
-has_room : (tag : LoggedTag) (log : List LogEntry) (fields : List (List ℕ)) (says : ProbeLine) (to : Standing) → SpellsProbeLine fields says → LeadsTo tag log says to
+has_room : (tag : LoggedTag) (log : List LogEntry) (fields : List (List ℕ)) (says : ProbeLine) (to : LogStanding) → SpellsProbeLine fields says → LogLeadsTo tag log says to
     → IsTooMuch (lines_in log) fields → ⊥
 has_room tag log fields said.End to spells leads many = many.needs (record { others = []; first = spells.spelling })
 has_room tag log fields (said.Does stimulus) to spells leads many = let room = leads.room in let full = many.full in omega arith
 
-next_not_faulty : Known → (tag : LoggedTag) (log : List LogEntry) (fields : List (List ℕ)) (to : Standing) (fault : FaultReason) → TellsNext tag log fields to
+next_not_faulty : Known → (tag : LoggedTag) (log : List LogEntry) (fields : List (List ℕ)) (to : LogStanding) (fault : FaultReason) → TellsNextEntry tag log fields to
     → IsFaultyNext (lines_in log) fields fault → ⊥
 next_not_faulty known tag log fields to Word tells (inl answer) = tells.other answer.begins
 next_not_faulty known tag log fields to Word tells (inr other) = known.lines.not_faulty fields tells.says reasons.Word tells.spells other.faulty
@@ -213,7 +213,7 @@ next_not_faulty known tag log fields to End tells faulty = faulty
 next_not_faulty known tag log fields to Version tells faulty = faulty
 next_not_faulty known tag log fields to Pc tells faulty = faulty
 
-seen_not_faulty : Known → (tag : LoggedTag) (log : List LogEntry) (heard : Option Command) (fields : List (List ℕ)) (to : Standing) (fault : FaultReason)
+seen_not_faulty : Known → (tag : LoggedTag) (log : List LogEntry) (heard : Option Command) (fields : List (List ℕ)) (to : LogStanding) (fault : FaultReason)
     → TellsSeen tag log heard fields to → IsFaultySeen (lines_in log + 1) fields fault → ⊥
 seen_not_faulty known tag log heard fields to Word tells (inl answer) = answer_not_faulty known.seen fields tells.begins tells.seen reasons.Word tells.spells answer
 seen_not_faulty known tag log heard fields to Word tells (inr other) = other.other tells.begins
@@ -226,7 +226,7 @@ seen_not_faulty known tag log heard fields to End tells faulty = faulty
 seen_not_faulty known tag log heard fields to Version tells faulty = faulty
 seen_not_faulty known tag log heard fields to Pc tells faulty = faulty
 
-not_faulty : Known → (from to : Standing) (line : List ℕ) (fault : FaultReason) → GoesTo from line to → IsFaultyHere from line fault → ⊥
+not_faulty : Known → (from to : LogStanding) (line : List ℕ) (fault : FaultReason) → GoesTo from line to → IsFaultyLogLine from line fault → ⊥
 not_faulty known start to line fault goes faulty = faulty.1 goes.0
 not_faulty known begun to line fault goes faulty = known.tags.not_faulty (with_word (fields_of line)) goes.tag fault goes.spells faulty
 not_faulty known (within tag log) to line fault goes faulty = next_not_faulty known tag log (fields_of line) to fault goes faulty

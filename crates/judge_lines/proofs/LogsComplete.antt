@@ -10,7 +10,7 @@ use Rattle.checked_lines.specs.declared.fault.FaultReason.TheVariants.{Extra, Ve
 use Rattle.command_grammar.specs.declared.commands.Command.{Command}
 use Rattle.log_verdicts.specs.Log.{LogEntry, LoggedTag, lines_in}
 use Rattle.probe_lines.specs.Answers.{HasEffect}
-use Rattle.probe_lines.specs.LineFaults.{BeginsWith}
+use Rattle.probe_lines.specs.LineFaults.{BeginsWithWord}
 use Rattle.probe_lines.specs.ProbeLine.{SpellsProbeLine, line_word}
 use Rattle.probe_lines.specs.ProbeText.{IsTooMuch, most_stimuli}
 use Rattle.probe_lines.specs.Said.{ProbeLine, Stimulus, StimulusEffect, Does}
@@ -21,7 +21,7 @@ use Rattle.text_fields.specs.Lines.{fields_of, lines_of}
 use Rattle.text_fields.specs.declared.fields_fault.FieldsFault.TheVariants as reasons
 use Rattle.judge_lines.proofs.LinesDecided.{SaysOrIsFaulty, TellsOrIsFaulty, TellsTagOrIsFaulty, head_same, says_or_is_faulty, tag_or_faulty, tells_or_is_faulty}
 use Rattle.judge_lines.proofs.LogLaws.{Known, answer_known, no_unknown_answer, no_unknown_other, other_known}
-use Rattle.judge_lines.specs.LogText.{HasUnknownWord, IsFaultyNext, IsFaultySeen, IsFirstFault, IsLogText, MayEnd, Standing, TellsNext, TellsSeen, asked, begun, behind_effect, ended, log_rules, logged, start, version_line, with_word, within}
+use Rattle.judge_lines.specs.LogText.{HasUnknownWord, IsFaultyNext, IsFaultySeen, IsFirstFault, IsLogText, LogMayEnd, LogStanding, TellsNextEntry, TellsSeen, asked, begun, behind_effect, ended, log_rules, logged, start, log_version_line, with_word, within}
 use Rattle.judge_lines.specs.SeenLine.{BeginsAsAnswer, answer_word}
 
 -- what the laws of single lines say, and that what is done to a tag has an effect
@@ -41,7 +41,7 @@ answer_decided (first ∷ others) = elim (text_decided first answer_word) [
   | inr other ↦ inr (λ begins. other (head_same first answer_word others begins.others begins.first))
 ]
 
-end_decided : (fields : List (List ℕ)) → Decided (BeginsWith fields words.End)
+end_decided : (fields : List (List ℕ)) → Decided (BeginsWithWord fields words.End)
 end_decided [] = inr (λ begins. let same = begins.first in cc)
 end_decided (first ∷ others) = elim (text_decided first (line_word words.End)) [
   | inl is ↦ inl (record { others = others; first = ap (λ (field : List ℕ). field ∷ others) is })
@@ -95,7 +95,7 @@ missed known count fields other (inr (reasons.Number, faulty)) =
 
 -- a line that begins as an answer, where one is awaited
 abbrev SeenOrIsFaulty : LoggedTag → List LogEntry → Option Command → List (List ℕ) → Type 0
-SeenOrIsFaulty tag log heard fields = ((to : Standing) × TellsSeen tag log heard fields to) ⊎ ((reason : FaultReason) × IsFaultySeen (lines_in log + 1) fields reason)
+SeenOrIsFaulty tag log heard fields = ((to : LogStanding) × TellsSeen tag log heard fields to) ⊎ ((reason : FaultReason) × IsFaultySeen (lines_in log + 1) fields reason)
 
 seen_or_faulty : Known → (tag : LoggedTag) (log : List LogEntry) (heard : Option Command) (fields : List (List ℕ)) (begins : BeginsAsAnswer fields)
     → TellsOrIsFaulty begins.others → (lines_in log + 1 < most_stimuli) ⊎ (most_stimuli ≤ lines_in log + 1) → SeenOrIsFaulty tag log heard fields
@@ -119,7 +119,7 @@ seen_or_faulty known tag log heard fields begins (inr (reasons.Number, faulty)) 
 
 -- a line that doesn't, where none is awaited
 abbrev NextOrIsFaulty : LoggedTag → List LogEntry → List (List ℕ) → Type 0
-NextOrIsFaulty tag log fields = ((to : Standing) × TellsNext tag log fields to) ⊎ ((reason : FaultReason) × IsFaultyNext (lines_in log) fields reason)
+NextOrIsFaulty tag log fields = ((to : LogStanding) × TellsNextEntry tag log fields to) ⊎ ((reason : FaultReason) × IsFaultyNext (lines_in log) fields reason)
 
 does_next : MoreKnown → (tag : LoggedTag) (log : List LogEntry) (fields : List (List ℕ)) (stimulus : Stimulus) → (¬ BeginsAsAnswer fields) → SpellsProbeLine fields (Does stimulus)
     → (lines_in log < most_stimuli) ⊎ (most_stimuli ≤ lines_in log) → NextOrIsFaulty tag log fields
@@ -153,13 +153,13 @@ next_or_faulty more tag log fields other (inr (reasons.Shape, faulty)) (inr fits
 next_or_faulty more tag log fields other (inr (reasons.Number, faulty)) (inr fits) = inr (Number, (fits, record { other = other; faulty = faulty }))
 
 version_or_faulty : (line : List ℕ) → LeadsOrIsFaulty log_rules start line
-version_or_faulty line = elim (text_decided line version_line) [ inl is ↦ inl (begun, (is, refl)) | inr other ↦ inr (Version, (refl, other)) ]
+version_or_faulty line = elim (text_decided line log_version_line) [ inl is ↦ inl (begun, (is, refl)) | inr other ↦ inr (Version, (refl, other)) ]
 
 tag_leads : (line : List ℕ) → TellsTagOrIsFaulty (with_word (fields_of line)) → LeadsOrIsFaulty log_rules begun line
 tag_leads line (inl found) = inl (within (logged found.0) [], record { tag = found.0; spells = found.1; leads = refl })
 tag_leads line (inr faulty) = inr faulty
 
-each_line : MoreKnown → (from : Standing) (line : List ℕ) → LeadsOrIsFaulty log_rules from line
+each_line : MoreKnown → (from : LogStanding) (line : List ℕ) → LeadsOrIsFaulty log_rules from line
 each_line more start line = version_or_faulty line
 each_line more begun line = tag_leads line (tag_or_faulty (with_word (fields_of line)))
 each_line more (within tag log) line = elim (answer_decided (fields_of line)) [
@@ -172,7 +172,7 @@ each_line more (asked tag log heard) line = elim (answer_decided (fields_of line
 ]
 each_line more (ended tag log) line = inr (Extra, refl)
 
-end_or_not : (standing : Standing) → MayEnd standing ⊎ (¬ MayEnd standing)
+end_or_not : (standing : LogStanding) → LogMayEnd standing ⊎ (¬ LogMayEnd standing)
 end_or_not start = inr (λ may. may)
 end_or_not begun = inr (λ may. may)
 end_or_not (within tag log) = inr (λ may. may)
@@ -183,9 +183,9 @@ logs_complete : MoreKnown → AreComplete log_rules
 logs_complete more = record { lines = each_line more; ends = end_or_not }
 
 -- a text stands behind its end
-whole_ends : (from : Standing) (number : ℕ) (lines : List (List ℕ)) (to : Standing) → HasOutcomeFrom log_rules from number lines (Whole to) → MayEnd to
+whole_ends : (from : LogStanding) (number : ℕ) (lines : List (List ℕ)) (to : LogStanding) → HasOutcomeFrom log_rules from number lines (Whole to) → LogMayEnd to
 whole_ends from number [] to is = absurd is
-whole_ends from number (line ∷ []) to is = subst MayEnd (sym is.2) is.1
+whole_ends from number (line ∷ []) to is = subst LogMayEnd (sym is.2) is.1
 whole_ends from number (line ∷ next ∷ lines) to (inl stops) = absurd stops
 whole_ends from number (line ∷ next ∷ lines) to (inr more) = whole_ends more.0 (number + 1) (next ∷ lines) to more.2
 
@@ -194,7 +194,7 @@ abbrev pub AreLogOrFaulty : List ℕ → Type 0
 AreLogOrFaulty bytes =
     ((tag : LoggedTag) × (log : List LogEntry) × IsLogText bytes tag log) ⊎ ((number : ℕ) × (fault : FaultReason) × IsFirstFault bytes number fault)
 
-outcome_told : (bytes : List ℕ) (outcome : Outcome Standing FaultReason) → HasOutcome log_rules bytes outcome → AreLogOrFaulty bytes
+outcome_told : (bytes : List ℕ) (outcome : Outcome LogStanding FaultReason) → HasOutcome log_rules bytes outcome → AreLogOrFaulty bytes
 outcome_told bytes (Whole (ended tag log)) is = inl (tag, log, is)
 outcome_told bytes (Whole start) is = absurd (whole_ends start 1 (lines_of bytes) start is)
 outcome_told bytes (Whole begun) is = absurd (whole_ends start 1 (lines_of bytes) begun is)

@@ -5,7 +5,7 @@ use Rattle.reply_grammar.specs.declared.expected.Reply.TheVariants.{Rn16, Epc, H
 use Rattle.reply_text.specs.ReplyText.{IsReplyBehind, IsReplyForm, replies, reply_name}
 use Rattle.reply_text.specs.declared.kinds.ReplyKind.{ReplyKind}
 use Rattle.reply_text.specs.declared.kinds.ReplyKind.TheVariants as kinds
-use Rattle.reply_text.specs.laws.ReplyTexts.{replies_are}
+use Rattle.reply_text.proofs.ReplyTexts.{replies_are}
 use Rattle.scenario_lines.proofs.Decisions.{Any, Decided, Spelled, behind_decided as then, below_decided, nothing_decided as end, same_answer, text_decided}
 use Rattle.scenario_lines.proofs.FieldsDecided.{tried, word_decided, words_decided}
 use Rattle.text_fields.specs.Hexadecimal.{hex_byte, hex_word, hex_words}

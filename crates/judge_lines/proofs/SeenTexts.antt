@@ -9,8 +9,8 @@ use Rattle.tag_machine.specs.declared.any_tag.Answered.{Answered}
 use Rattle.tag_machine.specs.declared.any_tag.Answered.TheVariants.{Silent, Plain, Extended}
 use Rattle.text_fields.specs.declared.fields_fault.FieldsFault.{FieldsFault}
 use Rattle.text_fields.specs.declared.fields_fault.FieldsFault.TheVariants.{Word, Shape, Number}
-use Rattle.text_fields.specs.laws.NamedFieldLaws.{same_behind}
-use Rattle.judge_lines.specs.SeenLine.{AreFaultyBehindMark, AreFaultySeen, AreMarkedFaulty, AreUnmarked, SpellSeen, mark_word, seen_fields}
+use Rattle.text_fields.proofs.NamedFieldLaws.{same_behind}
+use Rattle.judge_lines.specs.SeenLine.{AreFaultyBehindMark, AreFaultySeen, AreMarkedFaulty, AreUnmarked, SpellSeen, seen_mark_word, seen_fields}
 use Rattle.judge_lines.specs.laws.SeenLaws.{SeenLaws}
 
 -- what the laws of replies say
@@ -20,7 +20,7 @@ pub record Known : Type 0 where
   pub one_fault : (fields : List (List ℕ)) (one other : FieldsFault) → IsFaultyReply fields one → IsFaultyReply fields other → one ≡ other
 
 -- two marks have two words
-mark_told : (one other : Answered) → mark_word one ≡ mark_word other → one ≡ other
+mark_told : (one other : Answered) → seen_mark_word one ≡ seen_mark_word other → one ≡ other
 mark_told Silent Silent same = refl
 mark_told Plain Plain same = refl
 mark_told Extended Extended same = refl
@@ -33,7 +33,7 @@ abbrev marked : Bool → Answered
 marked true = Extended
 marked false = Plain
 
-mark_is : (extended : Bool) → preamble_word extended ≡ mark_word (marked extended)
+mark_is : (extended : Bool) → preamble_word extended ≡ seen_mark_word (marked extended)
 mark_is true = refl
 mark_is false = refl
 
@@ -51,7 +51,7 @@ marked_or_silent false same = cc
 preamble_told : (one other : Bool) → preamble_word one ≡ preamble_word other → one ≡ other
 preamble_told one other same = marked_told one other (mark_told (marked one) (marked other) (sym (mark_is one) ∙ same ∙ mark_is other))
 
-preamble_or_hyphen : (extended : Bool) → preamble_word extended ≡ mark_word Silent → ⊥
+preamble_or_hyphen : (extended : Bool) → preamble_word extended ≡ seen_mark_word Silent → ⊥
 preamble_or_hyphen extended same = marked_or_silent extended (mark_told (marked extended) Silent (sym (mark_is extended) ∙ same))
 
 same_seen : (one other : Seen) → one.reply ≡ other.reply → one.extended ≡ other.extended → one ≡ other
@@ -60,9 +60,9 @@ same_seen one other replies preambles = ap₂ (λ (reply : Reply) (extended : Bo
 fields_told : Known → (one other : Option Seen) → SpellSeen (seen_fields other) one → SpellSeen (seen_fields other) other → one ≡ other
 fields_told known None None spells spells' = refl
 fields_told known None (Some seen) spells spells' =
-    absurd (preamble_or_hyphen seen.extended (same_behind (preamble_word seen.extended) (mark_word Silent) (reply_fields seen.reply) [] spells.spelling).0)
+    absurd (preamble_or_hyphen seen.extended (same_behind (preamble_word seen.extended) (seen_mark_word Silent) (reply_fields seen.reply) [] spells.spelling).0)
 fields_told known (Some seen) None spells spells' =
-    absurd (preamble_or_hyphen seen.extended (sym (same_behind (mark_word Silent) (preamble_word seen.extended) [] (reply_fields seen.reply) spells.spelling).0))
+    absurd (preamble_or_hyphen seen.extended (sym (same_behind (seen_mark_word Silent) (preamble_word seen.extended) [] (reply_fields seen.reply) spells.spelling).0))
 fields_told known (Some one) (Some other) spells spells' =
     let same = same_behind (preamble_word other.extended) (preamble_word one.extended) (reply_fields other.reply) (reply_fields one.reply) spells.spelling in
     let replies : one.reply ≡ other.reply = known.told (reply_fields other.reply) one.reply other.reply
@@ -74,7 +74,7 @@ seen_told known others one other spells spells' =
     fields_told known one other (record { spelling = sym spells'.spelling ∙ spells.spelling; is = spells.is }) (record { spelling = refl; is = spells'.is })
 
 -- what is spelled isn't faulty behind its mark
-none_not_faulty : (mark : Answered) (behind : List (List ℕ)) (fault : FieldsFault) → mark_word Silent ≡ mark_word mark → [] ≡ behind → AreFaultyBehindMark mark behind fault → ⊥
+none_not_faulty : (mark : Answered) (behind : List (List ℕ)) (fault : FieldsFault) → seen_mark_word Silent ≡ seen_mark_word mark → [] ≡ behind → AreFaultyBehindMark mark behind fault → ⊥
 none_not_faulty Silent behind Word same rest faulty = faulty
 none_not_faulty Silent behind Shape same rest faulty = faulty (sym rest)
 none_not_faulty Silent behind Number same rest faulty = faulty
@@ -82,17 +82,17 @@ none_not_faulty Plain behind fault same rest faulty = let marks = mark_told Sile
 none_not_faulty Extended behind fault same rest faulty = let marks = mark_told Silent Extended same in cc
 
 some_not_faulty : Known → (seen : Seen) (mark : Answered) (behind : List (List ℕ)) (fault : FieldsFault) → IsReplyForm seen.reply
-    → preamble_word seen.extended ≡ mark_word mark → reply_fields seen.reply ≡ behind → AreFaultyBehindMark mark behind fault → ⊥
+    → preamble_word seen.extended ≡ seen_mark_word mark → reply_fields seen.reply ≡ behind → AreFaultyBehindMark mark behind fault → ⊥
 some_not_faulty known seen Silent behind fault is same rest faulty = preamble_or_hyphen seen.extended same
 some_not_faulty known seen Plain behind fault is same rest faulty = known.not_faulty behind seen.reply fault (record { in_range = is; spelling = sym rest }) faulty
 some_not_faulty known seen Extended behind fault is same rest faulty = known.not_faulty behind seen.reply fault (record { in_range = is; spelling = sym rest }) faulty
 
 marked_not_faulty : Known → (seen : Option Seen) (others : List (List ℕ)) (fault : FieldsFault) → SpellSeen others seen → AreMarkedFaulty others fault → ⊥
 marked_not_faulty known None others fault spells faulty =
-    let same = same_behind (mark_word Silent) (mark_word faulty.mark) [] faulty.behind (sym spells.spelling ∙ faulty.marked) in
+    let same = same_behind (seen_mark_word Silent) (seen_mark_word faulty.mark) [] faulty.behind (sym spells.spelling ∙ faulty.marked) in
     none_not_faulty faulty.mark faulty.behind fault same.0 same.1 faulty.faulty
 marked_not_faulty known (Some seen) others fault spells faulty =
-    let same = same_behind (preamble_word seen.extended) (mark_word faulty.mark) (reply_fields seen.reply) faulty.behind (sym spells.spelling ∙ faulty.marked) in
+    let same = same_behind (preamble_word seen.extended) (seen_mark_word faulty.mark) (reply_fields seen.reply) faulty.behind (sym spells.spelling ∙ faulty.marked) in
     some_not_faulty known seen faulty.mark faulty.behind fault spells.is same.0 same.1 faulty.faulty
 
 -- it has a mark
@@ -121,7 +121,7 @@ one_behind known Extended behind one other faulty faulty' = known.one_fault behi
 
 one_marked : Known → (others : List (List ℕ)) (one other : FieldsFault) → AreMarkedFaulty others one → AreMarkedFaulty others other → one ≡ other
 one_marked known others one other faulty faulty' =
-    let same = same_behind (mark_word faulty'.mark) (mark_word faulty.mark) faulty'.behind faulty.behind (sym faulty'.marked ∙ faulty.marked) in
+    let same = same_behind (seen_mark_word faulty'.mark) (seen_mark_word faulty.mark) faulty'.behind faulty.behind (sym faulty'.marked ∙ faulty.marked) in
     let marks = mark_told faulty'.mark faulty.mark same.0 in
     one_behind known faulty.mark faulty.behind one other faulty.faulty
     (subst (λ (list : List (List ℕ)). AreFaultyBehindMark faulty.mark list other) same.1

@@ -3,8 +3,8 @@ use Rattle.std.proofs.Common.{◌≡◌, ◌≢◌, ◌⊎◌, ℕ, zero, suc, L
 use Rattle.text_fields.specs.NamedFields.{AreFaulty, AreFilled, AreSpelling, SpellBehind, Vocabulary}
 use Rattle.text_fields.specs.declared.fields_fault.FieldsFault.{FieldsFault}
 use Rattle.text_fields.specs.declared.fields_fault.FieldsFault.TheVariants.{Word, Shape, Number}
-use Rattle.text_fields.specs.laws.FilledFields.{none_filled, one_less, one_more}
-use Rattle.text_fields.specs.laws.NamedFieldLaws.{IsVocabulary, same_behind, spelled_behind, wrong_shape}
+use Rattle.text_fields.proofs.FilledFields.{none_filled, one_less, one_more}
+use Rattle.text_fields.proofs.NamedFieldLaws.{IsVocabulary, same_behind, spelled_behind, wrong_shape}
 use Rattle.scenario_lines.proofs.Decisions.{Any, Decided, Spelled}
 
 -- the fields are so many, and none is empty

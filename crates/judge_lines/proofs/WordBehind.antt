@@ -3,7 +3,7 @@ use Rattle.std.proofs.Common.{◌≡◌, ◌≢◌, ◌==◌, ℕ, Bool, true, f
 use Rattle.std.specs.Prelude.{codes}
 use Rattle.std.specs.List.{onto_first}
 use Rattle.text_fields.specs.Lines.{fields_of, space}
-use Rattle.text_fields.specs.laws.LineLaws.{some_piece}
+use Rattle.text_fields.proofs.LineLaws.{some_piece}
 use Rattle.judge_lines.specs.LogText.{with_word}
 
 -- a byte more before pieces, behind which a piece stands

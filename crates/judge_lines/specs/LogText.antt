@@ -19,21 +19,21 @@ use Rattle.checked_lines.specs.declared.fault.FaultReason.{FaultReason}
 use Rattle.checked_lines.specs.declared.fault.FaultReason.TheVariants.{Extra, End, Version, Word, Order, Limit, Shape, Number, Pc}
 
 -- the first line
-abbrev pub version_line : List ℕ
-version_line = codes "judge 1"
+abbrev pub log_version_line : List ℕ
+log_version_line = codes "judge 1"
 
 -- where a text stands behind some of its lines
-pub data Standing : Type 0 where
+pub data LogStanding : Type 0 where
   -- before the first line
-  start : Standing
+  start : LogStanding
   -- behind the version
-  begun : Standing
+  begun : LogStanding
   -- behind the line of this tag and those of this log
-  within : (tag : LoggedTag) (log : List LogEntry) → Standing
+  within : (tag : LoggedTag) (log : List LogEntry) → LogStanding
   -- ... and a line more, with which this was sent, or bits that spell no command: an answer line is needed
-  asked : (tag : LoggedTag) (log : List LogEntry) (heard : Option Command) → Standing
+  asked : (tag : LoggedTag) (log : List LogEntry) (heard : Option Command) → LogStanding
   -- behind the end
-  ended : (tag : LoggedTag) (log : List LogEntry) → Standing
+  ended : (tag : LoggedTag) (log : List LogEntry) → LogStanding
 
 -- The line of the tag is that of a probe, but for the words that the tag draws, which nobody knows: with one word behind them, its fields
 -- are those of a tag line.
@@ -44,38 +44,38 @@ abbrev pub logged : TagSpec → LoggedTag
 logged tag = record { image = tag.image; locks = tag.locks }
 
 -- the line says the tag, and leads there
-pub record TellsTag (line : List ℕ) (to : Standing) : Type 0 where
+pub record TellsLoggedTag (line : List ℕ) (to : LogStanding) : Type 0 where
   pub tag : TagSpec
   pub spells : SpellsTag (with_word (fields_of line)) tag
   pub leads : to ≡ within (logged tag) []
 
 -- what is sent waits for its answer; an event has none
-abbrev pub behind_effect : LoggedTag → List LogEntry → StimulusEffect → Standing
+abbrev pub behind_effect : LoggedTag → List LogEntry → StimulusEffect → LogStanding
 behind_effect tag log (said.Hears command) = asked tag log (Some command)
 behind_effect tag log said.Nothing = asked tag log None
 behind_effect tag log (said.Befalls event) = within tag (log ++ entries.Befalls event ∷ [])
 
 -- there is room for a line more, and this is done to the tag
-pub record DoesNext (tag : LoggedTag) (log : List LogEntry) (stimulus : Stimulus) (to : Standing) : Type 0 where
+pub record DoesNext (tag : LoggedTag) (log : List LogEntry) (stimulus : Stimulus) (to : LogStanding) : Type 0 where
   pub room : lines_in log < most_stimuli
   pub effect : StimulusEffect
   pub has : HasEffect stimulus effect
   pub leads : to ≡ behind_effect tag log effect
 
 -- what a line of a probe leads to behind this log
-abbrev pub LeadsTo : LoggedTag → List LogEntry → ProbeLine → Standing → Type 0
-LeadsTo tag log (said.Does stimulus) to = DoesNext tag log stimulus to
-LeadsTo tag log said.End to = to ≡ ended tag log
+abbrev pub LogLeadsTo : LoggedTag → List LogEntry → ProbeLine → LogStanding → Type 0
+LogLeadsTo tag log (said.Does stimulus) to = DoesNext tag log stimulus to
+LogLeadsTo tag log said.End to = to ≡ ended tag log
 
 -- The fields are those of a line of a probe, and lead there. A line that begins as an answer is none of these.
-pub record TellsNext (tag : LoggedTag) (log : List LogEntry) (fields : List (List ℕ)) (to : Standing) : Type 0 where
+pub record TellsNextEntry (tag : LoggedTag) (log : List LogEntry) (fields : List (List ℕ)) (to : LogStanding) : Type 0 where
   pub other : ¬ BeginsAsAnswer fields
   pub says : ProbeLine
   pub spells : SpellsProbeLine fields says
-  pub leads : LeadsTo tag log says to
+  pub leads : LogLeadsTo tag log says to
 
 -- the fields say what the tag was seen to answer, and lead there
-pub record TellsSeen (tag : LoggedTag) (log : List LogEntry) (heard : Option Command) (fields : List (List ℕ)) (to : Standing) : Type 0 where
+pub record TellsSeen (tag : LoggedTag) (log : List LogEntry) (heard : Option Command) (fields : List (List ℕ)) (to : LogStanding) : Type 0 where
   pub begins : BeginsAsAnswer fields
   pub seen : Option Seen
   pub spells : SpellSeen begins.others seen
@@ -83,10 +83,10 @@ pub record TellsSeen (tag : LoggedTag) (log : List LogEntry) (heard : Option Com
   pub leads : to ≡ within tag (log ++ entries.Exchange heard seen ∷ [])
 
 -- the line may stand here, and leads there
-abbrev pub GoesTo : Standing → List ℕ → Standing → Type 0
-GoesTo start line to = (line ≡ version_line) × (to ≡ begun)
-GoesTo begun line to = TellsTag line to
-GoesTo (within tag log) line to = TellsNext tag log (fields_of line) to
+abbrev pub GoesTo : LogStanding → List ℕ → LogStanding → Type 0
+GoesTo start line to = (line ≡ log_version_line) × (to ≡ begun)
+GoesTo begun line to = TellsLoggedTag line to
+GoesTo (within tag log) line to = TellsNextEntry tag log (fields_of line) to
 GoesTo (asked tag log heard) line to = TellsSeen tag log heard (fields_of line) to
 GoesTo (ended tag log) line to = ⊥
 
@@ -127,25 +127,25 @@ IsFaultySeen count fields Number = (count < most_stimuli) × IsFaultyAsAnswer fi
 IsFaultySeen count fields fault = ⊥
 
 -- the first reason for which a line with its line feed is faulty
-abbrev pub IsFaultyHere : Standing → List ℕ → FaultReason → Type 0
-IsFaultyHere start line fault = (fault ≡ Version) × (line ≢ version_line)
-IsFaultyHere begun line fault = IsFaultyTag (fields_of line) fault
-IsFaultyHere (within tag log) line fault = IsFaultyNext (lines_in log) (fields_of line) fault
-IsFaultyHere (asked tag log heard) line fault = IsFaultySeen (lines_in log + 1) (fields_of line) fault
-IsFaultyHere (ended tag log) line fault = fault ≡ Extra
+abbrev pub IsFaultyLogLine : LogStanding → List ℕ → FaultReason → Type 0
+IsFaultyLogLine start line fault = (fault ≡ Version) × (line ≢ log_version_line)
+IsFaultyLogLine begun line fault = IsFaultyTag (fields_of line) fault
+IsFaultyLogLine (within tag log) line fault = IsFaultyNext (lines_in log) (fields_of line) fault
+IsFaultyLogLine (asked tag log heard) line fault = IsFaultySeen (lines_in log + 1) (fields_of line) fault
+IsFaultyLogLine (ended tag log) line fault = fault ≡ Extra
 
 -- a text ends behind its end
-abbrev pub MayEnd : Standing → Type 0
-MayEnd (ended tag log) = Unit {0}
-MayEnd standing = ⊥
+abbrev pub LogMayEnd : LogStanding → Type 0
+LogMayEnd (ended tag log) = Unit {0}
+LogMayEnd standing = ⊥
 
 -- behind it nothing may stand, and before it a line is needed
-abbrev pub unended_reason : Standing → FaultReason
-unended_reason (ended tag log) = Extra
-unended_reason standing = End
+abbrev pub unended_log_reason : LogStanding → FaultReason
+unended_log_reason (ended tag log) = Extra
+unended_log_reason standing = End
 
-abbrev pub log_rules : TextRules Standing FaultReason
-log_rules = record { start = start; leads = GoesTo; is_faulty = IsFaultyHere; may_end = MayEnd; unended = unended_reason }
+abbrev pub log_rules : TextRules LogStanding FaultReason
+log_rules = record { start = start; leads = GoesTo; is_faulty = IsFaultyLogLine; may_end = LogMayEnd; unended = unended_log_reason }
 
 -- the bytes are the text of this log of this tag
 abbrev pub IsLogText : List ℕ → LoggedTag → List LogEntry → Type 0

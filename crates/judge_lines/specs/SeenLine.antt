@@ -13,14 +13,14 @@ abbrev pub answer_word : List ℕ
 answer_word = codes "answer"
 
 -- the field behind it: the tag sent nothing, or a reply with this preamble
-abbrev pub mark_word : Answered → List ℕ
-mark_word Silent = codes "-"
-mark_word Plain = codes "plain"
-mark_word Extended = codes "extended"
+abbrev pub seen_mark_word : Answered → List ℕ
+seen_mark_word Silent = codes "-"
+seen_mark_word Plain = codes "plain"
+seen_mark_word Extended = codes "extended"
 
 -- the fields behind the first
 abbrev pub seen_fields : Option Seen → List (List ℕ)
-seen_fields None = mark_word Silent ∷ []
+seen_fields None = seen_mark_word Silent ∷ []
 seen_fields (Some seen) = preamble_word seen.extended ∷ reply_fields seen.reply
 
 -- The numbers of a reply are in the ranges of their fields. An EPC may have another length than its PC says.
@@ -49,13 +49,13 @@ AreFaultyBehindMark Extended others fault = IsFaultyReply others fault
 pub record AreMarkedFaulty (others : List (List ℕ)) (fault : FieldsFault) : Type 0 where
   pub mark : Answered
   pub behind : List (List ℕ)
-  pub marked : others ≡ mark_word mark ∷ behind
+  pub marked : others ≡ seen_mark_word mark ∷ behind
   pub faulty : AreFaultyBehindMark mark behind fault
 
 -- another field stands where the mark should
 abbrev pub AreUnmarked : List (List ℕ) → Type 0
 AreUnmarked [] = ⊥
-AreUnmarked (first ∷ others) = (mark : Answered) → first ≢ mark_word mark
+AreUnmarked (first ∷ others) = (mark : Answered) → first ≢ seen_mark_word mark
 
 -- the first reason for which the fields behind the first say no answer
 abbrev pub AreFaultySeen : List (List ℕ) → FieldsFault → Type 0

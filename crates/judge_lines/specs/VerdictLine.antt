@@ -22,7 +22,7 @@ abbrev pub failure_line : List ℕ → ℕ → Want → List ℕ
 failure_line word number want = line_with (word ∷ decimal number ∷ want_fields want)
 
 -- what is judged, with its line feed
-abbrev pub verdict_line : Verdict → List ℕ
-verdict_line Yes = codes "yes" ++ line_feed ∷ []
-verdict_line (Profile number want) = failure_line (codes "profile") number want ++ line_feed ∷ []
-verdict_line (No number want) = failure_line (codes "no") number want ++ line_feed ∷ []
+abbrev pub line_of_verdict : Verdict → List ℕ
+line_of_verdict Yes = codes "yes" ++ line_feed ∷ []
+line_of_verdict (Profile number want) = failure_line (codes "profile") number want ++ line_feed ∷ []
+line_of_verdict (No number want) = failure_line (codes "no") number want ++ line_feed ∷ []

@@ -3,7 +3,7 @@ ghost use Rattle.std.specs.Prelude.{◌≡◌, ◌↔◌, ◌∷◌, IfErr, IfNo
 ghost use Rattle.log_judge.specs.Answers.{seen_in};
 ghost use Rattle.tag_machine.specs.declared.any_tag.Answered.{Answered};
 ghost use Rattle.text_fields.specs.Lines.{fields_of};
-ghost use Rattle.judge_lines.specs.SeenLine.{AreFaultySeen, BeginsAsAnswer, SpellSeen, answer_word, mark_word};
+ghost use Rattle.judge_lines.specs.SeenLine.{AreFaultySeen, BeginsAsAnswer, SpellSeen, answer_word, seen_mark_word};
 
 use log_judge::Answer;
 use reply_text::read_reply;
@@ -12,8 +12,8 @@ use text_fields::{Fields, FieldsFault, is_at_end};
 
 /// What stands behind `answer`: a hyphen where the tag sent nothing, and else which preamble its reply had.
 fn mark_named(field: &[u8]) -> Option<Answered>
-    ensures value { IfSome result (λ mark. field.now ≡ mark_word mark) }
-    ensures only { (mark : Answered) → field.now ≡ mark_word mark → result ≡ Some mark }
+    ensures value { IfSome result (λ mark. field.now ≡ seen_mark_word mark) }
+    ensures only { (mark : Answered) → field.now ≡ seen_mark_word mark → result ≡ Some mark }
 {
     match field {
         b"-" => Some(Answered::Silent),

@@ -114,11 +114,16 @@ fn fault_behind(count: u32, reason: FaultReason) -> FaultyLine
 /// answer, and what stands behind it is left.
 fn read_answer<'a>(rest: &'a [u8], count: u32, answer: &mut Answer) -> Result<&'a [u8], FaultyLine>
     requires { count ≤ 70000 }
-    ensures ok { (bytes : List ℕ) (tag : LoggedTag) (log : List LogEntry) (heard : Option Command) → lines_in log + 1 ≡ count
-        → HasReadTo log_rules start 1 (lines_of bytes) (asked tag log heard) (3 + count) (lines_of rest.now)
-        → IfOk result (λ left. HasReadLog bytes tag (log ++ Exchange heard (seen_in answer.new) ∷ []) (lines_of left.now)) }
-    ensures refused { (bytes : List ℕ) (tag : LoggedTag) (log : List LogEntry) (heard : Option Command) → lines_in log + 1 ≡ count
-        → HasReadTo log_rules start 1 (lines_of bytes) (asked tag log heard) (3 + count) (lines_of rest.now) → IfErr result (IsFaultOf bytes) }
+    ensures ok { (bytes : List ℕ) (tag : LoggedTag) (log : List LogEntry) (heard : Option Command)
+        → lines_in log + 1 ≡ count
+        → HasReadTo log_rules start 1 (lines_of bytes) (asked tag log heard) (3 + count)
+        (lines_of rest.now)
+        → IfOk result (λ left. HasReadLog bytes tag
+        (log ++ Exchange heard (seen_in answer.new) ∷ []) (lines_of left.now)) }
+    ensures refused { (bytes : List ℕ) (tag : LoggedTag) (log : List LogEntry)
+        (heard : Option Command) → lines_in log + 1 ≡ count
+        → HasReadTo log_rules start 1 (lines_of bytes) (asked tag log heard) (3 + count)
+        (lines_of rest.now) → IfErr result (IsFaultOf bytes) }
     ensures few { IsOk result → count < 70000 }
     ensures shorter { IfOk result (λ left. length left.now < length rest.now) }
 {
@@ -134,9 +139,13 @@ fn read_answer<'a>(rest: &'a [u8], count: u32, answer: &mut Answer) -> Result<&'
 /// Looks whether nothing stands behind the end, which stands behind the line of the tag and so many more.
 fn read_end(rest: &[u8], count: u32) -> Result<(), FaultyLine>
     requires { count ≤ 70001 }
-    ensures ok { (bytes : List ℕ) (tag : LoggedTag) (log : List LogEntry) → HasReadTo log_rules start 1 (lines_of bytes) (ended tag log) (3 + count) (lines_of rest.now)
+    ensures ok { (bytes : List ℕ) (tag : LoggedTag) (log : List LogEntry)
+        → HasReadTo log_rules start 1 (lines_of bytes) (ended tag log) (3 + count)
+        (lines_of rest.now)
         → IsOk result → IsLogText bytes tag log }
-    ensures refused { (bytes : List ℕ) (tag : LoggedTag) (log : List LogEntry) → HasReadTo log_rules start 1 (lines_of bytes) (ended tag log) (3 + count) (lines_of rest.now)
+    ensures refused { (bytes : List ℕ) (tag : LoggedTag) (log : List LogEntry)
+        → HasReadTo log_rules start 1 (lines_of bytes) (ended tag log) (3 + count)
+        (lines_of rest.now)
         → IfErr result (IsFaultOf bytes) }
 {
     if rest.is_empty() {
@@ -157,9 +166,12 @@ pub(crate) fn read_entry<'a>(
     rooms: &mut Rooms,
 ) -> Result<(SaidEntry, &'a [u8]), FaultyLine>
     requires { count ≤ 70000 }
-    ensures ok { (bytes : List ℕ) (tag : LoggedTag) (log : List LogEntry) → lines_in log ≡ count → HasReadLog bytes tag log (lines_of rest.now)
-        → IfOk result (λ it. HasReadEntry bytes tag log (entry_in it.0 rooms.new.command rooms.new.answer) (lines_of it.1.now)) }
-    ensures refused { (bytes : List ℕ) (tag : LoggedTag) (log : List LogEntry) → lines_in log ≡ count → HasReadLog bytes tag log (lines_of rest.now)
+    ensures ok { (bytes : List ℕ) (tag : LoggedTag) (log : List LogEntry) → lines_in log ≡ count
+        → HasReadLog bytes tag log (lines_of rest.now)
+        → IfOk result (λ it. HasReadEntry bytes tag log
+        (entry_in it.0 rooms.new.command rooms.new.answer) (lines_of it.1.now)) }
+    ensures refused { (bytes : List ℕ) (tag : LoggedTag) (log : List LogEntry)
+        → lines_in log ≡ count → HasReadLog bytes tag log (lines_of rest.now)
         → IfErr result (IsFaultOf bytes) }
     ensures legal { IfOk result (λ it. it.0 ≡ SaidEntry.Hears → IsLegalCommand rooms.new.command) }
     ensures few { IfOk result (λ it. count + lines_said it.0 ≤ 70000) }

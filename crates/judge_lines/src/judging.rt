@@ -4,7 +4,7 @@ ghost use Rattle.log_judge.specs.Answers.{verdict_in};
 ghost use Rattle.scenario_lines.specs.TagForm.{IsTag};
 ghost use Rattle.text_fields.specs.Lines.{lines_of};
 ghost use Rattle.judge_lines.specs.Judged.{IsJudged, IsRefusedFor};
-ghost use Rattle.judge_lines.specs.LogText.{logged, version_line};
+ghost use Rattle.judge_lines.specs.LogText.{logged, log_version_line};
 ghost use Rattle.judge_lines.specs.Reading.{HasReadLog};
 
 use crate::entry::{Rooms, SaidEntry, read_entry};
@@ -59,14 +59,15 @@ fn fault_at(line: u32, reason: FaultReason) -> Refusal
 
 /// Whether a line is the first one of a log.
 fn is_version(line: &[u8]) -> bool
-    ensures { IsTrue result ↔ (line.now ≡ version_line) }
+    ensures { IsTrue result ↔ (line.now ≡ log_version_line) }
 {
     line == b"judge 1".as_slice()
 }
 
 /// The tag that a text tells, and what stands behind its line.
 fn read_tag(alloc: Global, text: &[u8]) -> Result<(TagSpec, &[u8]), Refusal>
-    ensures ok { IfOk result (λ it. HasReadLog text.now (logged it.0) [] (lines_of it.1.now) × IsTag it.0) }
+    ensures ok { IfOk result
+        (λ it. HasReadLog text.now (logged it.0) [] (lines_of it.1.now) × IsTag it.0) }
     ensures refused { IfErr result (IsRefusedFor text.now) }
 {
     let Some((line, behind)) = split_line(text) else {

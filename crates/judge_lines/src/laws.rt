@@ -23,7 +23,8 @@ pub(crate) fn seen_laws()
 
 /// Bytes are the text of one log of one tag at most.
 pub fn logs_are_told_apart()
-    ensures { (bytes : List ℕ) (tag other_tag : LoggedTag) (log other_log : List LogEntry) → IsLogText bytes tag log → IsLogText bytes other_tag other_log
+    ensures { (bytes : List ℕ) (tag other_tag : LoggedTag) (log other_log : List LogEntry)
+        → IsLogText bytes tag log → IsLogText bytes other_tag other_log
         → (tag ≡ other_tag) × (log ≡ other_log) }
 {
     line_laws();
@@ -33,7 +34,8 @@ pub fn logs_are_told_apart()
 
 /// The text of a log has no faulty line.
 pub fn log_texts_are_not_faulty()
-    ensures { (bytes : List ℕ) (tag : LoggedTag) (log : List LogEntry) (number : ℕ) (fault : FaultReason) → IsLogText bytes tag log → IsFirstFault bytes number fault → ⊥ }
+    ensures { (bytes : List ℕ) (tag : LoggedTag) (log : List LogEntry) (number : ℕ)
+        (fault : FaultReason) → IsLogText bytes tag log → IsFirstFault bytes number fault → ⊥ }
 {
     line_laws();
     stimuli_have_one_effect();
@@ -42,7 +44,8 @@ pub fn log_texts_are_not_faulty()
 
 /// A text has at most one first faulty line, which has one first reason.
 pub fn log_texts_have_one_fault()
-    ensures { (bytes : List ℕ) (one other : ℕ) (fault reason : FaultReason) → IsFirstFault bytes one fault → IsFirstFault bytes other reason
+    ensures { (bytes : List ℕ) (one other : ℕ) (fault reason : FaultReason)
+        → IsFirstFault bytes one fault → IsFirstFault bytes other reason
         → (one ≡ other) × (fault ≡ reason) }
 {
     line_laws();
@@ -52,7 +55,8 @@ pub fn log_texts_have_one_fault()
 
 /// Each text is that of a log, or has a first faulty line.
 pub fn texts_are_logs_or_faulty()
-    ensures { (bytes : List ℕ) → ((tag : LoggedTag) × (log : List LogEntry) × IsLogText bytes tag log)
+    ensures { (bytes : List ℕ)
+        → ((tag : LoggedTag) × (log : List LogEntry) × IsLogText bytes tag log)
         ⊎ ((number : ℕ) × (fault : FaultReason) × IsFirstFault bytes number fault) }
 {
     line_laws();
@@ -62,8 +66,10 @@ pub fn texts_are_logs_or_faulty()
 
 /// The text of a log has one verdict, and one only.
 pub fn log_texts_have_one_verdict()
-    ensures some { (bytes : List ℕ) (tag : LoggedTag) (log : List LogEntry) → IsLogText bytes tag log → (verdict : Verdict) × IsJudged bytes verdict }
-    ensures one { (bytes : List ℕ) (one other : Verdict) → IsJudged bytes one → IsJudged bytes other → one ≡ other }
+    ensures some { (bytes : List ℕ) (tag : LoggedTag) (log : List LogEntry)
+        → IsLogText bytes tag log → (verdict : Verdict) × IsJudged bytes verdict }
+    ensures one { (bytes : List ℕ) (one other : Verdict) → IsJudged bytes one → IsJudged bytes other
+        → one ≡ other }
 {
     logs_are_told_apart();
     logs_have_one_verdict();

@@ -29,7 +29,8 @@ fn is_full(count: u32) -> bool
 
 /// The first reason for which a line is faulty that begins as an answer and stands where none may; none exactly where it doesn't begin so.
 fn misplaced_answer(line: &[u8]) -> Option<FaultReason>
-    ensures some { IfSome result (λ fault. (count : ℕ) → IsFaultyNext count (fields_of line.now) fault) }
+    ensures some { IfSome result
+        (λ fault. (count : ℕ) → IsFaultyNext count (fields_of line.now) fault) }
     ensures none { IfNone result (¬ BeginsAsAnswer (fields_of line.now)) }
 {
     // By these laws an answer is faulty for one reason.
@@ -71,7 +72,9 @@ pub(crate) fn read_next<'a>(
     count: u32,
     command: &mut Command,
 ) -> Result<SaidLine<'a>, FaultReason>
-    ensures ok { IfOk result (λ said. (¬ BeginsAsAnswer (fields_of line.now)) × SpellsProbeLine (fields_of line.now) (probe_line_with said command.new)
+    ensures ok { IfOk result
+        (λ said. (¬ BeginsAsAnswer (fields_of line.now))
+        × SpellsProbeLine (fields_of line.now) (probe_line_with said command.new)
         × HasRoom count (probe_line_with said command.new)) }
     ensures refused { IfErr result (IsFaultyNext count (fields_of line.now)) }
 {
@@ -88,7 +91,8 @@ pub(crate) fn read_next<'a>(
 ///
 /// The first reason for which it may not stand there.
 pub(crate) fn read_seen(line: &[u8], count: u32, answer: &mut Answer) -> Result<(), FaultReason>
-    ensures ok { IsOk result → (begins : BeginsAsAnswer (fields_of line.now)) × SpellSeen begins.others (seen_in answer.new) × (count < most_stimuli) }
+    ensures ok { IsOk result → (begins : BeginsAsAnswer (fields_of line.now))
+        × SpellSeen begins.others (seen_in answer.new) × (count < most_stimuli) }
     ensures refused { IfErr result (IsFaultySeen count (fields_of line.now)) }
 {
     // By these laws an answer is faulty for one reason.

@@ -3,8 +3,6 @@ pub mod Existence
 pub mod Flips
 pub mod Lead
 pub mod LevelTests
-pub mod Masks
 pub mod Reading
-pub mod Rows
 pub mod Splits
 pub mod Streams

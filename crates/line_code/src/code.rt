@@ -66,13 +66,16 @@ pub trait LineCode {
     /// The levels of the blocks of the last four bits of a number, one behind the other, and the mark of the bit that follows them.
     fn four_blocks(mark: Self::Mark, number: u16) -> (&'static [bool], Self::Mark)
         ensures levels { result.0.now ≡ blocks table (context_of mark) (field_of number 4) }
-        ensures mark { context_of result.1 ≡ context_after table (context_of mark) (field_of number 4) };
+        ensures mark { context_of result.1
+            ≡ context_after table (context_of mark) (field_of number 4) };
 
     /// The sixteen bits whose blocks, one behind the other, the levels are, and the mark of the bit that follows them. It may be none for any
     /// levels, which are then taken one by one.
     fn sixteen_bits(mark: Self::Mark, levels: &[bool]) -> Option<([bool; 16], Self::Mark)>
         requires { length levels.now ≡ 16 * CHIPS }
-        ensures { IfSome result (λ it. (levels.now ≡ blocks table (context_of mark) it.0) × (context_of it.1 ≡ context_after table (context_of mark) it.0)) };
+        ensures { IfSome result
+            (λ it. (levels.now ≡ blocks table (context_of mark) it.0)
+            × (context_of it.1 ≡ context_after table (context_of mark) it.0)) };
 
     /// The mark of the bit that follows a bit.
     fn after(mark: Self::Mark, bit: bool) -> Self::Mark

@@ -23,9 +23,12 @@ pub fn decode<C: LineCode>(trext: bool, levels: &Levels, out: &mut Bits) -> Resu
     ensures refused { IfErr result (RefusesStream (Streams C.table trext) levels.now.items) }
     ensures err { OnErr result (out.new.items ≡ []) }
     ensures capacity { out.new.capacity ≡ out.old.capacity }
-    ensures only { (bits : List Bool) → IsStream C.table trext bits levels.now.items → IsOk result × (out.new.items ≡ bits) }
-    ensures flip { (sent : List Bool) (at : ℕ) → Streams C.table trext sent → at < length sent → levels.now.items ≡ with_level_flipped sent at → IsErr result }
-    ensures no_lead { (c : Context) (bits : List Bool) → levels.now.items ≡ blocks C.table c bits → IsErr result }
+    ensures only { (bits : List Bool) → IsStream C.table trext bits levels.now.items → IsOk result
+        × (out.new.items ≡ bits) }
+    ensures flip { (sent : List Bool) (at : ℕ) → Streams C.table trext sent → at < length sent
+        → levels.now.items ≡ with_level_flipped sent at → IsErr result }
+    ensures no_lead { (c : Context) (bits : List Bool) → levels.now.items ≡ blocks C.table c bits
+        → IsErr result }
 {
     // In a list of its own the compiler keeps in registers where the next bit goes: no write of a bit can change that.
     let mut bits = out.take();
@@ -73,7 +76,8 @@ fn read<C: LineCode>(trext: bool, levels: &[bool], out: &mut Bits) -> Result<(),
 /// Takes the levels of the pilot and the preamble, and answers how many they are.
 fn seek<C: LineCode>(trext: bool, levels: &[bool]) -> Result<usize, LineRefusal>
     requires { length levels.now ≤ most_counted }
-    ensures found { IfOk result (λ lead. (lead ≤ length levels.now) × (take lead levels.now ≡ C.table.lead trext)) }
+    ensures found { IfOk result
+        (λ lead. (lead ≤ length levels.now) × (take lead levels.now ≡ C.table.lead trext)) }
     ensures refused { IfErr result (RefusesStream (Streams C.table trext) levels.now) }
 {
     if let Some(lead) = whole_lead::<C>(trext, levels) {
@@ -92,7 +96,8 @@ fn seek<C: LineCode>(trext: bool, levels: &[bool]) -> Result<usize, LineRefusal>
 
 /// How many levels the pilot and the preamble have, where the levels begin with them.
 fn whole_lead<C: LineCode>(trext: bool, levels: &[bool]) -> Option<usize>
-    ensures { IfSome result (λ lead. (lead ≤ length levels.now) × (take lead levels.now ≡ C.table.lead trext)) }
+    ensures { IfSome result
+        (λ lead. (lead ≤ length levels.now) × (take lead levels.now ≡ C.table.lead trext)) }
 {
     let lead = C::lead_levels(trext);
     // A stream that is broken, as by several tags that reply, has most often another first level.
@@ -121,7 +126,10 @@ fn same_levels(levels: &[bool], others: &[bool]) -> bool
 
 /// The sixteen bits whose blocks, one behind the other, the first of these levels are, and the mark of the bit that follows them.
 fn next_sixteen<C: LineCode>(mark: C::Mark, levels: &[bool]) -> Option<([bool; 16], C::Mark)>
-    ensures { IfSome result (λ it. (length it.0 ≡ 16) × (16 * C.CHIPS ≤ length levels.now) × (take (16 * C.CHIPS) levels.now ≡ blocks C.table (C.context_of mark) it.0) × (C.context_of it.1 ≡ context_after C.table (C.context_of mark) it.0)) }
+    ensures { IfSome result
+        (λ it. (length it.0 ≡ 16) × (16 * C.CHIPS ≤ length levels.now)
+        × (take (16 * C.CHIPS) levels.now ≡ blocks C.table (C.context_of mark) it.0)
+        × (C.context_of it.1 ≡ context_after C.table (C.context_of mark) it.0)) }
 {
     let chips = 16 * C::CHIPS as usize;
     if levels.len() < chips {

@@ -10,7 +10,8 @@ use bit_strings::{Bits, Levels};
 /// Writes the stream of the bits (6.3.1.3.2 of the standard) to `out`, which is emptied first: the
 /// lead, a block of [`LineCode::CHIPS`] levels for each bit, and the block of a dummy data-1.
 pub fn encode<C: LineCode>(trext: bool, bits: &Bits, out: &mut Levels)
-    requires { length (C.table.lead trext) + C.CHIPS * (length bits.now.items + 1) ≤ out.old.capacity }
+    requires { length (C.table.lead trext) + C.CHIPS * (length bits.now.items + 1)
+        ≤ out.old.capacity }
     ensures stream { IsStream C.table trext bits.now.items out.new.items }
     ensures capacity { out.new.capacity ≡ out.old.capacity }
 {
@@ -44,8 +45,13 @@ fn number_of(bits: &[bool; 4]) -> u16
 #[inline(always)]
 fn put_four<C: LineCode>(mark: C::Mark, number: u16, out: &mut Levels) -> C::Mark
     requires { length out.old.items + C.CHIPS * 4 ≤ out.old.capacity }
-    ensures levels { out.new ≡ record out.old { items = out.old.items ++ blocks C.table (C.context_of mark) (field_of number 4) } }
-    ensures mark { C.context_of result ≡ context_after C.table (C.context_of mark) (field_of number 4) }
+    ensures levels { out.new
+        ≡ record out.old {
+          items = out.old.items
+              ++ blocks C.table (C.context_of mark) (field_of number 4);
+        } }
+    ensures mark { C.context_of result
+        ≡ context_after C.table (C.context_of mark) (field_of number 4) }
 {
     let (levels, behind) = C::four_blocks(mark, number);
     out.put_all_reserved(levels);

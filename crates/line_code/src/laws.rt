@@ -12,12 +12,17 @@ ghost use Rattle.line_code.specs.declared.refusal.LineRefusal.{LineRefusal};
 /// and tell the bits apart, and each TRext: it is a stream, or it is refused at one place, or it is
 /// short. A stream is that of one list of bits.
 pub fn one_answer()
-    ensures some { (t : Table) (chips : ℕ) → IsEven t chips → TellsBits t → (trext : Bool) (levels : List Bool)
+    ensures some { (t : Table) (chips : ℕ) → IsEven t chips → TellsBits t
+        → (trext : Bool) (levels : List Bool)
         → (answer : Result (Unit {0}) LineRefusal) × IsStreamAnswer t trext levels answer }
-    ensures one { (t : Table) (chips : ℕ) → IsEven t chips → TellsBits t → (trext : Bool) (levels : List Bool)
-        → (left right : Result (Unit {0}) LineRefusal) → IsStreamAnswer t trext levels left → IsStreamAnswer t trext levels right → left ≡ right }
-    ensures bits { (t : Table) (chips : ℕ) → IsEven t chips → TellsBits t → (trext : Bool) (levels : List Bool)
-        → (left right : List Bool) → IsStream t trext left levels → IsStream t trext right levels → left ≡ right }
+    ensures one { (t : Table) (chips : ℕ) → IsEven t chips → TellsBits t
+        → (trext : Bool) (levels : List Bool)
+        → (left right : Result (Unit {0}) LineRefusal) → IsStreamAnswer t trext levels left
+        → IsStreamAnswer t trext levels right → left ≡ right }
+    ensures bits { (t : Table) (chips : ℕ) → IsEven t chips → TellsBits t
+        → (trext : Bool) (levels : List Bool)
+        → (left right : List Bool) → IsStream t trext left levels → IsStream t trext right levels
+        → left ≡ right }
 {}
 
 /// The levels for which a state of the decoder stands begin a stream. So a level that is not refused

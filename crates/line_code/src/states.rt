@@ -89,7 +89,8 @@ impl<C: LineCode> Model for Inside<C> {
       last = a.last;
     } };
 
-    ghost invariant = { λ a. (a.place < C.CHIPS) × (a.put ≤ a.taken) × (IsSome a.last → 0 < a.put) };
+    ghost invariant = { λ a. (a.place < C.CHIPS) × (a.put ≤ a.taken)
+        × (IsSome a.last → 0 < a.put) };
 }
 
 /// The decoder behind a whole stream. A contract sees it as the number of its bits.
@@ -145,7 +146,8 @@ impl<C: LineCode> Seeking<C> {
     /// Takes one more level. A level is refused exactly where no stream begins with the levels
     /// before it and this one.
     pub fn push(self, level: bool) -> Sought<C>
-        ensures { (trext : Bool) (levels : List Bool) → Seeks C.table trext self levels → AfterSeeking C.table trext levels level result }
+        ensures { (trext : Bool) (levels : List Bool) → Seeks C.table trext self levels
+            → AfterSeeking C.table trext levels level result }
     {
         let Seeking { trext, taken, code } = self;
         let lead_len = C::lead_len(trext);
@@ -164,7 +166,8 @@ impl<C: LineCode> Seeking<C> {
     /// `Unfinished` with their number.
     pub fn end(self) -> LineRefusal
         ensures count { result ≡ LineRefusal.Unfinished self.taken }
-        ensures refused { (trext : Bool) (levels : List Bool) → Seeks C.table trext self levels → RefusesStream (Streams C.table trext) levels result }
+        ensures refused { (trext : Bool) (levels : List Bool) → Seeks C.table trext self levels
+            → RefusesStream (Streams C.table trext) levels result }
     {
         let Seeking {
             trext: _,
@@ -178,7 +181,8 @@ impl<C: LineCode> Seeking<C> {
 impl<C: LineCode> Inside<C> {
     /// The decoder behind the lead, which has this many levels.
     pub(crate) fn behind_lead(taken: u32) -> Inside<C>
-        ensures { (trext : Bool) → taken ≡ length (C.table.lead trext) → Reads C.table trext result (C.table.lead trext) [] }
+        ensures { (trext : Bool) → taken ≡ length (C.table.lead trext)
+            → Reads C.table trext result (C.table.lead trext) [] }
     {
         Inside {
             mark: C::after_lead(),
@@ -197,7 +201,10 @@ impl<C: LineCode> Inside<C> {
     pub fn push(self, level: bool, out: &mut Bits) -> Within<C>
         requires room { length out.old.items < out.old.capacity }
         requires few { self.taken < most_counted }
-        ensures answer { (trext : Bool) (levels bits stood : List Bool) → Reads C.table trext self levels bits → out.old.items ≡ stood ++ bits → AfterInside C.table trext levels level (record { stood = stood; old = out.old.items; new = out.new.items }) result }
+        ensures answer { (trext : Bool) (levels bits stood : List Bool)
+            → Reads C.table trext self levels bits → out.old.items ≡ stood ++ bits
+            → AfterInside C.table trext levels level
+            (record { stood = stood; old = out.old.items; new = out.new.items }) result }
         ensures capacity { out.new.capacity ≡ out.old.capacity }
     {
         let Inside {
@@ -242,7 +249,9 @@ impl<C: LineCode> Inside<C> {
     /// The decoder between two blocks, or between the lead and the first block, where this many levels were taken and `out` has their bits.
     pub(crate) fn between_blocks(mark: C::Mark, taken: u32, out: &Bits) -> Inside<C>
         requires { length out.now.items ≤ taken }
-        ensures { (trext : Bool) (levels : List Bool) → taken ≡ length levels → HasBlocks C.table trext (C.context_of mark) levels out.now.items → Reads C.table trext result levels out.now.items }
+        ensures { (trext : Bool) (levels : List Bool) → taken ≡ length levels
+            → HasBlocks C.table trext (C.context_of mark) levels out.now.items
+            → Reads C.table trext result levels out.now.items }
     {
         Inside {
             mark,
@@ -259,7 +268,10 @@ impl<C: LineCode> Inside<C> {
     /// `Unfinished`, with the number of levels, comes exactly where they are no whole stream, and
     /// `out` is then as before.
     pub fn end(self, out: &mut Bits) -> Result<Ended<C>, LineRefusal>
-        ensures answer { (trext : Bool) (levels bits stood : List Bool) → Reads C.table trext self levels bits → out.old.items ≡ stood ++ bits → AfterEnd C.table trext levels (record { stood = stood; old = out.old.items; new = out.new.items }) result }
+        ensures answer { (trext : Bool) (levels bits stood : List Bool)
+            → Reads C.table trext self levels bits → out.old.items ≡ stood ++ bits
+            → AfterEnd C.table trext levels
+            (record { stood = stood; old = out.old.items; new = out.new.items }) result }
         ensures count { IfErr result (λ refusal. refusal ≡ LineRefusal.Unfinished self.taken) }
         ensures err { OnErr result (out.new ≡ out.old) }
         ensures capacity { out.new.capacity ≡ out.old.capacity }
@@ -288,7 +300,8 @@ impl<C: LineCode> Inside<C> {
 /// this level there.
 fn still_fits<C: LineCode>(mark: C::Mark, bit: bool, place: u32, fits: bool, level: bool) -> bool
     requires { place < C.CHIPS }
-    ensures { IsTrue result ↔ (IsTrue fits × (slice_get (C.table.block (C.context_of mark) bit) place ≡ Some level)) }
+    ensures { IsTrue result
+        ↔ (IsTrue fits × (slice_get (C.table.block (C.context_of mark) bit) place ≡ Some level)) }
 {
     fits & (C::level(mark, bit, place) == level)
 }

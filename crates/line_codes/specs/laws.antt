@@ -1,3 +1,2 @@
 -- Laws of the four line codes.
 pub mod Codes
-pub mod Preambles

@@ -27,11 +27,15 @@ pub fn decode_levels(
     requires room { length levels.now.items ≤ out.old.capacity }
     requires few { length levels.now.items ≤ most_counted }
     ensures ok { OnOk result (IsStream (table_of code) trext out.new.items levels.now.items) }
-    ensures refused { IfErr result (RefusesStream (Streams (table_of code) trext) levels.now.items) }
+    ensures refused { IfErr result
+        (RefusesStream (Streams (table_of code) trext) levels.now.items) }
     ensures err { OnErr result (out.new.items ≡ []) }
     ensures capacity { out.new.capacity ≡ out.old.capacity }
-    ensures only { (bits : List Bool) → IsStream (table_of code) trext bits levels.now.items → IsOk result × (out.new.items ≡ bits) }
-    ensures flip { (bits : List Bool) (whole : List Bool) (at : ℕ) → IsStream (table_of code) trext bits whole → at < length whole → levels.now.items ≡ with_level_flipped whole at → IsErr result }
+    ensures only { (bits : List Bool) → IsStream (table_of code) trext bits levels.now.items
+        → IsOk result × (out.new.items ≡ bits) }
+    ensures flip { (bits : List Bool) (whole : List Bool) (at : ℕ)
+        → IsStream (table_of code) trext bits whole → at < length whole
+        → levels.now.items ≡ with_level_flipped whole at → IsErr result }
 {
     match code {
         Code::Fm0 => decode::<Fm0>(trext, levels, out),
@@ -44,10 +48,12 @@ pub fn decode_levels(
 /// Writes the stream (6.3.1.3.2 of the standard) of bits in the code that is named to `out`, in place of
 /// what that holds.
 pub fn encode_bits(code: Code, trext: bool, bits: &Bits, out: &mut Levels)
-    requires { length ((table_of code).lead trext) + chips_of code * (length bits.now.items + 1) ≤ out.old.capacity }
+    requires { length ((table_of code).lead trext) + chips_of code * (length bits.now.items + 1)
+        ≤ out.old.capacity }
     ensures stream { IsStream (table_of code) trext bits.now.items out.new.items }
     ensures least { 1 ≤ length out.new.items }
-    ensures exact { length out.new.items ≡ length ((table_of code).lead trext) + chips_of code * (length bits.now.items + 1) }
+    ensures exact { length out.new.items ≡ length ((table_of code).lead trext)
+        + chips_of code * (length bits.now.items + 1) }
     ensures most { length out.new.items ≤ longest_lead + 16 * (length bits.now.items + 1) }
     ensures capacity { out.new.capacity ≡ out.old.capacity }
 {

@@ -26,8 +26,12 @@ pub fn code_laws()
 /// is one at least, and there are no more than the levels of the longest lead and 16 a block.
 pub fn stream_length()
     ensures exact { (code : Code) (trext : Bool) (bits : List Bool)
-        → length (stream_of (table_of code) trext bits) ≡ length ((table_of code).lead trext) + chips_of code * (length bits + 1) }
-    ensures lead { (code : Code) (trext : Bool) → length ((table_of code).lead trext) ≤ longest_lead }
-    ensures least { (code : Code) (trext : Bool) (bits : List Bool) → 1 ≤ length (stream_of (table_of code) trext bits) }
-    ensures most { (code : Code) (trext : Bool) (bits : List Bool) → length (stream_of (table_of code) trext bits) ≤ longest_lead + 16 * (length bits + 1) }
+        → length (stream_of (table_of code) trext bits) ≡ length ((table_of code).lead trext)
+        + chips_of code * (length bits + 1) }
+    ensures lead { (code : Code) (trext : Bool)
+        → length ((table_of code).lead trext) ≤ longest_lead }
+    ensures least { (code : Code) (trext : Bool) (bits : List Bool)
+        → 1 ≤ length (stream_of (table_of code) trext bits) }
+    ensures most { (code : Code) (trext : Bool) (bits : List Bool)
+        → length (stream_of (table_of code) trext bits) ≤ longest_lead + 16 * (length bits + 1) }
 {}

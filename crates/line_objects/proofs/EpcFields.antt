@@ -8,7 +8,7 @@ use Rattle.std.proofs.lemmas.Bool.Decides.{nat_tests}
 use Rattle.std.proofs.lemmas.List.Elements.{All-nil, All-cons, All-head, All-tail}
 use Rattle.text_fields.specs.Hexadecimal.{hex_digit, hex_word, hex_words}
 use Rattle.text_fields.specs.WordLists.{digit_number, word_number, words_of_digits}
-use Rattle.text_fields.specs.laws.ToldApart.{hex_words_told}
+use Rattle.text_fields.proofs.ToldApart.{hex_words_told}
 use Rattle.epc_sgtin.specs.SgtinValue.{SgtinValue}
 use Rattle.epc_sgtin.specs.Epc.{IsSgtin}
 use Rattle.epc_sgtin.specs.EpcFaults.{RefusesEpc}

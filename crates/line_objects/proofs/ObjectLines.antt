@@ -2,7 +2,7 @@
 use Rattle.std.proofs.Common.{◌≡◌, ◌≢◌, ℕ, List, [], ◌∷◌, ◌++◌, Option, refl, sym, ap, ◌∙◌, append_assoc}
 use Rattle.std.proofs.lemmas.List.{append-nil}
 use Rattle.text_fields.specs.Lines.{line_feed, lines_of}
-use Rattle.text_fields.specs.laws.LineLaws.{some_piece}
+use Rattle.text_fields.proofs.LineLaws.{some_piece}
 use Rattle.line_objects.specs.Objects.{object_of, objects_of}
 use Rattle.line_objects.specs.declared.rows.LineSet.{LineSet}
 

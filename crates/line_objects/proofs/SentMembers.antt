@@ -8,7 +8,7 @@ use Rattle.serde_json.specs.Events.{members_len}
 use Rattle.serde_json.specs.Written.{compact_text, has_float, members_have_float}
 use Rattle.report_lines.specs.JsonLines.{members_in}
 use Rattle.report_lines.specs.JsonObject.{IsJsonOf, SendsPairs}
-use Rattle.line_objects.specs.Members.{pairs_of, value_of}
+use Rattle.line_objects.specs.Members.{pairs_of, data_of}
 use Rattle.line_objects.specs.Values.{number_value, shown}
 use Rattle.line_objects.specs.declared.members.Member.{Member}
 use Rattle.line_objects.specs.declared.members.Value.{Value}
@@ -26,7 +26,7 @@ chosen_no_float : (test : Bool) (text : List ℕ) → has_float (if test then st
 chosen_no_float true text = refl
 chosen_no_float false text = refl
 
-no_float : (value : Value) → has_float (value_of value) ≡ false
+no_float : (value : Value) → has_float (data_of value) ≡ false
 no_float (values.Number number) = number_no_float number
 no_float (values.Text text) = chosen_no_float (is_utf8 (shown text.now)) (shown text.now)
 no_float (values.Uri uri) = chosen_no_float (is_utf8 (shown uri)) (shown uri)

@@ -7,13 +7,13 @@ use Rattle.line_objects.specs.declared.members.Member.{Member}
 use Rattle.line_objects.specs.declared.members.Value.{Value}
 use Rattle.line_objects.specs.declared.members.Value.TheVariants as values
 
-abbrev pub value_of : Value → Data
-value_of (values.Number number) = number_value number
-value_of (values.Text text) = text_value text.now
-value_of (values.Uri uri) = text_value uri
+abbrev pub data_of : Value → Data
+data_of (values.Number number) = number_value number
+data_of (values.Text text) = text_value text.now
+data_of (values.Uri uri) = text_value uri
 
-abbrev pub pair_of : Member → Pair
-pair_of member = (member.name.now, value_of member.value)
+abbrev pub member_pair : Member → Pair
+member_pair member = (member.name.now, data_of member.value)
 
 abbrev pub pairs_of : List Member → List Pair
-pairs_of members = map pair_of members
+pairs_of members = map member_pair members

@@ -18,8 +18,10 @@ pub(crate) fn fields_have_uris()
 
 /// Each text has its objects, and they are one text.
 pub fn texts_have_objects()
-    ensures some { (set : LineSet) (plain : List ℕ) → (text : List ℕ) × AreObjectsOf set plain text }
-    ensures one { (set : LineSet) (plain one other : List ℕ) → AreObjectsOf set plain one → AreObjectsOf set plain other → one ≡ other }
+    ensures some { (set : LineSet) (plain : List ℕ) → (text : List ℕ)
+        × AreObjectsOf set plain text }
+    ensures one { (set : LineSet) (plain one other : List ℕ) → AreObjectsOf set plain one
+        → AreObjectsOf set plain other → one ≡ other }
 {
     sgtin_laws();
 }

@@ -5,7 +5,7 @@ ghost use Rattle.serde_json.specs.Written.{compact_text};
 ghost use Rattle.serde_json.specs.Events.{SendsMembers, SendsValue};
 ghost use Rattle.report_lines.specs.JsonLines.{members_in};
 ghost use Rattle.report_lines.specs.JsonObject.{SendsPairs};
-ghost use Rattle.line_objects.specs.Members.{pairs_of, value_of};
+ghost use Rattle.line_objects.specs.Members.{pairs_of, data_of};
 ghost use Rattle.text_fields.specs.Lines.{line_feed};
 ghost use Rattle.line_objects.specs.Values.{number_value, shown, text_value};
 
@@ -47,7 +47,8 @@ fn shown(text: &[u8]) -> &[u8]
 
 /// Sends a text, and null where its bytes are none.
 fn send_text<S: Serializer>(out: &mut S, text: &[u8]) -> Result<(), S::Error>
-    ensures { OnOk result (SendsValue (text_value text.now) (S.written out.old) (S.written out.new)) }
+    ensures { OnOk result (SendsValue (text_value text.now) (S.written out.old)
+        (S.written out.new)) }
 {
     match str::from_utf8(shown(text)) {
         Ok(letters) => out.str(letters),
@@ -57,7 +58,8 @@ fn send_text<S: Serializer>(out: &mut S, text: &[u8]) -> Result<(), S::Error>
 
 /// Sends a number, and null where there is none.
 fn send_number<S: Serializer>(out: &mut S, number: Option<u64>) -> Result<(), S::Error>
-    ensures { OnOk result (SendsValue (number_value number) (S.written out.old) (S.written out.new)) }
+    ensures { OnOk result (SendsValue (number_value number) (S.written out.old)
+        (S.written out.new)) }
 {
     match number {
         Some(number) => out.u64(number),
@@ -67,7 +69,7 @@ fn send_number<S: Serializer>(out: &mut S, number: Option<u64>) -> Result<(), S:
 
 /// Sends a value.
 fn send_value<S: Serializer>(out: &mut S, value: &Value<'_>) -> Result<(), S::Error>
-    ensures { OnOk result (SendsValue (value_of value.now) (S.written out.old) (S.written out.new)) }
+    ensures { OnOk result (SendsValue (data_of value.now) (S.written out.old) (S.written out.new)) }
 {
     match value {
         Value::Number(number) => send_number(out, *number),
@@ -78,7 +80,8 @@ fn send_value<S: Serializer>(out: &mut S, value: &Value<'_>) -> Result<(), S::Er
 
 /// Sends members, one behind the other, and the end of the object.
 fn send_members<S: Serializer>(out: &mut S, members: &[Member<'_>]) -> Result<(), S::Error>
-    ensures { OnOk result (SendsMembers (members_in (pairs_of members.now)) (S.written out.old) (S.written out.new)) }
+    ensures { OnOk result (SendsMembers (members_in (pairs_of members.now)) (S.written out.old)
+        (S.written out.new)) }
 {
     match members {
         [] => out.end_map(),
@@ -104,7 +107,10 @@ impl<'a> Serialize for Object<'a> {
 impl<'a> Object<'a> {
     /// The object in compact form, with a line feed.
     pub(crate) fn to_line(&self, alloc: Global) -> Result<Vec<u8>, OutOfMemory>
-        ensures { IfOk result (λ line. line.items ≡ compact_text (object (members_in (pairs_of self.now.members.items))) ++ line_feed ∷ []) }
+        ensures { IfOk result
+            (λ line. line.items
+            ≡ compact_text (object (members_in (pairs_of self.now.members.items)))
+            ++ line_feed ∷ []) }
     {
         let Ok(mut line) = serde_json::to_vec(alloc, self) else {
             // Each member has a key that is a text, and a value that JSON has: memory alone may lack.

@@ -18,7 +18,8 @@ fn push_object(
     set: LineSet,
     line: &[u8],
 ) -> Result<(), OutOfMemory>
-    ensures { (uris : List ℕ → Option (List ℕ)) → AreUris uris → OnOk result (text.new.items ≡ text.old.items ++ object_of uris set line.now) }
+    ensures { (uris : List ℕ → Option (List ℕ)) → AreUris uris
+        → OnOk result (text.new.items ≡ text.old.items ++ object_of uris set line.now) }
 {
     let object = Object {
         members: members_of(alloc, set, line)?,

@@ -2,7 +2,7 @@
 ghost use Rattle.std.specs.Prelude.{◌≡◌, ◌≢◌, ◌++◌, ℕ, List, [], ◌∷◌, OnOk, IfOk, IfNone, IfSome, Option};
 ghost use Rattle.text_fields.specs.Lines.{fields_of};
 ghost use Rattle.line_objects.specs.declared.keys.Key.{Key};
-ghost use Rattle.line_objects.specs.Members.{pairs_of, value_of};
+ghost use Rattle.line_objects.specs.Members.{pairs_of, data_of};
 ghost use Rattle.line_objects.specs.Objects.{absent_pairs, field_pairs, fields_pairs, kind_pair, line_pairs, pairs_behind, place_or_reason, uri_pairs};
 ghost use Rattle.line_objects.specs.Values.{AreUris, number_in};
 
@@ -20,7 +20,8 @@ fn push_member<'a>(
     name: &'static str,
     value: Value<'a>,
 ) -> Result<(), OutOfMemory>
-    ensures { OnOk result (pairs_of members.new.items ≡ pairs_of members.old.items ++ (name.now, value_of value.entry) ∷ []) }
+    ensures { OnOk result (pairs_of members.new.items ≡ pairs_of members.old.items
+        ++ (name.now, data_of value.entry) ∷ []) }
 {
     members.push(Member { name, value })?;
     Ok(())
@@ -31,7 +32,8 @@ fn push_place_or_reason<'a>(
     members: &mut Vec<Member<'a>>,
     field: &'a [u8],
 ) -> Result<(), OutOfMemory>
-    ensures { OnOk result (pairs_of members.new.items ≡ pairs_of members.old.items ++ place_or_reason field.now (number_in field.now) ∷ []) }
+    ensures { OnOk result (pairs_of members.new.items ≡ pairs_of members.old.items
+        ++ place_or_reason field.now (number_in field.now) ∷ []) }
 {
     match number_in(field) {
         Some(place) => push_member(members, "place", Value::Number(Some(place))),
@@ -42,7 +44,8 @@ fn push_place_or_reason<'a>(
 /// Adds the URI of an EPC, where it has one.
 fn push_uri<'a>(members: &mut Vec<Member<'a>>, epc: &[u8]) -> Result<(), OutOfMemory>
     ensures { (uris : List ℕ → Option (List ℕ)) → AreUris uris
-        → OnOk result (pairs_of members.new.items ≡ pairs_of members.old.items ++ uri_pairs (uris epc.now)) }
+        → OnOk result (pairs_of members.new.items ≡ pairs_of members.old.items
+        ++ uri_pairs (uris epc.now)) }
 {
     match uri_in(epc) {
         Some(uri) => push_member(members, "uri", Value::Uri(uri)),
@@ -57,7 +60,8 @@ fn push_field<'a>(
     field: &'a [u8],
 ) -> Result<(), OutOfMemory>
     ensures { (uris : List ℕ → Option (List ℕ)) → AreUris uris
-        → OnOk result (pairs_of members.new.items ≡ pairs_of members.old.items ++ field_pairs uris key field.now) }
+        → OnOk result (pairs_of members.new.items ≡ pairs_of members.old.items
+        ++ field_pairs uris key field.now) }
 {
     match key.shape() {
         Shape::Number => push_member(members, key.name(), Value::Number(number_in(field))),
@@ -73,7 +77,8 @@ fn push_field<'a>(
 
 /// Adds what is said where the field of a member isn't there.
 fn push_absent<'a>(members: &mut Vec<Member<'a>>, key: Key) -> Result<(), OutOfMemory>
-    ensures { OnOk result (pairs_of members.new.items ≡ pairs_of members.old.items ++ absent_pairs key) }
+    ensures { OnOk result (pairs_of members.new.items ≡ pairs_of members.old.items
+        ++ absent_pairs key) }
 {
     match key {
         Key::Value => push_member(members, "value", Value::Text(b"")),
@@ -88,7 +93,8 @@ fn push_fields<'a>(
     mut fields: Fields<'a>,
 ) -> Result<(), OutOfMemory>
     ensures { (uris : List ℕ → Option (List ℕ)) → AreUris uris
-        → OnOk result (pairs_of members.new.items ≡ pairs_of members.old.items ++ fields_pairs uris fields.entry keys.now) }
+        → OnOk result (pairs_of members.new.items ≡ pairs_of members.old.items
+        ++ fields_pairs uris fields.entry keys.now) }
 {
     match keys {
         [] => Ok(()),
@@ -104,7 +110,8 @@ fn push_fields<'a>(
 
 /// Adds the kind of a line: its first field.
 fn push_kind<'a>(members: &mut Vec<Member<'a>>, word: &'a [u8]) -> Result<(), OutOfMemory>
-    ensures { OnOk result (pairs_of members.new.items ≡ pairs_of members.old.items ++ kind_pair word.now ∷ []) }
+    ensures { OnOk result (pairs_of members.new.items ≡ pairs_of members.old.items
+        ++ kind_pair word.now ∷ []) }
 {
     push_member(members, "kind", Value::Text(word))
 }
@@ -118,7 +125,8 @@ fn numbered_members<'a>(
     fields: Fields<'a>,
 ) -> Result<Vec<Member<'a>>, OutOfMemory>
     ensures { (uris : List ℕ → Option (List ℕ)) → AreUris uris
-        → IfOk result (λ members. pairs_of members.items ≡ pairs_behind uris word.now (number.now ∷ fields.entry) (Key.Line ∷ others.now)) }
+        → IfOk result (λ members. pairs_of members.items
+        ≡ pairs_behind uris word.now (number.now ∷ fields.entry) (Key.Line ∷ others.now)) }
 {
     let mut members = Vec::new(alloc);
     push_member(&mut members, "line", Value::Number(number_in(number)))?;
@@ -135,7 +143,8 @@ fn plain_members<'a>(
     fields: Fields<'a>,
 ) -> Result<Vec<Member<'a>>, OutOfMemory>
     ensures { (uris : List ℕ → Option (List ℕ)) → AreUris uris
-        → IfOk result (λ members. pairs_of members.items ≡ kind_pair word.now ∷ fields_pairs uris fields.entry keys.now) }
+        → IfOk result (λ members. pairs_of members.items
+        ≡ kind_pair word.now ∷ fields_pairs uris fields.entry keys.now) }
 {
     let mut members = Vec::new(alloc);
     push_kind(&mut members, word)?;
@@ -162,7 +171,8 @@ fn members_behind<'a>(
     fields: Fields<'a>,
 ) -> Result<Vec<Member<'a>>, OutOfMemory>
     ensures { (uris : List ℕ → Option (List ℕ)) → AreUris uris
-        → IfOk result (λ members. pairs_of members.items ≡ pairs_behind uris word.now fields.entry keys.now) }
+        → IfOk result (λ members. pairs_of members.items
+        ≡ pairs_behind uris word.now fields.entry keys.now) }
 {
     let Some(others) = behind_line(keys) else {
         return plain_members(alloc, word, keys, fields);
@@ -181,7 +191,8 @@ pub(crate) fn members_of<'a>(
     line: &'a [u8],
 ) -> Result<Vec<Member<'a>>, OutOfMemory>
     ensures { (uris : List ℕ → Option (List ℕ)) → AreUris uris
-        → IfOk result (λ members. pairs_of members.items ≡ line_pairs uris set (fields_of line.now)) }
+        → IfOk result (λ members. pairs_of members.items
+        ≡ line_pairs uris set (fields_of line.now)) }
 {
     let mut fields = Fields::new(line);
     match fields.next() {

@@ -18,7 +18,8 @@ fn are_same(one: &[u8], other: &[u8]) -> bool
 /// The number of 64 bits that a field spells in decimal digits, without a sign and without leading zeros; none exactly where it spells none.
 pub fn spelled_number(field: &[u8]) -> Option<u64>
     ensures value { IfSome result (λ number. (field.now ≡ decimal number) × (number < 2 ^ 64)) }
-    ensures only { (number : ℕ) → number < 2 ^ 64 → field.now ≡ decimal number → result ≡ Some number }
+    ensures only { (number : ℕ) → number < 2 ^ 64 → field.now ≡ decimal number
+        → result ≡ Some number }
 {
     let Ok(digits) = str::from_utf8(field) else {
         return None;

@@ -8,23 +8,23 @@ use Rattle.lock_rules.specs.declared.terms.Field.{Field}
 use Rattle.lock_rules.specs.declared.terms.Field.TheVariants.{KillWord, AccessWord, Epc, Tid, User}
 use Rattle.lock_rules.specs.declared.locks.Pair.{Pair}
 use Rattle.lock_rules.specs.declared.locks.Locks.{Locks}
-use Rattle.lock_rules.specs.Permissions.{pair_of}
+use Rattle.lock_rules.specs.Permissions.{lock_pair_of}
 
 -- the bit of a number at a place, counted from its last bit as 0
 abbrev pub bit_at_place : ℕ → ℕ → Bool
 bit_at_place number place = number / 2 ^ place % 2 == 1
 
 -- the place of a field's permalock bit among ten bits; its write bit stands before it
-abbrev pub place_of : Field → ℕ
-place_of KillWord = 8
-place_of AccessWord = 6
-place_of Epc = 4
-place_of Tid = 2
-place_of User = 0
+abbrev pub permalock_place_of : Field → ℕ
+permalock_place_of KillWord = 8
+permalock_place_of AccessWord = 6
+permalock_place_of Epc = 4
+permalock_place_of Tid = 2
+permalock_place_of User = 0
 
 -- the pair of a field among ten bits
 abbrev pub pair_at : ℕ → Field → Pair
-pair_at bits field = record { write_bit = bit_at_place bits (place_of field + 1); permalock = bit_at_place bits (place_of field) }
+pair_at bits field = record { write_bit = bit_at_place bits (permalock_place_of field + 1); permalock = bit_at_place bits (permalock_place_of field) }
 
 -- the pairs of all fields, from ten bits
 abbrev pub locks_of : ℕ → Locks
@@ -46,8 +46,8 @@ locks_number locks =
     + 4 * pair_number locks.tid + pair_number locks.user
 
 -- the mask is the first ten bits of a payload of twenty, and the action the last ten
-abbrev pub mask_of : ℕ → Field → Pair
-mask_of payload field = pair_at (payload / 2 ^ 10) field
+abbrev pub lock_mask_of : ℕ → Field → Pair
+lock_mask_of payload field = pair_at (payload / 2 ^ 10) field
 
 abbrev pub action_of : ℕ → Field → Pair
 action_of payload field = pair_at payload field
@@ -55,7 +55,7 @@ action_of payload field = pair_at payload field
 -- a payload that asks to take a permalock off
 abbrev pub takes_permalock_off : Locks → ℕ → Field → Bool
 takes_permalock_off locks payload field =
-    (mask_of payload field).permalock && not (action_of payload field).permalock && (pair_of locks field).permalock
+    (lock_mask_of payload field).permalock && not (action_of payload field).permalock && (lock_pair_of locks field).permalock
 
 -- a pair after a payload: one that is permalocked stays (profile, but for a payload that asserts the permalock again), and
 -- in another each masked bit becomes its action bit
@@ -67,14 +67,14 @@ pair_after pair mask action =
     })
 
 abbrev pub pair_after_lock : Locks → ℕ → Field → Pair
-pair_after_lock locks payload field = pair_after (pair_of locks field) (mask_of payload field) (action_of payload field)
+pair_after_lock locks payload field = pair_after (lock_pair_of locks field) (lock_mask_of payload field) (action_of payload field)
 
 abbrev pub fields : List Field
 fields = KillWord ∷ AccessWord ∷ Epc ∷ Tid ∷ User ∷ []
 
 -- the payload names the User bank
 abbrev pub masks_user : ℕ → Bool
-masks_user payload = (mask_of payload User).write_bit || (mask_of payload User).permalock
+masks_user payload = (lock_mask_of payload User).write_bit || (lock_mask_of payload User).permalock
 
 abbrev pub takes_any_permalock_off : Locks → ℕ → Bool
 takes_any_permalock_off locks payload = list_any (takes_permalock_off locks payload) fields

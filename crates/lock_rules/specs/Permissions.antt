@@ -13,12 +13,12 @@ pub data Use : Type 0 where
   Writing : Use
 
 -- the pair of a field
-abbrev pub pair_of : Locks → Field → Pair
-pair_of locks KillWord = locks.kill_word
-pair_of locks AccessWord = locks.access_word
-pair_of locks Epc = locks.epc
-pair_of locks Tid = locks.tid
-pair_of locks User = locks.user
+abbrev pub lock_pair_of : Locks → Field → Pair
+lock_pair_of locks KillWord = locks.kill_word
+lock_pair_of locks AccessWord = locks.access_word
+lock_pair_of locks Epc = locks.epc
+lock_pair_of locks Tid = locks.tid
+lock_pair_of locks User = locks.user
 
 -- the table of pairs, the write bit first: 00 and 01 allow in open and secured, 10 in secured only, 11 never
 abbrev pub allows : Bool → Bool → Level → Bool
@@ -33,7 +33,7 @@ pair_allows pair level = allows pair.write_bit pair.permalock level
 
 -- a write goes by the pair of its field, and so does the reading of a password; the other banks are always readable
 abbrev pub may : Locks → Field → Level → Use → Bool
-may locks field level Writing = pair_allows (pair_of locks field) level
+may locks field level Writing = pair_allows (lock_pair_of locks field) level
 may locks KillWord level Reading = pair_allows locks.kill_word level
 may locks AccessWord level Reading = pair_allows locks.access_word level
 may locks Epc level Reading = true

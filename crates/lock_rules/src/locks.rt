@@ -1,6 +1,6 @@
 //! The pairs of lock bits, what they allow, and how a Lock payload changes them.
 ghost use Rattle.std.specs.Prelude.{◌≡◌, ◌<◌, ◌≤◌, ◌↔◌, IsNone, IfSome};
-ghost use Rattle.lock_rules.specs.Permissions.{pair_of, pair_allows, may, Reading, Writing};
+ghost use Rattle.lock_rules.specs.Permissions.{lock_pair_of, pair_allows, may, Reading, Writing};
 ghost use Rattle.lock_rules.specs.Lock.{bit_at_place, pair_at, pair_number, locks_number, locks_of, takes_permalock_off, pair_after, pair_after_lock, masks_user, takes_any_permalock_off, locks_after};
 
 use crate::terms::{ErrorCode, Field, Level};
@@ -153,7 +153,7 @@ impl Locks {
 
     /// The pair of a field.
     fn pair(&self, field: Field) -> Pair
-        ensures { result ≡ pair_of self.now field }
+        ensures { result ≡ lock_pair_of self.now field }
     {
         match field {
             Field::KillWord => self.kill_word,

@@ -5,7 +5,7 @@ use Rattle.command_grammar.specs.Commands.{IsLegalCommand}
 use Rattle.tag_machine.specs.Numbers.{numbers_of}
 use Rattle.tag_machine.specs.TagValue.{StateValue, ReadyState, ArbitrateState, ReplyState, AcknowledgedState, OpenState, SecuredState, KilledState, UnpoweredState, TagValue, IsLegalState}
 use Rattle.log_verdicts.specs.Log.{Seen}
-use Rattle.log_verdicts.specs.Explaining.{answer_to}
+use Rattle.log_verdicts.specs.Explaining.{seen_answer_to}
 use Rattle.log_verdicts.specs.laws.Kinds.{HasSmallQ, reworded}
 use Rattle.log_verdicts.specs.laws.Known.{Known, want_of, want_of_answer}
 use Rattle.log_judge.specs.Drawing.{draws_at, fallen, words_given}
@@ -47,8 +47,8 @@ module _ (command : Command) (tag : TagValue) (most : Option ℕ) (seen : Option
         (excused_lack command given_tag most seen it_moves first silent_then refl
         (answers_so command given_tag (sym (ap (λ (t : TagValue). answers_now command t) given_is) ∙ answers))))
 
-    pub lacks_want : answers_now command given ≡ true → want_of_answer (answer_to (Some command) given) ≡ want_of (known_of tag most) (Some command)
+    pub lacks_want : answers_now command given ≡ true → want_of_answer (seen_answer_to (Some command) given) ≡ want_of (known_of tag most) (Some command)
     lacks_want answers =
-        ap (λ (t : TagValue). want_of_answer (answer_to (Some command) t)) given_is
+        ap (λ (t : TagValue). want_of_answer (seen_answer_to (Some command) t)) given_is
         ∙ want_lacking command given_tag most seen it_moves refl (answers_so command given_tag (sym (ap (λ (t : TagValue). answers_now command t) given_is) ∙ answers))
         ∙ ap (λ (k : Known). want_of k (Some command)) (known_given (words_given (draws_at command) seen) tag most)

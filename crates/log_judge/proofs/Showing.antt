@@ -9,7 +9,7 @@ use Rattle.tag_machine.specs.Answers.{Outcome}
 use Rattle.tag_machine.specs.Events.{tag_after_event}
 use Rattle.tag_machine.specs.Step.{step}
 use Rattle.log_verdicts.specs.Log.{LogEntry, Seen, Exchange, Befalls}
-use Rattle.log_verdicts.specs.Explaining.{Excuses, IsOtherError, ByTables, WithLiberties, answer_to, is_optional, seen_of}
+use Rattle.log_verdicts.specs.Explaining.{Excuses, IsOtherError, ByTables, WithLiberties, seen_answer_to, is_optional, seen_of}
 use Rattle.log_verdicts.specs.laws.Kinds.{reworded}
 use Rattle.log_verdicts.specs.laws.Known.{Known, any_behind, prepared, want_of, want_of_answer}
 use Rattle.log_judge.specs.declared.draws.Draws.{Draws}
@@ -124,7 +124,7 @@ stays_known (commands.Access covered rn) tag optional = refl
 stays_known (commands.BlockWrite bank pointer words rn) tag optional = refl
 stays_known (commands.BlockErase bank pointer count rn) tag optional = refl
 
-silent_in_arbitrate : (command : Command) (session q : ℕ) (body : BodyValue) → is_optional (Some command) ≡ true → answer_to (Some command) (record { state = ArbitrateState session q 1; body = body }) ≡ None
+silent_in_arbitrate : (command : Command) (session q : ℕ) (body : BodyValue) → is_optional (Some command) ≡ true → seen_answer_to (Some command) (record { state = ArbitrateState session q 1; body = body }) ≡ None
 silent_in_arbitrate (commands.QueryRep other) session q body optional = absurd (not_optional refl optional)
 silent_in_arbitrate (commands.Ack rn) session q body optional = refl
 silent_in_arbitrate (commands.Query dr line_code trext sel other target new_q) session q body optional = absurd (not_optional refl optional)
@@ -143,13 +143,13 @@ silent_in_arbitrate (commands.BlockErase bank pointer count rn) session q body o
 stays_lacking : (command : Command) (tag : TagValue) (most : Option ℕ) → AnswersOptional command tag → HasFirstSlot most tag.state → known_of tag most ≡ known_wordless (stays_by command tag most)
 stays_lacking command tag None answers first = stays_known command tag answers.optional
 stays_lacking command tag (Some m) answers first =
-    absurd (answers.answered (ap (λ (s : StateValue). answer_to (Some command) (record { state = s; body = tag.body })) first.is ∙ silent_in_arbitrate command first.session first.q tag.body answers.optional))
+    absurd (answers.answered (ap (λ (s : StateValue). seen_answer_to (Some command) (record { state = s; body = tag.body })) first.is ∙ silent_in_arbitrate command first.session first.q tag.body answers.optional))
 
 -- a command that the tag lacks, of a tag that was given its words
 pub excused_lack : (command : Command) (tag : TagValue) (most : Option ℕ) (seen : Option Seen) → Moves command tag most seen → HasFirstSlot most tag.state → seen ≡ None
     → tag.body ≡ reworded (words_given (draws_at command) seen) 0 tag.body → AnswersOptional command tag → IsExcusedHere (known_of tag most) (Some command) seen (known_of tag most)
 excused_lack command tag most seen moves first silent_then given answers =
-    let mine_is : answer_to (Some command) tag ≡ seen_of (heard_by command tag seen).answer = ap (λ (b : BodyValue). seen_of (step command tag.state b).answer) given in
+    let mine_is : seen_answer_to (Some command) tag ≡ seen_of (heard_by command tag seen).answer = ap (λ (b : BodyValue). seen_of (step command tag.state b).answer) given in
     let answered : seen_of (prepared_by command tag most seen).answer ≢ None = λ none. answers.answered (mine_is ∙ moves.answers ∙ none) in
     record {
       unexplained = λ it. answered (it.1.0.0 ∙ silent_then);
@@ -165,7 +165,7 @@ excused_lack command tag most seen moves first silent_then given answers =
     }
 
 pub want_lacking : (command : Command) (tag : TagValue) (most : Option ℕ) (seen : Option Seen) → Moves command tag most seen → tag.body ≡ reworded (words_given (draws_at command) seen) 0 tag.body
-    → AnswersOptional command tag → want_of_answer (answer_to (Some command) tag) ≡ want_of (known_of tag most) (Some command)
+    → AnswersOptional command tag → want_of_answer (seen_answer_to (Some command) tag) ≡ want_of (known_of tag most) (Some command)
 want_lacking command tag most seen moves given answers =
     ap (λ (b : BodyValue). want_of_answer (seen_of (step command tag.state b).answer)) given
     ∙ sym (ap (λ (d : Draws). want_behind d (seen_of (heard_by command tag seen).answer) (heard_by command tag seen).tag.state most) (draws_nothing command answers.optional))

@@ -18,12 +18,12 @@ use Rattle.tag_machine.specs.declared.states.Half.{Half}
 use Rattle.tag_machine.specs.declared.states.Held.{Held}
 use Rattle.tag_machine.specs.declared.states.Password.{Password}
 use Rattle.tag_machine.specs.declared.states.Password.TheVariants as passwords
-use Rattle.log_verdicts.specs.Explaining.{answer_to, is_optional}
+use Rattle.log_verdicts.specs.Explaining.{seen_answer_to, is_optional}
 
 -- the tables answer a command that a tag need not have
 pub record AnswersOptional (command : Command) (tag : TagValue) : Type 0 where
   pub optional : is_optional (Some command) ≡ true
-  pub answered : answer_to (Some command) tag ≢ None
+  pub answered : seen_answer_to (Some command) tag ≢ None
 
 -- 6.3.2.11.3.6 Access: a half of the access password that is uncovered so is a first half, or makes the password whole
 abbrev pub takes_second : Password → ℕ → ℕ → Bool

@@ -121,7 +121,8 @@ fn falls_in_turn(session: Session, answered: bool, numbers: StateNumbers, most: 
 
 /// The largest slot that a tag may have behind a QueryRep of its round at which it was silent, where it may have another than 1.
 pub(crate) fn fallen(draws: Draws, seen: &Answer, tag: &AnyTag, most: Option<u16>) -> Option<u16>
-    ensures { result ≡ fallen draws (is_some (seen_in seen.now)) (numbers_of (tag_value_of tag.now).state) most }
+    ensures { result ≡ fallen draws (is_some (seen_in seen.now))
+        (numbers_of (tag_value_of tag.now).state) most }
 {
     match draws {
         Draws::Turn(session) => match most {
@@ -183,7 +184,8 @@ fn comes_now(most: Option<u16>) -> bool
 /// What a tag had to answer, by what it answered and what it is then. Where its slot may be any, the largest one that it may have had is
 /// given.
 pub(crate) fn want_behind(draws: Draws, answer: Answer, tag: &AnyTag, most: Option<u16>) -> Want
-    ensures { want_in result ≡ want_behind draws (seen_in answer) (tag_value_of tag.now).state most }
+    ensures { want_in result
+        ≡ want_behind draws (seen_in answer) (tag_value_of tag.now).state most }
 {
     match draws {
         Draws::Slot(session) => want_of_slot(session, answer.is_some(), tag.numbers()),

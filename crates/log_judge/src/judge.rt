@@ -49,7 +49,8 @@ impl Findings {
     /// Takes down what an exchange shows, which takes two lines.
     fn note(&mut self, shown: Shown)
         requires { self.old.line < 2 ^ 31 }
-        ensures verdict { verdict_in self.new.verdict ≡ verdict_noted (verdict_in self.old.verdict) shown self.new.line }
+        ensures verdict { verdict_in self.new.verdict
+            ≡ verdict_noted (verdict_in self.old.verdict) shown self.new.line }
         ensures line { self.new.line ≡ self.old.line + 2 }
     {
         self.line += 2;
@@ -89,7 +90,8 @@ impl Judge {
     pub fn new(alloc: Global, image: &BankImage, locks: Locks) -> Result<Judge, OutOfMemory>
         requires sizes { sizes_fit image.now ≡ true }
         requires pc { pc_fits image.now ≡ true }
-        ensures { IfOk result (λ judge. HasHeard (record { image = image.now; locks = locks }) [] judge) }
+        ensures { IfOk result
+            (λ judge. HasHeard (record { image = image.now; locks = locks }) [] judge) }
     {
         let known = KnownTag::new(alloc, image, locks)?;
         let rooms = Rooms::new(alloc)?;
@@ -106,7 +108,8 @@ impl Judge {
     pub fn hear<L: Ledger>(self, command: &Command, seen: &Answer, steps: &mut Steps<L>) -> Judge
         requires legal { IsLegalCommand command.now }
         requires early { self.line < 2 ^ 31 }
-        ensures heard { (tag : LoggedTag) (log : List LogEntry) → HasHeard tag log self → HasHeard tag (log ++ Exchange (Some command.now) (seen_in seen.now) ∷ []) result }
+        ensures heard { (tag : LoggedTag) (log : List LogEntry) → HasHeard tag log self
+            → HasHeard tag (log ++ Exchange (Some command.now) (seen_in seen.now) ∷ []) result }
         ensures line { result.line ≡ self.line + 2 }
     {
         let Judge {
@@ -123,7 +126,8 @@ impl Judge {
     /// The tag was sent bits that spell no command, and was seen to answer this.
     pub fn hear_no_command(self, seen: &Answer) -> Judge
         requires early { self.line < 2 ^ 31 }
-        ensures heard { (tag : LoggedTag) (log : List LogEntry) → HasHeard tag log self → HasHeard tag (log ++ Exchange None (seen_in seen.now) ∷ []) result }
+        ensures heard { (tag : LoggedTag) (log : List LogEntry) → HasHeard tag log self
+            → HasHeard tag (log ++ Exchange None (seen_in seen.now) ∷ []) result }
         ensures line { result.line ≡ self.line + 2 }
     {
         let Judge {
@@ -140,7 +144,8 @@ impl Judge {
     /// This befell the tag.
     pub fn befall(self, event: Event) -> Judge
         requires early { self.line < 2 ^ 31 }
-        ensures heard { (tag : LoggedTag) (log : List LogEntry) → HasHeard tag log self → HasHeard tag (log ++ Befalls event ∷ []) result }
+        ensures heard { (tag : LoggedTag) (log : List LogEntry) → HasHeard tag log self
+            → HasHeard tag (log ++ Befalls event ∷ []) result }
         ensures line { result.line ≡ self.line + 1 }
     {
         let Judge {
@@ -154,7 +159,8 @@ impl Judge {
 
     /// What is judged of the log that was heard: its one verdict.
     pub fn verdict(self) -> Verdict
-        ensures { (tag : LoggedTag) (log : List LogEntry) → HasHeard tag log self → IsVerdict tag log (verdict_in result) }
+        ensures { (tag : LoggedTag) (log : List LogEntry) → HasHeard tag log self
+            → IsVerdict tag log (verdict_in result) }
     {
         let Judge { known: _, findings } = self;
         let findings = Box::into_inner(findings);

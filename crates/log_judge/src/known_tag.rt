@@ -44,7 +44,8 @@ impl Model for KnownTag {
 
     ghost view = { λ known. known_of (tag_value_of known.tag) known.most };
 
-    ghost invariant = { λ known. (length (tag_value_of known.tag).body.words ≡ 2) × HasFirstSlot known.most (tag_value_of known.tag).state };
+    ghost invariant = { λ known. (length (tag_value_of known.tag).body.words ≡ 2)
+        × HasFirstSlot known.most (tag_value_of known.tag).state };
 }
 
 /// What an exchange shows of a tag that was given words for it, and what is known of it then.
@@ -58,7 +59,8 @@ fn shown_by<L: Ledger>(
 ) -> (KnownTag, Shown)
     requires ready { IsReadyFor command.now (seen_in seen.now) (tag_value_of tag) most }
     requires optional { ¬ LacksHere command.now (seen_in seen.now) (tag_value_of tag) }
-    ensures { Shows (known_of (tag_value_of tag) most) (Some command.now) (seen_in seen.now) result.1 result.0 }
+    ensures { Shows (known_of (tag_value_of tag) most) (Some command.now)
+        (seen_in seen.now) result.1 result.0 }
 {
     // By this law the tag keeps as many words.
     draw_laws();
@@ -88,7 +90,9 @@ impl KnownTag {
     ) -> Result<KnownTag, OutOfMemory>
         requires sizes { sizes_fit image.now ≡ true }
         requires pc { pc_fits image.now ≡ true }
-        ensures { IfOk result (λ known. known ≡ known_of (tag_with (record { image = image.now; locks = locks }) []) None) }
+        ensures { IfOk result
+            (λ known. known
+            ≡ known_of (tag_with (record { image = image.now; locks = locks }) []) None) }
     {
         let words = DrawWords::new(alloc, &[0, 0])?;
         let tag = AnyTag::of_image(alloc, image, locks, words)?;

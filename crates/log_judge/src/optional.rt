@@ -1,7 +1,7 @@
 //! Commands that a tag need not have (6.3.2.11.3 Access commands).
 ghost use Rattle.std.specs.Prelude.{◌≡◌, ◌≤◌, Some};
 ghost use Rattle.tag_machine.specs.Hearing.{tag_value_of};
-ghost use Rattle.log_verdicts.specs.Explaining.{answer_to};
+ghost use Rattle.log_verdicts.specs.Explaining.{seen_answer_to};
 ghost use Rattle.log_judge.specs.Answers.{seen_in};
 ghost use Rattle.log_judge.specs.Optional.{AnswersOptional, IsUndone, Undoes, answers_held, answers_now, is_header, takes_access, takes_half};
 
@@ -105,7 +105,8 @@ impl Rooms {
     ) -> AnyTag
         requires { IsUndone command.now undo (tag_value_of tag) }
         ensures tag { tag_value_of result ≡ tag_value_of tag }
-        ensures answer { seen_in self.new.answer ≡ answer_to (Some command.now) (tag_value_of tag) }
+        ensures answer { seen_in self.new.answer
+            ≡ seen_answer_to (Some command.now) (tag_value_of tag) }
     {
         // In each state a tag is legal.
         let _ = tag.state();
@@ -132,7 +133,8 @@ impl Rooms {
     ) -> AnyTag
         requires { AnswersOptional command.now (tag_value_of tag) }
         ensures tag { tag_value_of result ≡ tag_value_of tag }
-        ensures answer { seen_in self.new.answer ≡ answer_to (Some command.now) (tag_value_of tag) }
+        ensures answer { seen_in self.new.answer
+            ≡ seen_answer_to (Some command.now) (tag_value_of tag) }
     {
         match command {
             Command::BlockWrite {

@@ -43,8 +43,10 @@ impl Rooms {
         command: &Command,
         steps: &mut Steps<L>,
     ) -> AnyTag
-        ensures tag { tag_value_of result ≡ (step command.now (tag_value_of tag).state (tag_value_of tag).body).tag }
-        ensures answer { seen_in self.new.answer ≡ seen_of (step command.now (tag_value_of tag).state (tag_value_of tag).body).answer }
+        ensures tag { tag_value_of result
+            ≡ (step command.now (tag_value_of tag).state (tag_value_of tag).body).tag }
+        ensures answer { seen_in self.new.answer
+            ≡ seen_of (step command.now (tag_value_of tag).state (tag_value_of tag).body).answer }
     {
         // By this law the bits of an answer are a reply that is expected.
         answers_are_replies();
@@ -67,7 +69,8 @@ impl Rooms {
         command: &Command,
         steps: &mut Steps<L>,
     ) -> AnyTag
-        ensures tag { tag_value_of result ≡ (step command.now (tag_value_of tag).state (tag_value_of tag).body).tag }
+        ensures tag { tag_value_of result
+            ≡ (step command.now (tag_value_of tag).state (tag_value_of tag).body).tag }
         ensures answer { self.new.answer ≡ self.old.answer }
     {
         let Heard { tag, .. } = tag.hear(command, &mut self.bits, steps);

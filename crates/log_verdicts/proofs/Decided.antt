@@ -8,7 +8,7 @@ use Rattle.reply_grammar.specs.declared.expected.Reply.{Reply}
 use Rattle.reply_grammar.specs.declared.expected.Reply.TheVariants.{Rn16, Epc, Handle, Words, Header, Error}
 use Rattle.tag_machine.specs.Events.{tag_after_event}
 use Rattle.log_verdicts.specs.Log.{LogEntry, Seen, Exchange, Befalls}
-use Rattle.log_verdicts.specs.Explaining.{Allows, IsOtherError, LacksCommand, Manner, ByTables, WithLiberties, answer_to, is_optional, outcome_of_heard}
+use Rattle.log_verdicts.specs.Explaining.{Allows, IsOtherError, LacksCommand, Manner, ByTables, WithLiberties, seen_answer_to, is_optional, outcome_of_heard}
 use Rattle.log_verdicts.specs.laws.Known.{Known, Follows, any_behind, prepared, waits}
 
 abbrev pub Dec : Type 0 → Type 0
@@ -193,17 +193,17 @@ abbrev pub MayFollow : Manner → Known → LogEntry → Type 0
 MayFollow manner known entry = (next : Known) × Follows manner known entry next
 
 module _ (known : Known) (heard : Option Command) (seen : Option Seen) where
-  strictly : Dec (answer_to heard (prepared known heard seen) ≡ seen) → Dec (MayFollow ByTables known (Exchange heard seen))
+  strictly : Dec (seen_answer_to heard (prepared known heard seen) ≡ seen) → Dec (MayFollow ByTables known (Exchange heard seen))
   strictly (inl same) = inl (record { tag = (outcome_of_heard heard (prepared known heard seen)).tag; any = any_behind known heard (outcome_of_heard heard (prepared known heard seen)).tag.state }, ((same, refl), refl))
   strictly (inr other) = inr (λ it. other it.1.0.0)
 
-  lacking : Dec (is_optional heard ≡ true) → Dec (answer_to heard (prepared known heard seen) ≡ None) → Dec (seen ≡ None) → Dec (LacksCommand heard seen (prepared known heard seen) (prepared known heard seen))
+  lacking : Dec (is_optional heard ≡ true) → Dec (seen_answer_to heard (prepared known heard seen) ≡ None) → Dec (seen ≡ None) → Dec (LacksCommand heard seen (prepared known heard seen) (prepared known heard seen))
   lacking (inl optional) (inr answered) (inl silent) = inl (record { optional = optional; answered = answered; silent = silent; stays = refl })
   lacking (inr optional) answered silent = inr (λ it. optional it.optional)
   lacking (inl optional) (inl none) silent = inr (λ it. it.answered none)
   lacking (inl optional) (inr answered) (inr said) = inr (λ it. said it.silent)
 
-  leniently : Dec (answer_to heard (prepared known heard seen) ≡ seen) → Dec (IsOtherError (answer_to heard (prepared known heard seen)) seen) → Dec (LacksCommand heard seen (prepared known heard seen) (prepared known heard seen))
+  leniently : Dec (seen_answer_to heard (prepared known heard seen) ≡ seen) → Dec (IsOtherError (seen_answer_to heard (prepared known heard seen)) seen) → Dec (LacksCommand heard seen (prepared known heard seen) (prepared known heard seen))
       → Dec (MayFollow WithLiberties known (Exchange heard seen))
   leniently (inl same) error lacks = inl (record { tag = (outcome_of_heard heard (prepared known heard seen)).tag; any = any_behind known heard (outcome_of_heard heard (prepared known heard seen)).tag.state }, (inl (same, refl), refl))
   leniently (inr other) (inl error) lacks = inl (record { tag = (outcome_of_heard heard (prepared known heard seen)).tag; any = any_behind known heard (outcome_of_heard heard (prepared known heard seen)).tag.state }, (inr (inl (record { other = error; becomes = refl })), refl))
@@ -222,9 +222,9 @@ event_follows WithLiberties known event =
     (record { tag = tag_after_event event known.tag.state known.tag.body; any = known.any && waits (tag_after_event event known.tag.state known.tag.body).state }, (refl, refl))
 
 pub may_follow : (manner : Manner) (known : Known) (entry : LogEntry) → Dec (MayFollow manner known entry)
-may_follow ByTables known (Exchange heard seen) = strictly known heard seen (same_answer (answer_to heard (prepared known heard seen)) seen)
+may_follow ByTables known (Exchange heard seen) = strictly known heard seen (same_answer (seen_answer_to heard (prepared known heard seen)) seen)
 may_follow WithLiberties known (Exchange heard seen) =
-    leniently known heard seen (same_answer (answer_to heard (prepared known heard seen)) seen) (other_error (answer_to heard (prepared known heard seen)) seen)
-    (lacking known heard seen (same_bool (is_optional heard) true) (same_answer (answer_to heard (prepared known heard seen)) None) (same_answer seen None))
+    leniently known heard seen (same_answer (seen_answer_to heard (prepared known heard seen)) seen) (other_error (seen_answer_to heard (prepared known heard seen)) seen)
+    (lacking known heard seen (same_bool (is_optional heard) true) (same_answer (seen_answer_to heard (prepared known heard seen)) None) (same_answer seen None))
 may_follow ByTables known (Befalls event) = inl (event_follows ByTables known event)
 may_follow WithLiberties known (Befalls event) = inl (event_follows WithLiberties known event)

@@ -12,7 +12,7 @@ use Rattle.tag_machine.specs.Answers.{silent}
 use Rattle.tag_machine.specs.Events.{tag_after_event, after_timeout, after_off, after_on, after_expiry}
 use Rattle.tag_machine.specs.TagValue.{StateValue, ReadyState, ArbitrateState, ReplyState, AcknowledgedState, OpenState, SecuredState, KilledState, UnpoweredState, BodyValue, TagValue}
 use Rattle.log_verdicts.specs.Log.{LogEntry, Seen, Exchange, Befalls}
-use Rattle.log_verdicts.specs.Explaining.{Allows, Explains, LacksCommand, Manner, ByTables, WithLiberties, TakesCode, answer_to, is_optional, outcome_of_heard, seen_of}
+use Rattle.log_verdicts.specs.Explaining.{Allows, Explains, LacksCommand, Manner, ByTables, WithLiberties, TakesCode, seen_answer_to, is_optional, outcome_of_heard, seen_of}
 use Rattle.log_verdicts.specs.laws.Logs.{IsLegalEntry, IsLegalHeard}
 use Rattle.log_verdicts.specs.laws.Kinds.{Kind, Settled, Enters, Replies, Gives, outcome_from, reworded, kind_of, HasSmallQ, KeepsSmallQ}
 use Rattle.log_verdicts.specs.laws.Known.{Known, Covers, CoversState, Follows, guessed, is_enters, any_behind, placed, prepared, waits}
@@ -189,7 +189,7 @@ optional_settled (Some (commands.Access covered rn)) state body optional = (_, r
 optional_settled (Some (commands.BlockWrite bank pointer block rn)) state body optional = (_, refl)
 optional_settled (Some (commands.BlockErase bank pointer count rn)) state body optional = (_, refl)
 
-optional_waits : (heard : Option Command) (session q slot : ℕ) (body : BodyValue) → is_optional heard ≡ true → answer_to heard (tag_as (ArbitrateState session q slot) body) ≡ None
+optional_waits : (heard : Option Command) (session q slot : ℕ) (body : BodyValue) → is_optional heard ≡ true → seen_answer_to heard (tag_as (ArbitrateState session q slot) body) ≡ None
 optional_waits None session q slot body optional = absurd (cc)
 optional_waits (Some (commands.QueryRep other)) session q slot body optional = absurd (cc)
 optional_waits (Some (commands.Ack rn)) session q slot body optional = absurd (cc)
@@ -207,7 +207,7 @@ optional_waits (Some (commands.BlockWrite bank pointer block rn)) session q slot
 optional_waits (Some (commands.BlockErase bank pointer count rn)) session q slot body optional = refl
 
 optional_same : (heard : Option Command) (state : StateValue) (body : BodyValue) (words words' : List ℕ) (place place' : ℕ) → IsLegalHeard heard → HasSmallQ state → is_optional heard ≡ true
-    → answer_to heard (tag_as state (reworded words place body)) ≡ answer_to heard (tag_as state (reworded words' place' body))
+    → seen_answer_to heard (tag_as state (reworded words place body)) ≡ seen_answer_to heard (tag_as state (reworded words' place' body))
 optional_same heard state body words words' place place' legal small optional =
     let settled = optional_settled heard state body optional in
     let one = (of_kind words place heard state body legal small).is ∙ ap (λ (k : Kind). outcome_from k words place) settled.1 in
@@ -286,7 +286,7 @@ module _ (known : Known) (valid : IsValid known) (words : List ℕ) (place : ℕ
       let told : Option Seen = Some (record { reply = Error error.code; extended = error.extended }) in
       let stand = stands heard legal told known words place tag inside valid covers error.answered in
       let as_told : mine_of known heard seen ≡ mine_of known heard told = ap (λ (it : Option Seen). mine_of known heard it) error.said ∙ errors_alike known heard error.code error.other error.extended in
-      let mine : answer_to heard (prepared known heard seen) ≡ told = ap (λ (o : Outcome). seen_of o.answer) as_told ∙ stand.answers in
+      let mine : seen_answer_to heard (prepared known heard seen) ≡ told = ap (λ (o : Outcome). seen_of o.answer) as_told ∙ stand.answers in
       record {
         next = known_as (mine_of known heard seen).tag (any_behind known heard (mine_of known heard seen).tag.state);
         follows = (inr (inl (record { other = record { code = error.code; other = error.other; extended = error.extended; answered = mine; said = error.said; apart = error.apart }; becomes = refl })), refl);
@@ -298,16 +298,16 @@ module _ (known : Known) (valid : IsValid known) (words : List ℕ) (place : ℕ
 
 -- a tag that has no such command
 module _ (heard : Option Command) (legal : IsLegalHeard heard) (optional : is_optional heard ≡ true) where
-  never_open : (any : Bool) (known state : StateValue) (body : BodyValue) → CoversState any known state → answer_to heard (tag_as state body) ≢ None → any ≡ false
+  never_open : (any : Bool) (known state : StateValue) (body : BodyValue) → CoversState any known state → seen_answer_to heard (tag_as state body) ≢ None → any ≡ false
   never_open false known state body covers answered = refl
   never_open true known state body covers answered =
-      absurd (answered (ap (λ (s : StateValue). answer_to heard (tag_as s body)) covers.is ∙ optional_waits heard covers.session covers.q covers.slot body optional))
+      absurd (answered (ap (λ (s : StateValue). seen_answer_to heard (tag_as s body)) covers.is ∙ optional_waits heard covers.session covers.q covers.slot body optional))
 
   lacks_closed : (known : StateValue) (body : BodyValue) → any_behind (known_as (tag_as known body) false) heard known ≡ false
   lacks_closed known body = ap (λ (k : Kind). (false || is_enters k) && waits known) (optional_settled heard known body optional).1
 
   lacks : (any : Bool) (known : StateValue) (body : BodyValue) (words : List ℕ) (place : ℕ) (state : StateValue) → place < length words → HasSmallQ known → CoversState any known state
-      → answer_to heard (tag_as state (reworded words place body)) ≢ None
+      → seen_answer_to heard (tag_as state (reworded words place body)) ≢ None
       → Goes WithLiberties (known_as (tag_as known body) any) (Exchange heard None) words (tag_as state (reworded words place body))
   lacks true known body words place state inside small covers answered = absurd (open_and_shut (never_open true known state (reworded words place body) covers answered))
     where
@@ -315,8 +315,8 @@ module _ (heard : Option Command) (legal : IsLegalHeard heard) (optional : is_op
       open_and_shut same = absurd (cc)
   lacks false known body words place state inside small covers answered =
       let here : HasSmallQ state = subst HasSmallQ (sym covers) small in
-      let mine : answer_to heard (tag_as known (reworded (guessed heard None) 0 body)) ≢ None
-      = λ none. answered (ap (λ (s : StateValue). answer_to heard (tag_as s (reworded words place body))) covers ∙ optional_same heard known body words (guessed heard None) place 0 legal small optional ∙ none) in
+      let mine : seen_answer_to heard (tag_as known (reworded (guessed heard None) 0 body)) ≢ None
+      = λ none. answered (ap (λ (s : StateValue). seen_answer_to heard (tag_as s (reworded words place body))) covers ∙ optional_same heard known body words (guessed heard None) place 0 legal small optional ∙ none) in
       record {
         next = known_as (tag_as known (reworded (guessed heard None) 0 body)) (any_behind (known_as (tag_as known body) false) heard known);
         follows = (inr (inr (record { optional = optional; answered = mine; silent = refl; stays = refl })), refl);
@@ -330,7 +330,7 @@ module _ (known : Known) (valid : IsValid known) (words : List ℕ) (place : ℕ
   lacks_command heard seen behind legal lack =
       let same : tag ≡ tag_as tag.state (reworded words place known.tag.body) = ap (λ (b : BodyValue). tag_as tag.state b) covers.body in
       let here = lacks heard legal lack.optional known.any known.tag.state known.tag.body words place tag.state inside valid.small covers.state
-      (λ none. lack.answered (ap (λ (t : TagValue). answer_to heard t) same ∙ none)) in
+      (λ none. lack.answered (ap (λ (t : TagValue). seen_answer_to heard t) same ∙ none)) in
       subst (λ (it : Option Seen). Goes WithLiberties known (Exchange heard it) words behind) (sym lack.silent)
       (subst (λ (t : TagValue). Goes WithLiberties known (Exchange heard None) words t) (sym (lack.stays ∙ same)) here)
 
@@ -513,7 +513,7 @@ comes_lacking : (any : Bool) (known : StateValue) (body : BodyValue) (heard : Op
     → LacksCommand heard None (prepared (known_as (tag_as known body) any) heard None) next.tag → next.any ≡ any_behind (known_as (tag_as known body) any) heard next.tag.state → CoversState next.any next.tag.state state
     → Comes WithLiberties (known_as (tag_as known body) any) (Exchange heard None) next state
 comes_lacking true known body heard next state small itself legal lack open_so covers =
-    absurd (lack.answered (ap (λ (s : StateValue). answer_to heard (tag_as s (reworded (guessed heard None) 0 body))) itself.known_is
+    absurd (lack.answered (ap (λ (s : StateValue). seen_answer_to heard (tag_as s (reworded (guessed heard None) 0 body))) itself.known_is
     ∙ optional_waits heard itself.session itself.q itself.most (reworded (guessed heard None) 0 body) lack.optional))
 comes_lacking false known body heard next state small itself legal lack open_so covers =
     let shut : next.any ≡ false = open_so ∙ ap (λ (t : TagValue). any_behind (known_as (tag_as known body) false) heard t.state) lack.stays ∙ lacks_closed heard legal lack.optional known body in

@@ -6,7 +6,7 @@ use Rattle.tag_machine.specs.TagValue.{StateValue, ArbitrateState, BodyValue, Ta
 use Rattle.tag_machine.specs.Answers.{Outcome, silent}
 use Rattle.tag_machine.specs.Inventory.{slot_below}
 use Rattle.log_verdicts.specs.Log.{Seen}
-use Rattle.log_verdicts.specs.Explaining.{answer_to, outcome_of_heard, seen_of}
+use Rattle.log_verdicts.specs.Explaining.{seen_answer_to, outcome_of_heard, seen_of}
 use Rattle.log_verdicts.specs.laws.Logs.{IsLegalHeard, number_in}
 use Rattle.log_verdicts.specs.laws.Kinds.{Kind, Settled, Enters, Replies, Gives, outcome_from, reworded, count_kind, kind_of, Move, Stays, Leaves, Counts, kind_at, move_of, HasSmallQ}
 use Rattle.log_verdicts.specs.laws.Known.{Known, Covers, CoversState, draws_slot, guessed, is_enters, any_behind, placed, prepared, waits}
@@ -218,7 +218,7 @@ module _ (heard : Option Command) (legal : IsLegalHeard heard) (seen : Option Se
       (of_kind words place heard (ArbitrateState session q slot) body legal small).is ∙ ap (λ (k : Kind). outcome_from k words place) (of_move heard session q slot body)
 
   closed : (state : StateValue) (body : BodyValue) (words : List ℕ) (place : ℕ) → place < length words → HasSmallQ state
-      → answer_to heard (record { state = state; body = reworded words place body }) ≡ seen → Stands false state body words (record { state = state; body = reworded words place body })
+      → seen_answer_to heard (record { state = state; body = reworded words place body }) ≡ seen → Stands false state body words (record { state = state; body = reworded words place body })
   closed state body words place inside small given =
       let kind = kind_of heard state body in
       let mine = of_kind (guessed heard seen) 0 heard state body legal small in
@@ -228,7 +228,7 @@ module _ (heard : Option Command) (legal : IsLegalHeard heard) (seen : Option Se
       (stands_for (draws_slot heard) words place inside kind seen (suits heard state body) mine.small (sym (ap (λ (o : Outcome). seen_of o.answer) its.is) ∙ given))
 
   opened : (session q most slot : ℕ) (body : BodyValue) (words : List ℕ) (place : ℕ) → place < length words → q ≤ 15 → 1 ≤ slot → slot ≤ most
-      → answer_to heard (record { state = ArbitrateState session q slot; body = reworded words place body }) ≡ seen
+      → seen_answer_to heard (record { state = ArbitrateState session q slot; body = reworded words place body }) ≡ seen
       → Stands true (ArbitrateState session q most) body words (record { state = ArbitrateState session q slot; body = reworded words place body })
   opened session q most slot body words place inside small least within given =
       let move = move_of heard session q body in
@@ -239,24 +239,24 @@ module _ (heard : Option Command) (legal : IsLegalHeard heard) (seen : Option Se
       (stands_at (draws_slot heard) session q most body words place inside slot least within move seen (good_move heard session q body legal small) (sym (ap (λ (o : Outcome). seen_of o.answer) its) ∙ given))
 
   by_state : (any : Bool) (known : StateValue) (body : BodyValue) (words : List ℕ) (place : ℕ) (state : StateValue) → place < length words → HasSmallQ known → CoversState any known state
-      → answer_to heard (record { state = state; body = reworded words place body }) ≡ seen → Stands any known body words (record { state = state; body = reworded words place body })
+      → seen_answer_to heard (record { state = state; body = reworded words place body }) ≡ seen → Stands any known body words (record { state = state; body = reworded words place body })
   by_state false known body words place state inside small covers given =
-      subst (λ (it : StateValue). answer_to heard (record { state = it; body = reworded words place body }) ≡ seen → Stands false known body words (record { state = it; body = reworded words place body }))
+      subst (λ (it : StateValue). seen_answer_to heard (record { state = it; body = reworded words place body }) ≡ seen → Stands false known body words (record { state = it; body = reworded words place body }))
       (sym covers) (λ same. closed known body words place inside small same) given
   by_state true known body words place state inside small covers given =
       let small_q : covers.q ≤ 15 = subst HasSmallQ covers.known_is small in
-      let at_slot = subst (λ (it : StateValue). answer_to heard (record { state = it; body = reworded words place body }) ≡ seen) covers.is given in
+      let at_slot = subst (λ (it : StateValue). seen_answer_to heard (record { state = it; body = reworded words place body }) ≡ seen) covers.is given in
       let here = opened covers.session covers.q covers.most covers.slot body words place inside small_q covers.least covers.within at_slot in
       let with_known = subst (λ (it : StateValue). Stands true it body words (record { state = ArbitrateState covers.session covers.q covers.slot; body = reworded words place body })) (sym covers.known_is) here in
       subst (λ (it : StateValue). Stands true known body words (record { state = it; body = reworded words place body })) (sym covers.is) with_known
 
   -- a tag that is meant and answers what was seen
-  pub stands : (known : Known) (words : List ℕ) (place : ℕ) (tag : TagValue) → place < length words → IsValid known → Covers words place known tag → answer_to heard tag ≡ seen
+  pub stands : (known : Known) (words : List ℕ) (place : ℕ) (tag : TagValue) → place < length words → IsValid known → Covers words place known tag → seen_answer_to heard tag ≡ seen
       → StandsFor (any_behind known heard (mine_of known heard seen).tag.state) words seen (mine_of known heard seen) (outcome_of_heard heard tag)
   stands known words place tag inside valid covers given =
       let same : tag ≡ record { state = tag.state; body = reworded words place known.tag.body } = ap (λ (b : BodyValue). let it : TagValue = record { state = tag.state; body = b } in it) covers.body in
       subst (λ (it : TagValue). Stands known.any known.tag.state known.tag.body words it) (sym same)
-      (by_state known.any known.tag.state known.tag.body words place tag.state inside valid.small covers.state (subst (λ (it : TagValue). answer_to heard it ≡ seen) same given))
+      (by_state known.any known.tag.state known.tag.body words place tag.state inside valid.small covers.state (subst (λ (it : TagValue). seen_answer_to heard it ≡ seen) same given))
 
   -- Some tag that is meant comes to this state, by some words, whatever was drawn before and is drawn then.
   pub record Arrives (known : Known) (state : StateValue) : Type 0 where
@@ -264,7 +264,7 @@ module _ (heard : Option Command) (legal : IsLegalHeard heard) (seen : Option Se
     pub meant : CoversState known.any known.tag.state from
     pub drawn : List ℕ
     pub are_small : AreSmall drawn
-    pub answers : (used future : List ℕ) → 1 ≤ length future → answer_to heard (record { state = from; body = reworded (used ++ (drawn ++ future)) (length used) known.tag.body }) ≡ seen
+    pub answers : (used future : List ℕ) → 1 ≤ length future → seen_answer_to heard (record { state = from; body = reworded (used ++ (drawn ++ future)) (length used) known.tag.body }) ≡ seen
     pub becomes : (used future : List ℕ) → 1 ≤ length future
         → (outcome_of_heard heard (record { state = from; body = reworded (used ++ (drawn ++ future)) (length used) known.tag.body })).tag
         ≡ record { state = state; body = reworded (used ++ (drawn ++ future)) (length used + length drawn) (mine_of known heard seen).tag.body }

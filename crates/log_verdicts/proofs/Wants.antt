@@ -9,7 +9,7 @@ use Rattle.tag_machine.specs.TagValue.{StateValue, ArbitrateState, ReplyState, B
 use Rattle.tag_machine.specs.Answers.{Outcome, silent}
 use Rattle.tag_machine.specs.Draws.{place_behind, slot_of_draw, enter}
 use Rattle.log_verdicts.specs.Log.{AreDrawn, LogEntry, LoggedTag, Seen}
-use Rattle.log_verdicts.specs.Explaining.{Manner, answer_to, seen_of}
+use Rattle.log_verdicts.specs.Explaining.{Manner, seen_answer_to, seen_of}
 use Rattle.log_verdicts.specs.Verdicts.{IsRn16, IsWanted, Means, AnyRn16, NothingOrAnyRn16}
 use Rattle.log_verdicts.specs.laws.Logs.{IsLegalHeard}
 use Rattle.log_verdicts.specs.laws.Kinds.{Kind, Settled, Enters, Replies, Gives, outcome_from, reworded, count_kind, kind_of, Move, Stays, Leaves, Counts, kind_at, move_of, HasSmallQ}
@@ -97,17 +97,17 @@ module _ (words : List ℕ) (drawn : AreDrawn words) (place : ℕ) (inside : pla
   only_move (Counts other) session q most slot body least within = only_counts other q most slot body least within
 
   only_by : (any : Bool) (known state : StateValue) (body : BodyValue) (heard : Option Command) → IsLegalHeard heard → HasSmallQ known → CoversState any known state
-      → Means (want_of (record { tag = record { state = known; body = body }; any = any }) heard) (answer_to heard (record { state = state; body = reworded words place body }))
+      → Means (want_of (record { tag = record { state = known; body = body }; any = any }) heard) (seen_answer_to heard (record { state = state; body = reworded words place body }))
   only_by false known state body heard legal small covers =
-      subst (λ (s : StateValue). Means (want_of_kind (kind_of heard known body)) (answer_to heard (record { state = s; body = reworded words place body }))) (sym covers)
+      subst (λ (s : StateValue). Means (want_of_kind (kind_of heard known body)) (seen_answer_to heard (record { state = s; body = reworded words place body }))) (sym covers)
       (subst (λ (o : Outcome). Means (want_of_kind (kind_of heard known body)) (seen_of o.answer)) (sym (of_kind words place heard known body legal small).is) (only_kind (kind_of heard known body)))
   only_by true known state body heard legal small covers =
       let small_q = subst HasSmallQ covers.known_is small in
       let its = (of_kind words place heard (ArbitrateState covers.session covers.q covers.slot) body legal small_q).is
       ∙ ap (λ (k : Kind). outcome_from k words place) (of_move heard covers.session covers.q covers.slot body) in
       let here = only_move (move_of heard covers.session covers.q body) covers.session covers.q covers.most covers.slot body covers.least covers.within in
-      subst (λ (k : StateValue). Means (want_at heard k body) (answer_to heard (record { state = state; body = reworded words place body }))) (sym covers.known_is)
-      (subst (λ (s : StateValue). Means (want_of_move (move_of heard covers.session covers.q body) covers.most) (answer_to heard (record { state = s; body = reworded words place body }))) (sym covers.is)
+      subst (λ (k : StateValue). Means (want_at heard k body) (seen_answer_to heard (record { state = state; body = reworded words place body }))) (sym covers.known_is)
+      (subst (λ (s : StateValue). Means (want_of_move (move_of heard covers.session covers.q body) covers.most) (seen_answer_to heard (record { state = s; body = reworded words place body }))) (sym covers.is)
       (subst (λ (o : Outcome). Means (want_of_move (move_of heard covers.session covers.q body) covers.most) (seen_of o.answer)) (sym its) here))
 
 -- each answer that is meant can come
@@ -189,7 +189,7 @@ pub record CanBe (known : Known) (heard : Option Command) (answer : Option Seen)
   pub meant : CoversState known.any known.tag.state from
   pub drawn : List ℕ
   pub are_small : AreSmall drawn
-  pub answers : (used future : List ℕ) → 1 ≤ length future → answer_to heard (record { state = from; body = reworded (used ++ (drawn ++ future)) (length used) known.tag.body }) ≡ answer
+  pub answers : (used future : List ℕ) → 1 ≤ length future → seen_answer_to heard (record { state = from; body = reworded (used ++ (drawn ++ future)) (length used) known.tag.body }) ≡ answer
 
 each_by : (any : Bool) (known : StateValue) (body : BodyValue) (heard : Option Command) (answer : Option Seen) → IsLegalHeard heard → HasSmallQ known → CoversState any known known
     → Means (want_of (record { tag = record { state = known; body = body }; any = any }) heard) answer → CanBe (record { tag = record { state = known; body = body }; any = any }) heard answer
@@ -232,7 +232,7 @@ wanted manner tag log known heard stands legal = record {
       = ap (λ (b : BodyValue). let it : TagValue = record { state = can.led.behind.state; body = b } in it) meant.covers.body in
       let here = only_by can.words can.led.drawn meant.place meant.inside known.any known.tag.state can.led.behind.state known.tag.body heard legal stands.valid.small meant.covers.state in
       subst (λ (a : Option Seen). Means (want_of known heard) a) can.answers
-      (subst (λ (t : TagValue). Means (want_of known heard) (answer_to heard t)) (sym same) here);
+      (subst (λ (t : TagValue). Means (want_of known heard) (seen_answer_to heard t)) (sym same) here);
   each = λ answer means.
       let it = each_by known.any known.tag.state known.tag.body heard answer legal stands.valid.small stands.valid.itself means in
       let future : List ℕ = it.drawn ++ 0 ∷ [] in

@@ -21,12 +21,12 @@ outcome_of_heard None tag = silent tag.state tag.body
 outcome_of_heard (Some command) tag = step command tag.state tag.body
 
 -- ... and what is seen of it
-abbrev pub answer_to : Option Command → TagValue → Option Seen
-answer_to heard tag = seen_of (outcome_of_heard heard tag).answer
+abbrev pub seen_answer_to : Option Command → TagValue → Option Seen
+seen_answer_to heard tag = seen_of (outcome_of_heard heard tag).answer
 
 -- The tag answers what the entry says, and becomes this.
 abbrev pub Explains : LogEntry → TagValue → TagValue → Type 0
-Explains (Exchange heard seen) tag behind = (answer_to heard tag ≡ seen) × (behind ≡ (outcome_of_heard heard tag).tag)
+Explains (Exchange heard seen) tag behind = (seen_answer_to heard tag ≡ seen) × (behind ≡ (outcome_of_heard heard tag).tag)
 Explains (Befalls event) tag behind = behind ≡ tag_after_event event tag.state tag.body
 
 -- Annex I: a tag may send an error code of its own. The tag answers an error; the entry says one with another code, whichever (profile),
@@ -40,7 +40,7 @@ pub record IsOtherError (answer seen : Option Seen) : Type 0 where
   pub apart : other ≢ code
 
 pub record TakesCode (heard : Option Command) (seen : Option Seen) (tag behind : TagValue) : Type 0 where
-  pub other : IsOtherError (answer_to heard tag) seen
+  pub other : IsOtherError (seen_answer_to heard tag) seen
   pub becomes : behind ≡ (outcome_of_heard heard tag).tag
 
 -- 6.3.2.11.3 Access commands: those that a tag need not have
@@ -64,7 +64,7 @@ is_optional (Some (commands.BlockErase bank pointer count rn)) = true
 -- The tables answer such a command, and the entry says that the tag sent nothing: the tag has no such command, and is as before.
 pub record LacksCommand (heard : Option Command) (seen : Option Seen) (tag behind : TagValue) : Type 0 where
   pub optional : is_optional heard ≡ true
-  pub answered : answer_to heard tag ≢ None
+  pub answered : seen_answer_to heard tag ≢ None
   pub silent : seen ≡ None
   pub stays : behind ≡ tag
 

@@ -3,7 +3,7 @@ use Rattle.std.specs.Prelude.{◌≡◌, ℕ, ◌<◌, ◌^◌, false, List, [],
 use Rattle.command_grammar.specs.declared.commands.Command.{Command}
 use Rattle.reply_grammar.specs.declared.expected.Reply.TheVariants.{Rn16, Handle}
 use Rattle.log_verdicts.specs.Log.{LogEntry, LoggedTag, Seen, Exchange, last_line}
-use Rattle.log_verdicts.specs.Explaining.{IsAllowed, IsExcused, IsExplained, IsLedBy, Manner, ByTables, WithLiberties, answer_to}
+use Rattle.log_verdicts.specs.Explaining.{IsAllowed, IsExcused, IsExplained, IsLedBy, Manner, ByTables, WithLiberties, seen_answer_to}
 
 -- what a tag had to answer
 pub data Want : Type 0 where
@@ -40,7 +40,7 @@ Means NothingOrAnyRn16 answer = (answer ≡ None) ⊎ IsRn16 answer
 pub record CanAnswer (manner : Manner) (tag : LoggedTag) (log : List LogEntry) (heard : Option Command) (answer : Option Seen) : Type 0 where
   pub words : List ℕ
   pub led : IsLedBy words manner tag log
-  pub answers : answer_to heard led.behind ≡ answer
+  pub answers : seen_answer_to heard led.behind ≡ answer
 
 -- the answers that are meant are those that can come
 pub record IsWanted (manner : Manner) (tag : LoggedTag) (log : List LogEntry) (heard : Option Command) (want : Want) : Type 0 where

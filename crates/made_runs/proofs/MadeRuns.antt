@@ -4,13 +4,13 @@ use Rattle.std.proofs.Common.{◌≡◌, ◌==◌, ℕ, zero, suc, Bool, true, f
 use Rattle.std.proofs.lemmas.Bool.{and_parts}
 use Rattle.std.proofs.lemmas.List.{length-map}
 use Rattle.air_model.specs.Past.{Item, befell, exchanged, operated, ended}
-use Rattle.runs.specs.ScenarioStart.{history, start_of, tag_of}
+use Rattle.runs.specs.ScenarioStart.{history, start_of, scenario_tag}
 use Rattle.runs.specs.Summary.{is_quiet, all_quiet}
 use Rattle.runs.specs.Complete.{HasNumber}
 use Rattle.runs.specs.EveryTag.{AllTakePart, HaveOwnEpcs}
 use Rattle.runs.specs.Moments.{Ending, ending_of}
 use Rattle.made_scenario.specs.Made.{made_scenario, made_round, made_tag, numbers_below}
-use Rattle.made_scenario.specs.laws.MadeTags.{numbers-count, tags-made}
+use Rattle.made_scenario.proofs.MadeTags.{numbers-count, tags-made}
 use Rattle.q_round.specs.SpecValue.{IsLegalSpec}
 use Rattle.q_round.specs.declared.round.RoundEnd.{RoundEnd}
 use Rattle.q_round.specs.declared.round.RoundEnd.TheVariants as ends
@@ -39,17 +39,17 @@ mapped-at f (item ∷ list) zero value at = (item, refl, cc)
 mapped-at f (item ∷ list) (suc place) value at = mapped-at f list place value at
 
 -- the tag of each number
-made-at : (seed tags number : ℕ) (tag : TagValue) → HasNumber (start_of (made_scenario seed tags)) number tag → tag ≡ tag_of (made_tag seed number)
+made-at : (seed tags number : ℕ) (tag : TagValue) → HasNumber (start_of (made_scenario seed tags)) number tag → tag ≡ scenario_tag (made_tag seed number)
 made-at seed tags number tag at =
-    let alone = subst (λ specs. slice_get (map tag_of specs) number ≡ Some tag) (tags-made seed (numbers_below tags)) at in
-    let (spec, spec_at, is) = mapped-at tag_of (map (made_tag seed) (numbers_below tags)) number tag alone in
+    let alone = subst (λ specs. slice_get (map scenario_tag specs) number ≡ Some tag) (tags-made seed (numbers_below tags)) at in
+    let (spec, spec_at, is) = mapped-at scenario_tag (map (made_tag seed) (numbers_below tags)) number tag alone in
     let (place, place_at, made_is) = mapped-at (made_tag seed) (numbers_below tags) number spec spec_at in
-    is ∙ ap tag_of (made_is ∙ ap (made_tag seed) (number-at tags number place place_at))
+    is ∙ ap scenario_tag (made_is ∙ ap (made_tag seed) (number-at tags number place place_at))
 
 pub made-tags-count : (seed tags : ℕ) → length (start_of (made_scenario seed tags)).tags ≡ tags
 made-tags-count seed tags =
-    ap (λ specs. length (map tag_of specs)) (tags-made seed (numbers_below tags))
-    ∙ length-map (map (made_tag seed) (numbers_below tags)) tag_of ∙ length-map (numbers_below tags) (made_tag seed) ∙ numbers-count tags
+    ap (λ specs. length (map scenario_tag specs)) (tags-made seed (numbers_below tags))
+    ∙ length-map (map (made_tag seed) (numbers_below tags)) scenario_tag ∙ length-map (numbers_below tags) (made_tag seed) ∙ numbers-count tags
 
 pub made-take-part : (seed tags : ℕ) → AllTakePart (start_of (made_scenario seed tags)) made_round
 unfolding made_round
@@ -62,7 +62,7 @@ made-take-part seed tags = record {
 last_word : TagValue → ℕ
 last_word tag = get_or (epc_of tag.body.memory) 5 0
 
-last-word : (seed number : ℕ) → last_word (tag_of (made_tag seed number)) ≡ number
+last-word : (seed number : ℕ) → last_word (scenario_tag (made_tag seed number)) ≡ number
 unfolding last_word
 last-word seed number = refl
 

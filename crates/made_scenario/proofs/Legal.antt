@@ -8,7 +8,7 @@ use Rattle.pie_line.specs.Link.{IsLegalLink}
 use Rattle.scenario.specs.Limits.{IsScenario, IsGroup, IsEntry, IsStep, IsOpList, no_operations}
 use Rattle.scenario.specs.Groups.{tags_of}
 use Rattle.access_ops.specs.laws.OperationLaws.{IsLegalOp}
-use Rattle.made_scenario.specs.laws.MadeTags.{numbers-count, tags-made}
+use Rattle.made_scenario.proofs.MadeTags.{numbers-count, tags-made}
 use Rattle.scenario_lines.specs.LineForm.{IsRound}
 use Rattle.scenario_lines.specs.declared.tag.TagSpec.{TagSpec}
 use Rattle.scenario_lines.specs.declared.version.Version.TheVariants as versions

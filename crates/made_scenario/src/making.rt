@@ -48,7 +48,8 @@ fn no_locks() -> Locks
 
 /// The next random words of a tag: of each word of the generator the low 16 bits.
 fn draw_words(alloc: Global, generator: &mut Lcg64Xsh32) -> Result<DrawWords, OutOfMemory>
-    ensures words { IfOk result (λ words. words ≡ map (drawn_at generator.old) (numbers_below words_of_tag)) }
+    ensures words { IfOk result
+        (λ words. words ≡ map (drawn_at generator.old) (numbers_below words_of_tag)) }
     ensures after { OnOk result (generator.new ≡ generator_after words_of_tag generator.old) }
 {
     let mut words = Vec::with_capacity(alloc, WORDS_OF_TAG as usize)?;

@@ -3,7 +3,7 @@ use Rattle.std.proofs.Common.{◌≡◌, ◌∙◌, ◌-◌, ℕ, suc, ◌+◌, 
 use Rattle.std.specs.Prelude.{bit_or, bit_xor}
 use Rattle.std.specs.Simd.Lanes.{zip2, mask_l}
 use Rattle.std.proofs.Math.Bool.{cond}
-use Rattle.line_code.specs.laws.Masks.{mask-append}
+use Rattle.line_code.proofs.MasksLemmas.{mask-append}
 use Rattle.std.proofs.lemmas.List.{take_all, length-drop, length-take-le, take-append-drop}
 use Rattle.std.proofs.lemmas.Nat.{and_block, or_block, xor_block, mod-pow-add}
 

@@ -6,7 +6,7 @@ use Rattle.std.proofs.lemmas.Nat.{mod-pow-add, or_shifted, shl-shr, shr_high, mo
 use Rattle.std.proofs.lemmas.Simd.{mask_l-mod, mask_l-lt, length-zip2}
 use Rattle.miller_line.specs.Faults.{changes_of, faults_of}
 use Rattle.miller_line.proofs.Bitwise.{differ, both, either, IsBitwise, xor_bits, and_bits, or_bits, zipped, no_digit}
-use Rattle.line_code.specs.laws.Masks.{mask-append}
+use Rattle.line_code.proofs.MasksLemmas.{mask-append}
 
 -- where each phase differs from that so many places before as `carry` has
 abbrev pub changed : List Bool → List Bool → List Bool

@@ -10,7 +10,7 @@ use Rattle.line_code.specs.Stream.{blocks}
 use Rattle.line_code.specs.States.{context_after}
 use Rattle.line_code.specs.laws.Splits.{blocks-append, context_after-append}
 use Rattle.miller_line.specs.Miller.{carrier, miller}
-use Rattle.miller_line.specs.Faults.{phases_of, changes_of, faults_of, bits_at, places, ArePlaces}
+use Rattle.miller_line.specs.Faults.{phases_of, changes_of, faults_of, symbol_bits, places, ArePlaces}
 use Rattle.miller_line.proofs.Bitwise.{differ, both, xor_bits, and_bits}
 use Rattle.miller_line.proofs.FaultLists.{changed, faults, none_of, none_in_parts, same_op, changes_are, faults_are, length-changed}
 use Rattle.miller_line.proofs.Halves.{at}
@@ -32,8 +32,8 @@ digit_is xs place = ap (λ (bits : List Bool). get_or bits 0 false) (tests xs (p
 -- what a word without a fault tells
 abbrev IsRead : ℕ → Bool → Bool → List Bool → ℕ → ℕ → Type 0
 IsRead m before phase levels word bits =
-    (levels ≡ blocks (miller m) (at before phase) (bits_at m bits))
-    × (at (bits / 2 ^ (64 - m) % 2 == 1) (word / 2 ^ 63 % 2 == 1) ≡ context_after (miller m) (at before phase) (bits_at m bits))
+    (levels ≡ blocks (miller m) (at before phase) (symbol_bits m bits))
+    × (at (bits / 2 ^ (64 - m) % 2 == 1) (word / 2 ^ 63 % 2 == 1) ≡ context_after (miller m) (at before phase) (symbol_bits m bits))
 
 -- words without a fault are read
 abbrev Reads : ℕ → ℕ → ℕ → Type 0
@@ -113,8 +113,8 @@ told k n inside middles before phase levels digits word bits of word_is bits_is 
     let middle = led m before false in
     let count : 32 / m ≡ length symbols = of.count ∙ sym are.count in
     let whole : levels_in m (length symbols) ≡ 64 = ap (levels_in m) are.count ∙ of.whole in
-    let bits_are : bits_at m bits ≡ bits_of symbols =
-    ap (bits_at m) bits_is ∙ tests digits (places m (2 * m) (32 / m)) ∙ ap₂ (λ (ds : List Bool) (n : ℕ). map (λ place. get_or ds place false) (places m (2 * m) n)) are.bits_are count ∙ picked k symbols in
+    let bits_are : symbol_bits m bits ≡ bits_of symbols =
+    ap (symbol_bits m) bits_is ∙ tests digits (places m (2 * m) (32 / m)) ∙ ap₂ (λ (ds : List Bool) (n : ℕ). map (λ place. get_or ds place false) (places m (2 * m) n)) are.bits_are count ∙ picked k symbols in
     let place : length front + (length middle + (64 - m)) ≡ levels_in m (length symbols) + m = omega (arith, length-replicate m false, length-led m before false, whole, of.size) in
     let bit : get_or digits (64 - m) false ≡ last_bit before symbols =
     sym (get_or-append-add middle digits (64 - m) false) ∙ sym (get_or-append-add front (middle ++ digits) (length middle + (64 - m)) false)

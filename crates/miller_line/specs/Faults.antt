@@ -22,8 +22,8 @@ places first step zero = []
 places first step (suc n) = first ∷ places (first + step) step n
 
 -- the bits of the symbols of a word, which stand in the middles of the symbols
-abbrev pub bits_at : ℕ → ℕ → List Bool
-bits_at m word = map (λ place. word / 2 ^ place % 2 == 1) (places m (2 * m) (32 / m))
+abbrev pub symbol_bits : ℕ → ℕ → List Bool
+symbol_bits m word = map (λ place. word / 2 ^ place % 2 == 1) (places m (2 * m) (32 / m))
 
 -- what holds of M and of the places of a word within halves and in the middles of symbols
 abbrev pub ArePlaces : ℕ → ℕ → ℕ → Type 0

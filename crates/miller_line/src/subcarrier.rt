@@ -263,7 +263,8 @@ fn four_symbols(m: u32, start: bool, number: u16) -> &'static [bool]
 
 /// The phase at the start of the first of four symbols, whose bits are the last four of a number.
 fn start_of_four(before: SymbolBefore, number: u16) -> bool
-    ensures { (m : ℕ) → symbols m result (field_of number 4) ≡ blocks (miller m) (context before) (field_of number 4) }
+    ensures { (m : ℕ) → symbols m result (field_of number 4)
+        ≡ blocks (miller m) (context before) (field_of number 4) }
 {
     phase_at_start(before, number / 8 % 2 == 1)
 }
@@ -272,7 +273,8 @@ fn start_of_four(before: SymbolBefore, number: u16) -> bool
 pub fn four_blocks(m: u32, before: SymbolBefore, number: u16) -> (&'static [bool], SymbolBefore)
     requires { IsOneOfThree m }
     ensures levels { result.0.now ≡ blocks (miller m) (context before) (field_of number 4) }
-    ensures mark { context result.1 ≡ context_after (miller m) (context before) (field_of number 4) }
+    ensures mark { context result.1
+        ≡ context_after (miller m) (context before) (field_of number 4) }
 {
     let start = start_of_four(before, number);
     let levels = four_symbols(m, start, number);

@@ -3,7 +3,7 @@ ghost use Rattle.std.specs.Prelude.{◌≡◌, ◌≢◌, ◌⊎◌, ◌+◌, �
 ghost use Rattle.std.specs.Simd.Lanes.{mask_l};
 ghost use Rattle.line_code.specs.Stream.{blocks};
 ghost use Rattle.line_code.specs.States.{context_after};
-ghost use Rattle.miller_line.specs.Faults.{changes_of, faults_of, bits_at, ArePlaces};
+ghost use Rattle.miller_line.specs.Faults.{changes_of, faults_of, symbol_bits, ArePlaces};
 ghost use Rattle.miller_line.specs.Miller.{miller, IsOneOfThree};
 ghost use Rattle.miller_line.specs.SymbolContext.{context};
 
@@ -85,7 +85,10 @@ fn symbols_of_word(
     word: u64,
 ) -> Option<(u64, SymbolBefore)>
     requires { ArePlaces m inside middles }
-    ensures { IfSome result (λ it. (levels : List Bool) → length levels ≡ 64 → word ≡ mask_l levels → (levels ≡ blocks (miller m) (context before) (bits_at m it.0)) × (context it.1 ≡ context_after (miller m) (context before) (bits_at m it.0))) }
+    ensures { IfSome result
+        (λ it. (levels : List Bool) → length levels ≡ 64 → word ≡ mask_l levels
+        → (levels ≡ blocks (miller m) (context before) (symbol_bits m it.0))
+        × (context it.1 ≡ context_after (miller m) (context before) (symbol_bits m it.0))) }
 {
     let phases = word ^ 0x5555_5555_5555_5555;
     let changes = changes_of(m, phases_of_half(m, before.phase), phases);
@@ -118,7 +121,7 @@ fn have_digit(bytes: u8x16, digit: u8) -> [bool; 16]
 /// The bits of the 16 symbols of a word with M = 2, of which a byte has two.
 #[inline(always)]
 fn bits_of_word(word: u64) -> [bool; 16]
-    ensures { result ≡ bits_at 2 word }
+    ensures { result ≡ symbol_bits 2 word }
 {
     let bytes = u64x2::from_array([word, word >> 4])
         .to_le_bytes()
@@ -129,7 +132,7 @@ fn bits_of_word(word: u64) -> [bool; 16]
 /// The bits of the 16 symbols of two words with M = 4, of which a byte has one.
 #[inline(always)]
 fn bits_of_words(first: u64, second: u64) -> [bool; 16]
-    ensures { result ≡ bits_at 4 first ++ bits_at 4 second }
+    ensures { result ≡ symbol_bits 4 first ++ symbol_bits 4 second }
 {
     have_digit(u64x2::from_array([first, second]).to_le_bytes(), 16)
 }
@@ -137,7 +140,8 @@ fn bits_of_words(first: u64, second: u64) -> [bool; 16]
 /// The bits of the 16 symbols of four words with M = 8, of which every second byte has one.
 #[inline(always)]
 fn bits_of_four_words(first: u64, second: u64, third: u64, fourth: u64) -> [bool; 16]
-    ensures { result ≡ (bits_at 8 first ++ bits_at 8 second) ++ (bits_at 8 third ++ bits_at 8 fourth) }
+    ensures { result ≡ (symbol_bits 8 first ++ symbol_bits 8 second)
+        ++ (symbol_bits 8 third ++ symbol_bits 8 fourth) }
 {
     let front = u64x2::from_array([first, second]).to_le_bytes();
     let back = u64x2::from_array([third, fourth]).to_le_bytes();
@@ -155,7 +159,11 @@ fn symbols_of_two_words(
 ) -> Option<(u64, u64, SymbolBefore)>
     requires places { ArePlaces m inside middles }
     requires whole { length levels.now ≡ 128 }
-    ensures { IfSome result (λ it. (levels.now ≡ blocks (miller m) (context before) (bits_at m it.0 ++ bits_at m it.1)) × (context it.2 ≡ context_after (miller m) (context before) (bits_at m it.0 ++ bits_at m it.1))) }
+    ensures { IfSome result
+        (λ it. (levels.now
+        ≡ blocks (miller m) (context before) (symbol_bits m it.0 ++ symbol_bits m it.1))
+        × (context it.2 ≡ context_after (miller m) (context before)
+        (symbol_bits m it.0 ++ symbol_bits m it.1))) }
 {
     let word = word_of(&levels[..64]);
     let (first, between) = symbols_of_word(m, inside, middles, before, word)?;
@@ -171,7 +179,9 @@ pub(crate) fn sixteen_of_two_cycles(
     levels: &[bool],
 ) -> Option<([bool; 16], SymbolBefore)>
     requires { length levels.now ≡ 64 }
-    ensures { IfSome result (λ it. (levels.now ≡ blocks (miller 2) (context before) it.0) × (context it.1 ≡ context_after (miller 2) (context before) it.0)) }
+    ensures { IfSome result
+        (λ it. (levels.now ≡ blocks (miller 2) (context before) it.0)
+        × (context it.1 ≡ context_after (miller 2) (context before) it.0)) }
 {
     let word = word_of(levels);
     let (bits, last) = symbols_of_word(
@@ -191,7 +201,9 @@ pub(crate) fn sixteen_of_four_cycles(
     levels: &[bool],
 ) -> Option<([bool; 16], SymbolBefore)>
     requires { length levels.now ≡ 128 }
-    ensures { IfSome result (λ it. (levels.now ≡ blocks (miller 4) (context before) it.0) × (context it.1 ≡ context_after (miller 4) (context before) it.0)) }
+    ensures { IfSome result
+        (λ it. (levels.now ≡ blocks (miller 4) (context before) it.0)
+        × (context it.1 ≡ context_after (miller 4) (context before) it.0)) }
 {
     let (first, second, last) = symbols_of_two_words(
         4,
@@ -210,7 +222,9 @@ pub(crate) fn sixteen_of_eight_cycles(
     levels: &[bool],
 ) -> Option<([bool; 16], SymbolBefore)>
     requires { length levels.now ≡ 256 }
-    ensures { IfSome result (λ it. (levels.now ≡ blocks (miller 8) (context before) it.0) × (context it.1 ≡ context_after (miller 8) (context before) it.0)) }
+    ensures { IfSome result
+        (λ it. (levels.now ≡ blocks (miller 8) (context before) it.0)
+        × (context it.1 ≡ context_after (miller 8) (context before) it.0)) }
 {
     let inside = 0xfefe_fefe_fefe_fefe;
     let middles = 0x0100_0100_0100_0100;

@@ -6,7 +6,7 @@ use Rattle.pie_line.specs.declared.frame.FrameKind.TheVariants.{Preamble, FrameS
 use Rattle.pie_line.specs.declared.frame_state.FrameState.{FrameState}
 use Rattle.pie_line.specs.declared.frame_state.FrameState.TheVariants.{Delimiter, TariHigh, TariLow, RtCalHigh, RtCalLow, FirstHigh, FirstLow, High, Low}
 use Rattle.pie_line.specs.Link.{IsTari, IsRtCal, IsTrCal}
-use Rattle.pie_line.specs.Pie.{bit_of, AreSymbols, HasSums}
+use Rattle.pie_line.specs.Pie.{bit_of_symbol, AreSymbols, HasSums}
 use Rattle.pie_line.specs.FrameState.{IsSoundState, Completes, rtcal_of}
 use Rattle.pie_line.proofs.Symbols.{symbols-more}
 
@@ -83,7 +83,7 @@ completion (Low kind high) s =
     let r = rtcal_of kind in
     let sum = high + (4 * r - high) in (
       kind,
-      bit_of r sum ∷ [],
+      bit_of_symbol r sum ∷ [],
       (4 * r - high) ∷ [],
       (refl, (s.1.lasts, omega (arith, s.1.room), tt), symbols-more r sum [] [] (omega (arith, s.1.room)) (no_symbols r)),
     )

@@ -7,7 +7,7 @@ use Rattle.pie_line.specs.declared.frame.FrameKind.TheVariants.{Preamble, FrameS
 use Rattle.pie_line.specs.declared.frame_state.FrameState.{FrameState}
 use Rattle.pie_line.specs.declared.frame_state.FrameState.TheVariants.{Delimiter, TariHigh, TariLow, RtCalHigh, RtCalLow, FirstHigh, FirstLow, High, Low}
 use Rattle.pie_line.specs.Link.{IsTari, IsRtCal, IsTrCal}
-use Rattle.pie_line.specs.Pie.{IsDelimiter, pair_sums, bit_of, HasSums, AreSymbols}
+use Rattle.pie_line.specs.Pie.{IsDelimiter, pair_sums, bit_of_symbol, HasSums, AreSymbols}
 use Rattle.pie_line.specs.FrameState.{IsSoundState, IsHigh, rtcal_of, Completes, Moves, Stops}
 use Rattle.pie_line.proofs.Symbols.{symbol-moves, first-moves, preamble-moves}
 
@@ -94,11 +94,11 @@ moves-asked (RtCalLow t high) x s a =
     (FirstHigh t (high + x), None, waits (RtCalLow t high) (FirstHigh t (high + x)) x (s.0, a.1) (λ kind bits rest c. (c.0.2, c.1)) (λ kind bits rest c. ((s.1.lasts, a.0, c.0), c.1)))
 moves-asked (FirstHigh t r) x s a = (FirstLow t r x, None, waits (FirstHigh t r) (FirstLow t r x) x (s.0, s.1, a) (λ kind bits rest c. c) (λ kind bits rest c. c))
 moves-asked (FirstLow t r high) x s (lasts, inl le) =
-    (High (FrameSync t r), Some (bit_of r (high + x)), first-moves t r high x s.0 s.1 s.2.lasts lasts le)
+    (High (FrameSync t r), Some (bit_of_symbol r (high + x)), first-moves t r high x s.0 s.1 s.2.lasts lasts le)
 moves-asked (FirstLow t r high) x s (lasts, inr range) =
     (High (Preamble t r (high + x)), None, preamble-moves t r high x s.0 s.1 s.2.lasts lasts range)
 moves-asked (High kind) x s a = (Low kind x, None, waits (High kind) (Low kind x) x (s, a) (λ k bits rest c. c) (λ k bits rest c. c))
-moves-asked (Low kind high) x s a = (High kind, Some (bit_of (rtcal_of kind) (high + x)), symbol-moves kind high x s.0 s.1.lasts a.0 a.1)
+moves-asked (Low kind high) x s a = (High kind, Some (bit_of_symbol (rtcal_of kind) (high + x)), symbol-moves kind high x s.0 s.1.lasts a.0 a.1)
 
 -- every frame that goes on has an interval there that is asked for
 asked : (place : FrameState) (x : ℕ) (kind : FrameKind) (bits : List Bool) (rest : List ℕ) → Completes place kind bits (x ∷ rest) → Asks place x

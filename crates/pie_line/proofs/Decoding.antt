@@ -8,7 +8,7 @@ use Rattle.pie_line.specs.declared.frame.FrameKind.{FrameKind}
 use Rattle.pie_line.specs.declared.frame.PieRefusal.{PieRefusal}
 use Rattle.pie_line.specs.declared.edges.Edge.TheVariants.{Refused}
 use Rattle.pie_line.specs.Pie.{IsFrame, Frames}
-use Rattle.pie_line.specs.laws.Frames.{refuses-no_frame}
+use Rattle.pie_line.proofs.Frames.{refuses-no_frame}
 use Rattle.pie_line.specs.Refusal.{IsFrameRefusedAt, RefusesFrame}
 use Rattle.pie_line.specs.Edges.{EdgesValue, IsEdgesAnswer}
 use Rattle.pie_line.proofs.Leads.{refused-more}

@@ -11,7 +11,7 @@ use Rattle.pie_line.specs.Pie.{HasSums, IsFrame, Frames}
 use Rattle.pie_line.specs.FrameState.{IsSoundState, Completes, rtcal_of}
 use Rattle.pie_line.specs.Edges.{LeadsToState}
 use Rattle.pie_line.specs.FrameAnswer.{HasOneAnswer}
-use Rattle.pie_line.specs.laws.Frames.{refusal-one}
+use Rattle.pie_line.proofs.Frames.{refusal-one}
 use Rattle.pie_line.proofs.Completions.{no_symbols, sync}
 use Rattle.pie_line.proofs.Decisions.{moves-or_stops}
 use Rattle.bit_strings.specs.laws.Family.{bad-more, bad-last, bad-one, member-not_bad, short-not_bad}

@@ -10,3 +10,4 @@ pub mod SymbolLanes
 pub mod Symbols
 pub mod TakenSymbol
 pub mod Writing
+pub mod Frames

@@ -10,7 +10,7 @@ use Rattle.pie_line.specs.declared.edges.Edge.TheVariants.{More, Bit, Refused}
 use Rattle.pie_line.specs.Pie.{Frames, IsFrame}
 use Rattle.pie_line.specs.Refusal.{IsFrameRefusedAt, RefusesFrame}
 use Rattle.pie_line.specs.Edges.{EdgesValue, IsEdgesAnswer}
-use Rattle.pie_line.specs.laws.Frames.{frame-one, refuses-no_frame, refusal-one}
+use Rattle.pie_line.proofs.Frames.{frame-one, refuses-no_frame, refusal-one}
 use Rattle.pie_line.proofs.Leads.{standing-begins}
 use Rattle.pie_line.proofs.DecoderStandsFor.{stands-refused}
 

@@ -3,7 +3,7 @@ use Rattle.std.proofs.Common.{◌≡◌, ℕ, ◌+◌, ◌*◌, ◌≤◌, ◌<�
 use Rattle.std.proofs.lemmas.List.{append-nil}
 use Rattle.pie_line.specs.declared.frame.FrameKind.{FrameKind}
 use Rattle.pie_line.specs.declared.frame_state.FrameState.TheVariants.{High, Low}
-use Rattle.pie_line.specs.Pie.{bit_of}
+use Rattle.pie_line.specs.Pie.{bit_of_symbol}
 use Rattle.pie_line.specs.FrameState.{IsHeader, rtcal_of, Moves}
 use Rattle.pie_line.specs.Edges.{EdgesValue, LeadsToState, EdgesStandFor}
 use Rattle.pie_line.specs.DataSymbols.{IsDataSymbol}
@@ -21,9 +21,9 @@ high-moves kind high header lasts room = record {
 
 -- one symbol more leads to the place before the next
 leads-symbol : (kind : FrameKind) (bits : List Bool) (xs : List ℕ) (high low : ℕ) → IsDataSymbol (rtcal_of kind) high low → LeadsToState (High kind) bits xs
-    → LeadsToState (High kind) (bits ++ bit_of (rtcal_of kind) (high + low) ∷ []) (xs ++ high ∷ low ∷ [])
+    → LeadsToState (High kind) (bits ++ bit_of_symbol (rtcal_of kind) (high + low) ∷ []) (xs ++ high ∷ low ∷ [])
 leads-symbol kind bits xs high low symbol leads =
-    let bit = bit_of (rtcal_of kind) (high + low) in
+    let bit = bit_of_symbol (rtcal_of kind) (high + low) in
     let first = leads-moves (High kind) (Low kind high) None bits xs high leads
     (high-moves kind high leads.sound symbol.lasts_high (omega (arith, symbol.lasts_low, symbol.within))) in
     let second = leads-moves (Low kind high) (High kind) (Some bit) (bits ++ []) (xs ++ high ∷ []) low first
@@ -36,7 +36,7 @@ leads-symbol kind bits xs high low symbol leads =
 -- the decoder takes it
 pub stands_symbol : (old : EdgesValue) (kind : FrameKind) (high low : ℕ) (bits : List Bool) (intervals : List ℕ) → old.standing ≡ Ok (High kind)
     → IsDataSymbol (rtcal_of kind) high low → EdgesStandFor old bits intervals
-    → EdgesStandFor (record { standing = old.standing; count = old.count + 2 }) (bits ++ bit_of (rtcal_of kind) (high + low) ∷ []) (intervals ++ high ∷ low ∷ [])
+    → EdgesStandFor (record { standing = old.standing; count = old.count + 2 }) (bits ++ bit_of_symbol (rtcal_of kind) (high + low) ∷ []) (intervals ++ high ∷ low ∷ [])
 stands_symbol old kind high low bits intervals is symbol stands =
     let at = stands-at old (High kind) bits intervals is stands in
     standing-so (record { standing = old.standing; count = old.count + 2 }) (High kind) _ _ is

@@ -6,7 +6,7 @@ use Rattle.std.proofs.lemmas.List.Elements.{All-nil}
 use Rattle.pie_line.specs.declared.frame.Lead.{Lead}
 use Rattle.pie_line.specs.declared.frame.Lead.TheVariants.{Preamble as preamble, FrameSync as frame_sync}
 use Rattle.pie_line.specs.Link.{LinkValue, IsLegalLink}
-use Rattle.pie_line.specs.Pie.{IsFrame, ArePairs, AreSymbols, IsNoTrCal, bit_of, pair_sums, pair_of, sum_of, wave_of, kind_of}
+use Rattle.pie_line.specs.Pie.{IsFrame, ArePairs, AreSymbols, IsNoTrCal, bit_of_symbol, pair_sums, interval_pair, sum_of, wave_of, frame_kind_of}
 use Rattle.pie_line.proofs.Symbols.{symbols-more}
 
 -- a pair that is written lasts as long as it is meant to
@@ -22,13 +22,13 @@ sum-most : (link : LinkValue) → IsLegalLink link → (bit : Bool) → sum_of l
 sum-most link legal true = omega arith
 sum-most link legal false = omega (arith, legal.tari_range, legal.rtcal_range)
 
-bit-told : (link : LinkValue) → IsLegalLink link → (bit : Bool) → bit_of link.rtcal (sum_of link bit) ≡ bit
+bit-told : (link : LinkValue) → IsLegalLink link → (bit : Bool) → bit_of_symbol link.rtcal (sum_of link bit) ≡ bit
 bit-told link legal true = le-leb link.rtcal (2 * (link.rtcal - link.tari)) (omega (arith, legal.tari_range, legal.rtcal_range))
 bit-told link legal false = lt-leb link.rtcal (2 * link.tari) (omega (arith, legal.tari_range, legal.rtcal_range))
 
 -- the intervals of the symbols that are written
 abbrev pub symbols_of : LinkValue → List Bool → List ℕ
-symbols_of link bits = flat_map (λ bit. pair_of link (sum_of link bit)) bits
+symbols_of link bits = flat_map (λ bit. interval_pair link (sum_of link bit)) bits
 
 symbols-pairs : (link : LinkValue) → IsLegalLink link → (bits : List Bool) → ArePairs (symbols_of link bits)
 symbols-pairs link legal [] = tt
@@ -51,7 +51,7 @@ symbols-no_trcal link legal [] = tt
 symbols-no_trcal link legal (bit ∷ bits) = sum-most link legal bit
 
 -- what is written is a frame of the header and the bits
-pub wave-frame : (link : LinkValue) → IsLegalLink link → (lead : Lead) (bits : List Bool) → IsFrame (kind_of link lead) bits (wave_of link lead bits)
+pub wave-frame : (link : LinkValue) → IsLegalLink link → (lead : Lead) (bits : List Bool) → IsFrame (frame_kind_of link lead) bits (wave_of link lead bits)
 wave-frame link legal frame_sync bits =
     let pw : (1 ≤ link.pw) × (link.pw + 1 ≤ link.tari) × (link.pw + 1 ≤ link.rtcal) = (omega (arith, legal.pw_range), omega (arith, legal), omega (arith, legal)) in (
       (omega arith, omega arith),
@@ -82,5 +82,5 @@ wave-frame link legal preamble bits =
     )
 
 pub written-frame : (link : LinkValue) (lead : Lead) (bits : List Bool) (items : List ℕ) → IsLegalLink link → items ≡ wave_of link lead bits →
-    IsFrame (kind_of link lead) bits items
+    IsFrame (frame_kind_of link lead) bits items
 written-frame link lead bits items legal written = rw written (wave-frame link legal lead bits)

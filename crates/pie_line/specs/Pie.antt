@@ -29,13 +29,13 @@ pair_sums (high ∷ []) = []
 pair_sums (high ∷ low ∷ rest) = (high + low) ∷ pair_sums rest
 
 -- 6.3.1.2.8: the pivot is half of RTcal; a shorter symbol is a data-0, and another a data-1
-abbrev pub bit_of : ℕ → ℕ → Bool
-bit_of rtcal sum = nat_le rtcal (2 * sum)
+abbrev pub bit_of_symbol : ℕ → ℕ → Bool
+bit_of_symbol rtcal sum = nat_le rtcal (2 * sum)
 
 -- 6.3.1.2.8: the symbols of these bits, none of them longer than 4 RTcal
 pub record AreSymbols (rtcal : ℕ) (bits : List Bool) (sums : List ℕ) : Type 0 where
   pub within : All (λ sum. sum ≤ 4 * rtcal) sums
-  pub told : bits ≡ map (bit_of rtcal) sums
+  pub told : bits ≡ map (bit_of_symbol rtcal) sums
 
 -- 6.3.1.2.8: what follows RTcal in a frame-sync is no longer than RTcal, and so is no TRcal
 abbrev pub IsNoTrCal : ℕ → List ℕ → Type 0
@@ -77,8 +77,8 @@ abbrev pub Frames : List ℕ → Type 0
 Frames intervals = (kind : FrameKind) × (bits : List Bool) × IsFrame kind bits intervals
 
 -- 6.3.1.2.3: a pair that lasts this long: a high, and then a low of PW
-abbrev pub pair_of : LinkValue → ℕ → List ℕ
-pair_of link sum = (sum - link.pw) ∷ link.pw ∷ []
+abbrev pub interval_pair : LinkValue → ℕ → List ℕ
+interval_pair link sum = (sum - link.pw) ∷ link.pw ∷ []
 
 -- 6.3.1.2.3: a data-0 lasts Tari, and a data-1 the rest of RTcal
 abbrev pub sum_of : LinkValue → Bool → ℕ
@@ -90,14 +90,14 @@ symbols_with high_0 high_1 low bits = flat_map (λ bit. (if bit then high_1 else
 
 -- 6.3.1.2.8: the header that begins a Query, and the one that begins every other command
 abbrev pub header_of : LinkValue → Lead → List ℕ
-header_of link frame_sync = pair_of link link.tari ++ pair_of link link.rtcal
-header_of link preamble = pair_of link link.tari ++ pair_of link link.rtcal ++ pair_of link link.trcal
+header_of link frame_sync = interval_pair link link.tari ++ interval_pair link link.rtcal
+header_of link preamble = interval_pair link link.tari ++ interval_pair link link.rtcal ++ interval_pair link link.trcal
 
 -- the one frame that is written for these bits
 abbrev pub wave_of : LinkValue → Lead → List Bool → List ℕ
-wave_of link lead bits = 12500 ∷ (header_of link lead ++ flat_map (λ bit. pair_of link (sum_of link bit)) bits)
+wave_of link lead bits = 12500 ∷ (header_of link lead ++ flat_map (λ bit. interval_pair link (sum_of link bit)) bits)
 
 -- the kind that such a frame has
-abbrev pub kind_of : LinkValue → Lead → FrameKind
-kind_of link frame_sync = FrameSync link.tari link.rtcal
-kind_of link preamble = Preamble link.tari link.rtcal link.trcal
+abbrev pub frame_kind_of : LinkValue → Lead → FrameKind
+frame_kind_of link frame_sync = FrameSync link.tari link.rtcal
+frame_kind_of link preamble = Preamble link.tari link.rtcal link.trcal

@@ -1,2 +1,1 @@
 -- Laws of the definitions of PIE frames, which crates above use as well.
-pub mod Frames

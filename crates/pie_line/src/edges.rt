@@ -86,10 +86,12 @@ impl Edges {
         requires interval { interval ≤ longest_interval }
         requires count { self.old.count < most_counted }
         // The decoder stands for a list of intervals and for the bits that were read from it.
-        ensures answer { (bits : List Bool) (intervals : List ℕ) → EdgesStandFor self.old bits intervals →
+        ensures answer { (bits : List Bool) (intervals : List ℕ)
+            → EdgesStandFor self.old bits intervals →
             IsEdgesAnswer result self.new bits (intervals ++ interval ∷ []) }
         // Where the intervals are refused, so they are here.
-        ensures only { (bits : List Bool) (intervals : List ℕ) (refusal : PieRefusal) (place : ℕ) → EdgesStandFor self.old bits intervals →
+        ensures only { (bits : List Bool) (intervals : List ℕ) (refusal : PieRefusal) (place : ℕ)
+            → EdgesStandFor self.old bits intervals →
             IsFrameRefusedAt refusal (intervals ++ interval ∷ []) place → result ≡ Refused refusal }
         ensures count { self.new.count ≤ self.old.count + 1 }
     {
@@ -117,7 +119,9 @@ impl Edges {
         requires high { high ≤ longest_interval }
         requires low { low ≤ longest_interval }
         requires count { self.old.count + 2 ≤ most_counted }
-        ensures bit { IfSome result (λ bit. (bits : List Bool) (intervals : List ℕ) → EdgesStandFor self.old bits intervals →
+        ensures bit { IfSome result
+            (λ bit. (bits : List Bool) (intervals : List ℕ)
+            → EdgesStandFor self.old bits intervals →
             EdgesStandFor self.new (bits ++ bit ∷ []) (intervals ++ high ∷ low ∷ [])) }
         ensures some { IfSome result (λ _. IsBeforeSymbol self.old high low) }
         ensures stays { IfSome result (λ _. self.new.standing ≡ self.old.standing) }
@@ -135,12 +139,16 @@ impl Edges {
 
     /// The kind of the frame that the intervals are, or why they are none.
     pub fn finish(self) -> Result<FrameKind, PieRefusal>
-        ensures answer { (bits : List Bool) (intervals : List ℕ) → EdgesStandFor self bits intervals →
-            MatchResult result (λ kind. IsFrame kind bits intervals) (λ refusal. RefusesFrame refusal intervals) }
+        ensures answer { (bits : List Bool) (intervals : List ℕ)
+            → EdgesStandFor self bits intervals →
+            MatchResult result (λ kind. IsFrame kind bits intervals)
+            (λ refusal. RefusesFrame refusal intervals) }
         // What the intervals are is answered.
-        ensures only { (bits read : List Bool) (intervals : List ℕ) (kind : FrameKind) → EdgesStandFor self bits intervals →
+        ensures only { (bits read : List Bool) (intervals : List ℕ) (kind : FrameKind)
+            → EdgesStandFor self bits intervals →
             IsFrame kind read intervals → (result ≡ Ok kind) × (bits ≡ read) }
-        ensures first { (bits : List Bool) (intervals : List ℕ) (refusal : PieRefusal) → EdgesStandFor self bits intervals →
+        ensures first { (bits : List Bool) (intervals : List ℕ) (refusal : PieRefusal)
+            → EdgesStandFor self bits intervals →
             RefusesFrame refusal intervals → result ≡ Err refusal }
     {
         let Edges { standing, count } = self;

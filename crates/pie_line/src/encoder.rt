@@ -1,6 +1,6 @@
 //! Bits to frames.
 ghost use Rattle.std.specs.Prelude.{◌≡◌, ◌+◌, ◌-◌, ◌*◌, ◌≤◌, ◌++◌, ⊤, length, All, false, true, if◌then◌else◌};
-ghost use Rattle.pie_line.specs.Pie.{IsFrame, sum_of, symbols_with, wave_of, kind_of, longest_interval};
+ghost use Rattle.pie_line.specs.Pie.{IsFrame, sum_of, symbols_with, wave_of, frame_kind_of, longest_interval};
 
 use crate::sender::{FrameTaker, send_header};
 use crate::{Intervals, Lead, Link};
@@ -12,7 +12,7 @@ use std::simd::prelude::u32x16;
 pub fn encode_frame(link: &Link, lead: Lead, bits: &Bits, out: &mut Intervals)
     requires room { 7 + 2 * length bits.now.items ≤ out.old.capacity }
     ensures wave { out.new.items ≡ wave_of link.now lead bits.now.items }
-    ensures frame { IsFrame (kind_of link.now lead) bits.now.items out.new.items }
+    ensures frame { IsFrame (frame_kind_of link.now lead) bits.now.items out.new.items }
     // The list can be read again.
     ensures each { All (λ interval. interval ≤ longest_interval) out.new.items }
     ensures count { length out.new.items ≤ 7 + 2 * length bits.now.items }
@@ -45,7 +45,8 @@ impl FrameTaker for Nobody {
 fn put_symbols(zero: u32, one: u32, low: u32, bits: &[bool], out: &mut Intervals)
     requires order { zero ≤ one }
     requires room { length out.old.items + 2 * length bits.now ≤ out.old.capacity }
-    ensures { out.new ≡ record out.old { items = out.old.items ++ symbols_with zero one low bits.now } }
+    ensures { out.new ≡ record
+        out.old { items = out.old.items ++ symbols_with zero one low bits.now } }
 {
     let mut rest = bits;
     // All but a few are written by eight, which takes fewer steps for each.

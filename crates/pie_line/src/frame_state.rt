@@ -127,7 +127,8 @@ impl FrameState {
     pub fn kind(self) -> Option<FrameKind>
         requires { IsSoundState self }
         ensures ends { IfSome result (λ kind. Completes self kind [] []) }
-        ensures goes_on { IfNone result ((kind : FrameKind) (bits : List Bool) → ¬ Completes self kind bits []) }
+        ensures goes_on { IfNone result
+            ((kind : FrameKind) (bits : List Bool) → ¬ Completes self kind bits []) }
     {
         match self {
             FrameState::Delimiter => None,

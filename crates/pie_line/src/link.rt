@@ -45,7 +45,8 @@ impl Model for Link {
 
     ghost view = { λ a. record { tari = a.tari; rtcal = a.rtcal; trcal = a.trcal; pw = a.pw; dr = a.dr; code = a.code; trext = a.trext } };
 
-    ghost invariant = { λ a. IsLegalLink (record { tari = a.tari; rtcal = a.rtcal; trcal = a.trcal; pw = a.pw; dr = a.dr; code = a.code; trext = a.trext }) };
+    ghost invariant = { λ a. IsLegalLink
+        (record { tari = a.tari; rtcal = a.rtcal; trcal = a.trcal; pw = a.pw; dr = a.dr; code = a.code; trext = a.trext }) };
 
     ghost inverse = { λ v. record { tari = v.tari; rtcal = v.rtcal; trcal = v.trcal; pw = v.pw; dr = v.dr; code = v.code; trext = v.trext } };
 }
@@ -65,7 +66,8 @@ impl Link {
         code: Code,
         trext: bool,
     ) -> Result<Link, LinkRefusal>
-        ensures link { IfOk result (λ link. link ≡ record { tari = tari; rtcal = rtcal; trcal = trcal; pw = pw; dr = dr; code = code; trext = trext }) }
+        ensures link { IfOk result
+            (λ link. link ≡ record { tari = tari; rtcal = rtcal; trcal = trcal; pw = pw; dr = dr; code = code; trext = trext }) }
         ensures legal { IfOk result IsLegalLink }
         ensures refused { IfErr result (λ refusal. IsFirstBroken refusal tari rtcal trcal pw) }
     {

@@ -1,7 +1,7 @@
 //! Tests of the ranges of durations, all in nanoseconds, and the bits that durations stand for.
 ghost use Rattle.std.specs.Prelude.{◌≡◌, ◌↔◌, ◌+◌, ◌*◌, ◌≤◌, ℕ, nat_le, IsTrue, IfSome, IfNone};
 ghost use Rattle.pie_line.specs.Link.{IsTari, IsRtCal, IsTrCal, IsPw};
-ghost use Rattle.pie_line.specs.Pie.{IsDelimiter, bit_of, longest_interval};
+ghost use Rattle.pie_line.specs.Pie.{IsDelimiter, bit_of_symbol, longest_interval};
 ghost use Rattle.pie_line.specs.DataSymbols.{IsDataSymbol};
 
 /// The longest Tari.
@@ -50,7 +50,7 @@ pub fn is_pw(tari: u32, pw: u32) -> bool
 /// The pivot, half of RTcal, rounded up (6.3.1.2.8): a symbol that lasts less is a data-0, and another a data-1.
 #[inline(always)]
 pub fn pivot_of(rtcal: u32) -> u32
-    ensures { (sum : ℕ) → nat_le result sum ≡ bit_of rtcal sum }
+    ensures { (sum : ℕ) → nat_le result sum ≡ bit_of_symbol rtcal sum }
 {
     rtcal - rtcal / 2
 }
@@ -58,7 +58,7 @@ pub fn pivot_of(rtcal: u32) -> u32
 /// The bit of a symbol that lasts `sum`: 0 where it is shorter than half of RTcal, else 1.
 #[inline(always)]
 pub fn bit_of_sum(rtcal: u32, sum: u32) -> bool
-    ensures { result ≡ bit_of rtcal sum }
+    ensures { result ≡ bit_of_symbol rtcal sum }
 {
     pivot_of(rtcal) <= sum
 }
@@ -69,7 +69,7 @@ pub fn bit_of_symbol(rtcal: u32, high: u32, low: u32) -> Option<bool>
     requires rtcal { rtcal ≤ 75000 }
     requires high { high ≤ longest_interval }
     requires low { low ≤ longest_interval }
-    ensures bit { IfSome result (λ bit. bit ≡ bit_of rtcal (high + low)) }
+    ensures bit { IfSome result (λ bit. bit ≡ bit_of_symbol rtcal (high + low)) }
     ensures symbol { IfSome result (λ _. IsDataSymbol rtcal high low) }
     ensures none { IfNone result (¬ IsDataSymbol rtcal high low) }
 {

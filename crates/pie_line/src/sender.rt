@@ -2,7 +2,7 @@
 ghost use Rattle.std.specs.Prelude.{◌≡◌, ◌+◌, ◌*◌, ◌≤◌, ◌++◌, ◌∷◌, [], ℕ, List, length, All};
 ghost use Rattle.bit_strings.specs.BitString.{most_counted};
 ghost use Rattle.pie_line.specs.Link.{IsLegalLink};
-ghost use Rattle.pie_line.specs.Pie.{IsFrame, symbols_with, header_of, wave_of, kind_of, longest_interval};
+ghost use Rattle.pie_line.specs.Pie.{IsFrame, symbols_with, header_of, wave_of, frame_kind_of, longest_interval};
 
 use crate::encoder::{high_of, highs};
 use crate::{Intervals, Lead, Link};
@@ -23,7 +23,8 @@ pub trait FrameTaker {
     fn take(&mut self, interval: u32)
         requires interval { interval ≤ longest_interval }
         requires count { count self.old + 1 ≤ most_counted }
-        ensures took { (first : Self) (intervals : List ℕ) → took first intervals self.old → took first (intervals ++ interval ∷ []) self.new }
+        ensures took { (first : Self) (intervals : List ℕ) → took first intervals self.old
+            → took first (intervals ++ interval ∷ []) self.new }
         ensures count { count self.new ≤ count self.old + 1 };
 
     /// Takes the high and the low of one more symbol, in nanoseconds.
@@ -31,7 +32,8 @@ pub trait FrameTaker {
         requires high { high ≤ longest_interval }
         requires low { low ≤ longest_interval }
         requires count { count self.old + 2 ≤ most_counted }
-        ensures took { (first : Self) (intervals : List ℕ) → took first intervals self.old → took first (intervals ++ high ∷ low ∷ []) self.new }
+        ensures took { (first : Self) (intervals : List ℕ) → took first intervals self.old
+            → took first (intervals ++ high ∷ low ∷ []) self.new }
         ensures count { count self.new ≤ count self.old + 2 };
 }
 
@@ -48,7 +50,7 @@ pub fn send_frame<T: FrameTaker>(
     requires count { T.count taker.old + 7 + 2 * length bits.now.items ≤ most_counted }
     requires begun { T.took taker.old [] taker.old }
     ensures wave { frame.new.items ≡ wave_of link.now lead bits.now.items }
-    ensures frame { IsFrame (kind_of link.now lead) bits.now.items frame.new.items }
+    ensures frame { IsFrame (frame_kind_of link.now lead) bits.now.items frame.new.items }
     ensures each { All (λ interval. interval ≤ longest_interval) frame.new.items }
     ensures length { length frame.new.items ≤ 7 + 2 * length bits.now.items }
     ensures capacity { frame.new.capacity ≡ frame.old.capacity }
@@ -74,7 +76,8 @@ pub(crate) fn send_header<T: FrameTaker>(
     ensures written { length frame.new.items ≤ 7 }
     ensures legal { IsLegalLink link.now }
     ensures capacity { frame.new.capacity ≡ frame.old.capacity }
-    ensures took { (first : T) → T.took first [] taker.old → T.took first frame.new.items taker.new }
+    ensures took { (first : T) → T.took first [] taker.old
+        → T.took first frame.new.items taker.new }
     ensures count { T.count taker.new ≤ T.count taker.old + 7 }
 {
     frame.clear();
@@ -102,8 +105,10 @@ fn send_symbols<T: FrameTaker>(
     requires low { low ≤ longest_interval }
     requires room { length frame.old.items + 2 * length bits.now ≤ frame.old.capacity }
     requires count { T.count taker.old + 2 * length bits.now ≤ most_counted }
-    ensures frame { frame.new ≡ record frame.old { items = frame.old.items ++ symbols_with zero one low bits.now } }
-    ensures took { (first : T) → T.took first frame.old.items taker.old → T.took first frame.new.items taker.new }
+    ensures frame { frame.new
+        ≡ record frame.old { items = frame.old.items ++ symbols_with zero one low bits.now } }
+    ensures took { (first : T) → T.took first frame.old.items taker.old
+        → T.took first frame.new.items taker.new }
 {
     for &bit in bits {
         send_symbol(high_of(zero, one, bit), low, frame, taker);
@@ -117,7 +122,8 @@ fn send<T: FrameTaker>(interval: u32, frame: &mut Intervals, taker: &mut T)
     requires room { length frame.old.items + 1 ≤ frame.old.capacity }
     requires count { T.count taker.old + 1 ≤ most_counted }
     ensures frame { frame.new ≡ record frame.old { items = frame.old.items ++ interval ∷ [] } }
-    ensures took { (first : T) → T.took first frame.old.items taker.old → T.took first frame.new.items taker.new }
+    ensures took { (first : T) → T.took first frame.old.items taker.old
+        → T.took first frame.new.items taker.new }
     ensures count { T.count taker.new ≤ T.count taker.old + 1 }
 {
     frame.push_reserved(interval);
@@ -132,7 +138,8 @@ fn send_symbol<T: FrameTaker>(high: u32, low: u32, frame: &mut Intervals, taker:
     requires room { length frame.old.items + 2 ≤ frame.old.capacity }
     requires count { T.count taker.old + 2 ≤ most_counted }
     ensures frame { frame.new ≡ record frame.old { items = frame.old.items ++ high ∷ low ∷ [] } }
-    ensures took { (first : T) → T.took first frame.old.items taker.old → T.took first frame.new.items taker.new }
+    ensures took { (first : T) → T.took first frame.old.items taker.old
+        → T.took first frame.new.items taker.new }
     ensures count { T.count taker.new ≤ T.count taker.old + 2 }
 {
     frame.push_all_reserved(&[high, low]);

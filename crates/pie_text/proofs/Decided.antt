@@ -5,8 +5,8 @@ use Rattle.std.proofs.lemmas.Bool.{cases_eq, cases_lt}
 use Rattle.std.proofs.lemmas.List.Elements.{All-nil, All-cons, All-head, All-tail}
 use Rattle.pie_text.specs.declared.numbers.NotNumbers.{NotNumbers}
 use Rattle.pie_text.specs.declared.numbers.NotNumbers.TheVariants.{Shape, Number}
-use Rattle.pie_text.specs.Numbers.{HasShape, RefusesNumbers, SpellsNumbers}
-use Rattle.pie_text.specs.Spelling.{IsNumber, decimal_value}
+use Rattle.pie_text.specs.Numbers.{AreFewFilled, RefusesNumbers, SpellsNumbers}
+use Rattle.pie_text.specs.Spelling.{IsNumberUpTo, decimal_value}
 use Rattle.pie_text.proofs.Numerals.{fields_spell, spelled_numbers}
 
 -- a fact holds of each item, or not of each
@@ -29,7 +29,7 @@ same_list (x ∷ xs) (y ∷ ys) = elim (cases_eq x y) [
   | inl first ↦ elim (same_list xs ys) [ inl others ↦ inl (cc) | inr differ ↦ inr (λ same. let others : xs ≡ ys = cc in differ others) ]
 ]
 
-number_or : (most : ℕ) (field : List ℕ) → IsNumber most field ⊎ (¬ IsNumber most field)
+number_or : (most : ℕ) (field : List ℕ) → IsNumberUpTo most field ⊎ (¬ IsNumberUpTo most field)
 number_or most field = elim (same_list field (decimal (decimal_value field))) [
   | inr other ↦ inr (λ is. other is.spelling)
   | inl spelling ↦ elim (cases_lt most (decimal_value field)) [
@@ -42,7 +42,7 @@ filled_or : (field : List ℕ) → (field ≢ []) ⊎ (¬ (field ≢ []))
 filled_or [] = inr (λ filled. filled refl)
 filled_or (byte ∷ field) = inl (λ none. cc)
 
-shape_or : (most_items : ℕ) (fields : List (List ℕ)) → HasShape most_items fields ⊎ (¬ HasShape most_items fields)
+shape_or : (most_items : ℕ) (fields : List (List ℕ)) → AreFewFilled most_items fields ⊎ (¬ AreFewFilled most_items fields)
 shape_or most_items [] = inr (λ has. omega (arith, has.some))
 shape_or most_items (field ∷ fields) = elim (cases_lt most_items (length (field ∷ fields))) [
   | inl many ↦ inr (λ has. omega (arith, many, has.room))
@@ -56,7 +56,7 @@ pub decided : (most_items most : ℕ) (fields : List (List ℕ)) → most < 2 ^ 
     → ((numbers : List ℕ) × SpellsNumbers most_items most fields numbers) ⊎ ((reason : NotNumbers) × RefusesNumbers reason most_items most fields)
 decided most_items most fields small = elim (shape_or most_items fields) [
   | inr none ↦ inr (Shape, none)
-  | inl has ↦ elim (each_or (IsNumber most) (number_or most) fields) [
+  | inl has ↦ elim (each_or (IsNumberUpTo most) (number_or most) fields) [
     | inl are ↦ inl (map decimal_value fields, fields_spell most_items most fields has.some has.room are)
     | inr none ↦ inr (Number, (has, λ numbers within spells. none (spelled_numbers most fields numbers small within spells)))
   ]

@@ -15,9 +15,9 @@ use Rattle.std.proofs.lemmas.Simd.{get_or-chunk}
 use Rattle.std.proofs.lemmas.Str.{digit_value_digit}
 use Rattle.std.proofs.lemmas.Str.Parse.{numerals_by_value, tells_digits, digit_at, digits_value-take-le}
 use Rattle.text_fields.specs.Lines.{Lacks, fields_of, space}
-use Rattle.text_fields.specs.laws.LineLaws.{pieces_between-cut, whole_piece}
+use Rattle.text_fields.proofs.LineLaws.{pieces_between-cut, whole_piece}
 use Rattle.pie_text.specs.FieldEnd.{IsFieldEnd}
-use Rattle.pie_text.specs.Spelling.{IsNumber, decimal_value}
+use Rattle.pie_text.specs.Spelling.{IsNumberUpTo, decimal_value}
 
 -- an item of a front
 front_item : (text : List ℕ) (end i : ℕ) → i < end → get_or (take end text) i 0 ≡ get_or text i 0
@@ -62,7 +62,7 @@ digits_before text i end within digits ends =
     ]
 
 -- the digits of a number are digits
-number_digits : (most : ℕ) (field : List ℕ) → most < 2 ^ 32 → IsNumber most field → AllDigits 10 field
+number_digits : (most : ℕ) (field : List ℕ) → most < 2 ^ 32 → IsNumberUpTo most field → AllDigits 10 field
 number_digits most field small is =
     let digits = (decimal_is_IsNumeral (decimal_value field) (omega (arith, is.within))).0.1 in
     subst (AllDigits 10) (sym is.spelling) digits
@@ -84,7 +84,7 @@ stands_inside text i end before within no_space ends =
 pub record BeginsWithNumber (most : ℕ) (text : List ℕ) (end : ℕ) : Type 0 where
   pub small : most < 2 ^ 32
   pub ends : IsFieldEnd text end
-  pub number : IsNumber most (take end text)
+  pub number : IsNumberUpTo most (take end text)
 
 pub no_digit_here : (most i end : ℕ) (text : List ℕ) → BeginsWithNumber most text end → i < length text → AllDigits 10 (take i text)
     → get_or text i 0 ≢ 32 → is_ascii_digit (get_or text i 0) ≡ false → ⊥
@@ -117,7 +117,7 @@ one_zero zero small zeros = ap (λ (digits : List ℕ). length digits) (decimal_
 one_zero (suc n) small zeros = absurd (omega (arith, zeros, first_decimal (suc n) (omega arith) (omega arith)))
 
 -- a number has a digit, and no leading zeros
-pub number_form : (most : ℕ) (field : List ℕ) → most < 2 ^ 32 → IsNumber most field → (0 < length field) × (get_or field 0 0 ≡ 48 → length field ≡ 1)
+pub number_form : (most : ℕ) (field : List ℕ) → most < 2 ^ 32 → IsNumberUpTo most field → (0 < length field) × (get_or field 0 0 ≡ 48 → length field ≡ 1)
 number_form most field small is = (
   subst (λ (list : List ℕ). 0 < length list) (sym is.spelling) (decimal_is_IsNumeral (decimal_value field) (omega (arith, is.within))).0.0,
   λ zeros. subst (λ (list : List ℕ). length list ≡ 1) (sym is.spelling) (one_zero (decimal_value field) (omega (arith, is.within)) (subst (λ (list : List ℕ). get_or list 0 0 ≡ 48) is.spelling zeros)),
@@ -125,14 +125,14 @@ number_form most field small is = (
 
 -- digits that have the form of a number are one
 pub digits_are_number : (most : ℕ) (field : List ℕ) → most < 2 ^ 32 → AllDigits 10 field → 0 < length field → (get_or field 0 0 ≡ 48 → length field ≡ 1)
-    → decimal_value field ≤ most → IsNumber most field
+    → decimal_value field ≤ most → IsNumberUpTo most field
 digits_are_number most field small digits some zeros within = record {
   spelling = sym (decimal-digits_value (numerals_by_value _ tells_digits) field digits some zeros (omega (arith, within)));
   within = within;
 }
 
 -- a number's field has no space
-pub lacks_space : (most : ℕ) (field : List ℕ) → most < 2 ^ 32 → IsNumber most field → Lacks space field
+pub lacks_space : (most : ℕ) (field : List ℕ) → most < 2 ^ 32 → IsNumberUpTo most field → Lacks space field
 lacks_space most field small is k default below =
     let digit = digit_at field k (number_digits most field small is) below in
     omega (arith, digit, get_or_default_zero field k default below)
@@ -170,10 +170,10 @@ first_end (byte ∷ text) =
     ]
 
 -- where all fields spell numbers, the first does
-pub first_number : (most end : ℕ) (text : List ℕ) → IsFieldEnd text end → Lacks space (take end text) → All (IsNumber most) (fields_of text)
-    → IsNumber most (take end text)
+pub first_number : (most end : ℕ) (text : List ℕ) → IsFieldEnd text end → Lacks space (take end text) → All (IsNumberUpTo most) (fields_of text)
+    → IsNumberUpTo most (take end text)
 first_number most end text ends lacks all =
     elim (cases_lt end (length text)) [
-      | inl below ↦ All-head (IsNumber most) (take end text) _ (subst (All (IsNumber most)) (cut_field text end below ends lacks) all)
-      | inr behind ↦ All-head (IsNumber most) (take end text) [] (subst (All (IsNumber most)) (last_field text end behind lacks) all)
+      | inl below ↦ All-head (IsNumberUpTo most) (take end text) _ (subst (All (IsNumberUpTo most)) (cut_field text end below ends lacks) all)
+      | inr behind ↦ All-head (IsNumberUpTo most) (take end text) [] (subst (All (IsNumberUpTo most)) (last_field text end behind lacks) all)
     ]

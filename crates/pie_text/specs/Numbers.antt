@@ -5,7 +5,7 @@ use Rattle.pie_text.specs.declared.numbers.NotNumbers.{NotNumbers}
 use Rattle.pie_text.specs.declared.numbers.NotNumbers.TheVariants.{Shape, Number}
 
 -- the fields are from 1 to most_items, and none is empty
-pub record HasShape (most_items : ℕ) (fields : List (List ℕ)) : Type 0 where
+pub record AreFewFilled (most_items : ℕ) (fields : List (List ℕ)) : Type 0 where
   pub some : 1 ≤ length fields
   pub room : length fields ≤ most_items
   pub filled : All (λ field. field ≢ []) fields
@@ -20,7 +20,7 @@ pub record SpellsNumbers (most_items most : ℕ) (fields : List (List ℕ)) (num
 -- the first reason for which the fields spell no such numbers
 abbrev pub RefusesNumbers : NotNumbers → ℕ → ℕ → List (List ℕ) → Type 0
 -- their number is wrong, or one is empty
-RefusesNumbers Shape most_items most fields = ¬ HasShape most_items fields
+RefusesNumbers Shape most_items most fields = ¬ AreFewFilled most_items fields
 -- they are there, and one of them is no number up to most
 RefusesNumbers Number most_items most fields =
-    HasShape most_items fields × ((numbers : List ℕ) → All (λ number. number ≤ most) numbers → fields ≢ map decimal numbers)
+    AreFewFilled most_items fields × ((numbers : List ℕ) → All (λ number. number ≤ most) numbers → fields ≢ map decimal numbers)

@@ -8,6 +8,6 @@ abbrev pub decimal_value : List ℕ → ℕ
 decimal_value field = digits_value 10 field
 
 -- the field spells a number up to most
-pub record IsNumber (most : ℕ) (field : List ℕ) : Type 0 where
+pub record IsNumberUpTo (most : ℕ) (field : List ℕ) : Type 0 where
   pub spelling : field ≡ decimal (decimal_value field)
   pub within : decimal_value field ≤ most

@@ -1,2 +1,1 @@
 -- Laws of frames as texts, which crates above use as well.
-pub mod WaveLength

@@ -10,7 +10,8 @@ use text_fields::{push_named_number, push_next_bits, push_next_number};
 /// Writes a frame at the end of the text: `sync TARI RTCAL BITS` or `preamble TARI RTCAL TRCAL BITS`,
 /// the durations in nanoseconds. After an error the text may hold a part of it.
 pub fn push_frame(text: &mut String, kind: &FrameKind, bits: &Bits) -> Result<(), OutOfMemory>
-    ensures { OnOk result (string_bytes text.new ≡ string_bytes text.old ++ frame_line kind.now bits.now.items) }
+    ensures { OnOk result (string_bytes text.new ≡ string_bytes text.old
+        ++ frame_line kind.now bits.now.items) }
 {
     match kind {
         FrameKind::FrameSync { tari, rtcal } => {
@@ -30,7 +31,8 @@ pub fn push_frame(text: &mut String, kind: &FrameKind, bits: &Bits) -> Result<()
 /// is wrong, for a symbol with the place of the wrong interval, or `unfinished` with the number of
 /// intervals. After an error the text may hold a part of it.
 pub fn push_pie_refusal(text: &mut String, refusal: PieRefusal) -> Result<(), OutOfMemory>
-    ensures { OnOk result (string_bytes text.new ≡ string_bytes text.old ++ pie_refusal_line refusal) }
+    ensures { OnOk result (string_bytes text.new ≡ string_bytes text.old
+        ++ pie_refusal_line refusal) }
 {
     match refusal {
         PieRefusal::Delimiter => text.push_str("refused delimiter"),

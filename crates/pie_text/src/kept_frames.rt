@@ -42,7 +42,9 @@ impl<const COUNT: usize, const STORED: usize> KeptFrames<COUNT, STORED> {
         requires few { COUNT ≤ 100 }
         requires room { 11 * COUNT ≤ STORED }
         requires small { STORED ≤ 1000 }
-        ensures { OnOk result (string_bytes text.new ≡ string_bytes text.old ++ fields_behind (map decimal frame.now)) }
+        ensures { OnOk result
+            (string_bytes text.new ≡ string_bytes text.old
+            ++ fields_behind (map decimal frame.now)) }
     {
         let kept = &mut self.frames[place_of(frame)];
         kept.keep(frame);

@@ -61,7 +61,9 @@ impl KeptIntervals {
 
     /// Writes intervals as the next fields, in decimal digits. After an error the text may hold a part of them.
     pub fn push_next(&mut self, text: &mut String, intervals: &[u32]) -> Result<(), OutOfMemory>
-        ensures { OnOk result (string_bytes text.new ≡ string_bytes text.old ++ fields_behind (map decimal intervals.now)) }
+        ensures { OnOk result
+            (string_bytes text.new ≡ string_bytes text.old
+            ++ fields_behind (map decimal intervals.now)) }
     {
         if let Ok(frame) = <&[u32; OF_QUERY_REP]>::try_from(intervals) {
             return self.query_reps.push_next(text, frame);
@@ -75,7 +77,9 @@ impl KeptIntervals {
     /// Writes intervals as the next fields, a lead and the bits behind it two by two.
     #[inline(never)]
     fn push_parts(&mut self, text: &mut String, intervals: &[u32]) -> Result<(), OutOfMemory>
-        ensures { OnOk result (string_bytes text.new ≡ string_bytes text.old ++ fields_behind (map decimal intervals.now)) }
+        ensures { OnOk result
+            (string_bytes text.new ≡ string_bytes text.old
+            ++ fields_behind (map decimal intervals.now)) }
     {
         let Some((lead, behind)) = intervals.split_first_chunk::<LEAD>() else {
             return push_next_numbers(text, intervals);
@@ -104,7 +108,9 @@ impl KeptIntervals {
     ) -> Result<(), OutOfMemory>
         requires few { filled ≤ ROOM }
         requires ascii { IsAscii (take filled self.old.room) }
-        ensures { OnOk result (string_bytes text.new ≡ string_bytes text.old ++ (take filled self.old.room ++ fields_behind (map decimal intervals.now))) }
+        ensures { OnOk result
+            (string_bytes text.new ≡ string_bytes text.old
+            ++ (take filled self.old.room ++ fields_behind (map decimal intervals.now))) }
     {
         let mut filled = filled;
         let mut rest = intervals;
@@ -122,7 +128,8 @@ impl KeptIntervals {
     fn put_pair(&mut self, pair: &[u32; TWO_BITS], short: u32, filled: usize) -> usize
         requires { filled + VECTOR ≤ ROOM }
         ensures end { result ≤ filled + VECTOR }
-        ensures text { take result self.new.room ≡ take filled self.old.room ++ fields_behind (map decimal pair.now) }
+        ensures text { take result self.new.room ≡ take filled self.old.room
+            ++ fields_behind (map decimal pair.now) }
         ensures ascii { IsAscii (take filled self.old.room) → IsAscii (take result self.new.room) }
     {
         let kept = &mut self.pairs[place_of(pair, short)];
@@ -143,7 +150,9 @@ fn make_place(text: &mut String, room: &[u8; ROOM], filled: usize) -> Result<usi
     requires few { filled ≤ ROOM }
     requires ascii { IsAscii (take filled room.now) }
     ensures place { IfOk result (λ left. left + VECTOR ≤ ROOM) }
-    ensures text { IfOk result (λ left. string_bytes text.new ++ take left room.now ≡ string_bytes text.old ++ take filled room.now) }
+    ensures text { IfOk result
+        (λ left. string_bytes text.new ++ take left room.now ≡ string_bytes text.old
+        ++ take filled room.now) }
     ensures ascii { IfOk result (λ left. IsAscii (take left room.now)) }
 {
     if filled + VECTOR <= ROOM {

@@ -115,7 +115,8 @@ impl<const COUNT: usize> KeptText<COUNT, VECTOR> {
     pub(crate) fn put(&self, room: &mut [u8], filled: usize) -> usize
         requires { filled + VECTOR ≤ length room.old }
         ensures end { result ≤ filled + VECTOR }
-        ensures text { take result room.new ≡ take filled room.old ++ fields_behind (map decimal self.now.intervals) }
+        ensures text { take result room.new ≡ take filled room.old
+            ++ fields_behind (map decimal self.now.intervals) }
         ensures length { length room.new ≡ length room.old }
     {
         u8x64::from_array(self.text).copy_to_slice(&mut room[filled..]);

@@ -6,5 +6,6 @@ ghost use Rattle.pie_text.specs.Numbers.{RefusesNumbers, SpellsNumbers};
 /// Fields spell numbers up to a greatest one, or are refused.
 pub fn numbers_or_refused()
     ensures { (most_items most : ℕ) (fields : List (List ℕ)) → most < 2 ^ 32 →
-        ((numbers : List ℕ) × SpellsNumbers most_items most fields numbers) ⊎ ((reason : NotNumbers) × RefusesNumbers reason most_items most fields) }
+        ((numbers : List ℕ) × SpellsNumbers most_items most fields numbers)
+        ⊎ ((reason : NotNumbers) × RefusesNumbers reason most_items most fields) }
 {}

@@ -3,7 +3,7 @@ ghost use Rattle.std.specs.Prelude.{◌≡◌, ◌<◌, ◌≤◌, ◌↔◌, �
 ghost use Rattle.std.specs.Option.{option_map_or};
 ghost use Rattle.text_fields.specs.Lines.{Lacks, fields_of, space};
 ghost use Rattle.pie_text.specs.FieldEnd.{IsFieldEnd};
-ghost use Rattle.pie_text.specs.Spelling.{IsNumber, decimal_value};
+ghost use Rattle.pie_text.specs.Spelling.{IsNumberUpTo, decimal_value};
 
 /// The byte that separates two fields.
 const SPACE: u8 = b' ';
@@ -12,7 +12,8 @@ const SPACE: u8 = b' ';
 fn has_number_form(digits: &[u8]) -> bool
     ensures some { IsTrue result → 0 < length digits.now }
     ensures zeros { IsTrue result → slice_index digits.now 0 ≡ 48 → length digits.now ≡ 1 }
-    ensures only { 0 < length digits.now → (slice_index digits.now 0 ≡ 48 → length digits.now ≡ 1) → IsTrue result }
+    ensures only { 0 < length digits.now → (slice_index digits.now 0 ≡ 48 → length digits.now ≡ 1)
+        → IsTrue result }
 {
     match digits {
         [] => false,
@@ -33,8 +34,11 @@ fn is_field_end(text: &[u8], end: usize) -> bool
 /// none exactly where it spells no such number.
 pub(crate) fn leading_number(text: &[u8], most: u32) -> Option<(u32, usize)>
     ensures end { IfSome result (λ it. IsFieldEnd text.now it.1) }
-    ensures number { IfSome result (λ it. IsNumber most (take it.1 text.now) × (it.0 ≡ decimal_value (take it.1 text.now))) }
-    ensures none { IfNone result ((end : ℕ) → IsFieldEnd text.now end → ¬ IsNumber most (take end text.now)) }
+    ensures number { IfSome result
+        (λ it. IsNumberUpTo most (take it.1 text.now)
+        × (it.0 ≡ decimal_value (take it.1 text.now))) }
+    ensures none { IfNone result
+        ((end : ℕ) → IsFieldEnd text.now end → ¬ IsNumberUpTo most (take end text.now)) }
 {
     let mut number = 0;
     let mut end = 0;
@@ -55,7 +59,8 @@ pub(crate) fn leading_number(text: &[u8], most: u32) -> Option<(u32, usize)>
 pub(crate) fn behind_field(text: &[u8], end: usize) -> Option<&[u8]>
     requires { IsFieldEnd text.now end }
     ensures fields { Lacks space (take end text.now)
-        → fields_of text.now ≡ take end text.now ∷ option_map_or (λ rest. fields_of rest.now) result [] }
+        → fields_of text.now ≡ take end text.now ∷ option_map_or
+        (λ rest. fields_of rest.now) result [] }
     ensures shorter { IfSome result (λ rest. length rest.now < length text.now) }
 {
     if end < text.len() {

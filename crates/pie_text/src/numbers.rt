@@ -1,8 +1,8 @@
 //! A list of numbers that the fields of a line spell.
 ghost use Rattle.std.specs.Prelude.{◌≡◌, ◌≢◌, ◌≤◌, ◌↔◌, ℕ, List, [], length, map, All, IfErr, IsOk, IsTrue, OnErr};
 ghost use Rattle.text_fields.specs.Lines.{fields_of};
-ghost use Rattle.pie_text.specs.Numbers.{HasShape, RefusesNumbers, SpellsNumbers};
-ghost use Rattle.pie_text.specs.Spelling.{IsNumber, decimal_value};
+ghost use Rattle.pie_text.specs.Numbers.{AreFewFilled, RefusesNumbers, SpellsNumbers};
+ghost use Rattle.pie_text.specs.Spelling.{IsNumberUpTo, decimal_value};
 
 use crate::leading::{behind_field, leading_number};
 use pie_line::Intervals;
@@ -74,7 +74,7 @@ fn are_filled(line: &[u8]) -> bool
 
 /// Whether a line has from 1 to `most_items` fields, and none is empty.
 fn has_shape(line: &[u8], most_items: u32) -> bool
-    ensures { IsTrue result ↔ HasShape most_items (fields_of line.now) }
+    ensures { IsTrue result ↔ AreFewFilled most_items (fields_of line.now) }
 {
     let count = field_count(line);
     1 <= count && count <= most_items as usize && are_filled(line)
@@ -82,8 +82,8 @@ fn has_shape(line: &[u8], most_items: u32) -> bool
 
 /// Why fields of a line that are no numbers are no list of numbers, where at most `most_items` numbers may stand there.
 fn reason_of(line: &[u8], most_items: u32) -> NotNumbers
-    ensures shape { result ≡ NotNumbers.Shape → ¬ HasShape most_items (fields_of line.now) }
-    ensures number { result ≡ NotNumbers.Number → HasShape most_items (fields_of line.now) }
+    ensures shape { result ≡ NotNumbers.Shape → ¬ AreFewFilled most_items (fields_of line.now) }
+    ensures number { result ≡ NotNumbers.Number → AreFewFilled most_items (fields_of line.now) }
 {
     if has_shape(line, most_items) {
         NotNumbers::Number
@@ -103,9 +103,12 @@ fn push_numbers(
 ) -> Result<(), NotNumbers>
     requires empty { out.old.items ≡ [] }
     requires room { most_items ≤ out.old.capacity }
-    ensures all { IsOk result ↔ ((length (fields_of line.now) ≤ most_items) × All (IsNumber most) (fields_of line.now)) }
+    ensures all { IsOk result
+        ↔ ((length (fields_of line.now) ≤ most_items)
+        × All (IsNumberUpTo most) (fields_of line.now)) }
     ensures values { IsOk result → out.new.items ≡ map decimal_value (fields_of line.now) }
-    ensures refused { IfErr result (λ reason. RefusesNumbers reason most_items most (fields_of line.now)) }
+    ensures refused { IfErr result
+        (λ reason. RefusesNumbers reason most_items most (fields_of line.now)) }
     ensures capacity { out.new.capacity ≡ out.old.capacity }
 {
     let mut rest = Some(line);
@@ -136,7 +139,8 @@ pub fn read_numbers(
     requires { most_items ≤ out.old.capacity }
     ensures ok { IsOk result → SpellsNumbers most_items most fields.entry out.new.items }
     ensures refused { IfErr result (λ reason. RefusesNumbers reason most_items most fields.entry) }
-    ensures only { (numbers : List ℕ) → SpellsNumbers most_items most fields.entry numbers → IsOk result × (out.new.items ≡ numbers) }
+    ensures only { (numbers : List ℕ) → SpellsNumbers most_items most fields.entry numbers
+        → IsOk result × (out.new.items ≡ numbers) }
     ensures err { OnErr result (out.new.items ≡ []) }
     ensures capacity { out.new.capacity ≡ out.old.capacity }
 {
@@ -159,7 +163,8 @@ fn fill_with_numbers(
     requires { most_items ≤ out.old.capacity }
     ensures ok { IsOk result → SpellsNumbers most_items most fields.entry out.new.items }
     ensures refused { IfErr result (λ reason. RefusesNumbers reason most_items most fields.entry) }
-    ensures only { (numbers : List ℕ) → SpellsNumbers most_items most fields.entry numbers → IsOk result × (out.new.items ≡ numbers) }
+    ensures only { (numbers : List ℕ) → SpellsNumbers most_items most fields.entry numbers
+        → IsOk result × (out.new.items ≡ numbers) }
     ensures capacity { out.new.capacity ≡ out.old.capacity }
 {
     out.clear();

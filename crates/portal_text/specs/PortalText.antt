@@ -6,9 +6,9 @@ use Rattle.text_fields.specs.Lines.{line_feed, line_with}
 use Rattle.two_portals.specs.declared.portal_line.PortalLine.{PortalLine}
 
 -- whether the round ended quiet jointly and alone
-abbrev pub end_word : Bool → List ℕ
-end_word true = codes "quiet"
-end_word false = codes "limit"
+abbrev pub quiet_word : Bool → List ℕ
+quiet_word true = codes "quiet"
+quiet_word false = codes "limit"
 
 -- whether the same was listed
 abbrev pub mark_word : Bool → List ℕ
@@ -18,7 +18,7 @@ mark_word false = codes "other"
 -- the line of a round, with its line feed
 abbrev pub portal_line_text : PortalLine → List ℕ
 portal_line_text line =
-    line_with (codes "portal" ∷ decimal line.session ∷ decimal line.number ∷ decimal line.joint ∷ decimal line.alone ∷ end_word line.quiet ∷ mark_word line.same ∷ [])
+    line_with (codes "portal" ∷ decimal line.session ∷ decimal line.number ∷ decimal line.joint ∷ decimal line.alone ∷ quiet_word line.quiet ∷ mark_word line.same ∷ [])
     ++ line_feed ∷ []
 
 -- the lines, and the last one

@@ -47,7 +47,8 @@ fn head_length(version: Version) -> u32
 /// The number of the first line of steps, before which so many lines stand, for which they are none of two portals.
 fn step_fault(steps: &[Step], before: u32) -> Option<u32>
     requires { before + length steps.now + 1 < 2 ^ 32 }
-    ensures { (version : ScenarioVersion) → result ≡ first_refused (before + 1) 2 (lines_of_steps version steps.now) }
+    ensures { (version : ScenarioVersion)
+        → result ≡ first_refused (before + 1) 2 (lines_of_steps version steps.now) }
 {
     let mut number = before;
     let mut next = 2;
@@ -76,5 +77,6 @@ fn other_portal(session: u8) -> u8
 
 /// A scenario that has no such line is one of two portals.
 pub fn portal_scenarios()
-    ensures { (scenario : ScenarioValue) → IsScenario scenario → portal_fault scenario ≡ None → IsOfPortals scenario }
+    ensures { (scenario : ScenarioValue) → IsScenario scenario → portal_fault scenario ≡ None
+        → IsOfPortals scenario }
 {}

@@ -3,7 +3,7 @@ ghost use Rattle.std.specs.Prelude.{◌≡◌, [], ◌∷◌, ◌++◌, IfOk, On
 ghost use Rattle.std.specs.Fmt.{decimal};
 ghost use Rattle.std.specs.String.{string_bytes};
 ghost use Rattle.text_fields.specs.Lines.{line_with, space};
-ghost use Rattle.portal_text.specs.PortalText.{end_word, mark_word, portal_line_text, portals_text};
+ghost use Rattle.portal_text.specs.PortalText.{quiet_word, mark_word, portal_line_text, portals_text};
 
 use bit_strings::OutOfMemory;
 use std::alloc::Global;
@@ -28,7 +28,8 @@ pub fn portals_text(alloc: Global, lines: &[PortalLine]) -> Result<String, OutOf
 
 /// Writes the line of a round.
 fn push_line(text: &mut String, line: &PortalLine) -> Result<(), OutOfMemory>
-    ensures { OnOk result (string_bytes text.new ≡ string_bytes text.old ++ portal_line_text line.now) }
+    ensures { OnOk result (string_bytes text.new ≡ string_bytes text.old
+        ++ portal_line_text line.now) }
 {
     text.push_str("portal")?;
     push_next_counts(text, line)?;
@@ -40,7 +41,9 @@ fn push_line(text: &mut String, line: &PortalLine) -> Result<(), OutOfMemory>
 /// Writes the session of a round, its number, and how many EPCs were listed jointly and alone, as the next fields.
 fn push_next_counts(text: &mut String, line: &PortalLine) -> Result<(), OutOfMemory>
     ensures { OnOk result (string_bytes text.new ≡ string_bytes text.old
-        ++ space ∷ line_with (decimal line.now.session ∷ decimal line.now.number ∷ decimal line.now.joint ∷ decimal line.now.alone ∷ [])) }
+        ++ space ∷ line_with
+        (decimal line.now.session ∷ decimal line.now.number ∷ decimal line.now.joint ∷ decimal
+        line.now.alone ∷ [])) }
 {
     push_next_number(text, u32::from(line.session.get()))?;
     push_next_number(text, line.number)?;
@@ -50,7 +53,7 @@ fn push_next_counts(text: &mut String, line: &PortalLine) -> Result<(), OutOfMem
 
 /// Whether the round ended after a whole frame of silent slots, jointly and alone.
 fn end_name(quiet: bool) -> &'static str
-    ensures { result.now ≡ end_word quiet }
+    ensures { result.now ≡ quiet_word quiet }
 {
     if quiet { "quiet" } else { "limit" }
 }

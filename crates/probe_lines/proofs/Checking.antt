@@ -11,7 +11,7 @@ use Rattle.scenario_lines.specs.declared.tag.TagSpec.{TagSpec}
 use Rattle.probe_lines.specs.Said as lines
 use Rattle.probe_lines.specs.Said.{Stimulus}
 use Rattle.probe_lines.specs.LineFaults.{IsFaultyProbeLine}
-use Rattle.probe_lines.specs.laws.LineLaws.{LineLaws}
+use Rattle.probe_lines.specs.laws.LineLaws.{ProbeLineLaws}
 use Rattle.probe_lines.specs.ProbeLine.{SpellsProbeLine, SpellsTag, version_line}
 use Rattle.probe_lines.specs.ProbeText.{AreStimuli, EndProbe, IsFaultyBehind, IsFirstFaultBehind, SayStimuli, begun, ended, most_stimuli, probe_rules, start, within}
 
@@ -117,7 +117,7 @@ pub record FirstStimulus (left : List (List ℕ)) : Type 0 where
   pub spells : SpellsProbeLine (fields_of line) (lines.Does stimulus)
 
 -- What the first line that is left says is done to the tag is the first that is done to it.
-first_of : LineLaws → (line : List ℕ) (behind : List (List ℕ)) (stimulus : Stimulus) (said : List Stimulus)
+first_of : ProbeLineLaws → (line : List ℕ) (behind : List (List ℕ)) (stimulus : Stimulus) (said : List Stimulus)
     → SpellsProbeLine (fields_of line) (lines.Does stimulus) → SayStimuli (line ∷ behind) said
     → (rest : List Stimulus) × (said ≡ stimulus ∷ rest) × SayStimuli behind rest
 first_of laws line behind stimulus [] spells say =
@@ -127,25 +127,25 @@ first_of laws line behind stimulus (next ∷ rest) spells say =
     let same = laws.told (fields_of line) (lines.Does stimulus) (lines.Does next) spells say.0 in
     (rest, cc, say.1)
 
-pub first_left : LineLaws → (left : List (List ℕ)) (first : FirstStimulus left) (said : List Stimulus) → SayStimuli left said
+pub first_left : ProbeLineLaws → (left : List (List ℕ)) (first : FirstStimulus left) (said : List Stimulus) → SayStimuli left said
     → (rest : List Stimulus) × (said ≡ first.stimulus ∷ rest) × SayStimuli first.behind rest
 first_left laws left first said say =
     first_of laws first.line first.behind first.stimulus said first.spells (subst (λ (list : List (List ℕ)). SayStimuli list said) first.cut say)
 
 -- ... and what is left behind it is no more
-pub left_behind : LineLaws → (left : List (List ℕ)) (first : FirstStimulus left) (said : List Stimulus) → AreStimuli left said
+pub left_behind : ProbeLineLaws → (left : List (List ℕ)) (first : FirstStimulus left) (said : List Stimulus) → AreStimuli left said
     → (rest : List Stimulus) × AreStimuli first.behind rest
 left_behind laws left first said are =
     let rest = first_left laws left first said are.say in
     (rest.0, record { say = rest.2; few = omega (arith, are.few, ap length rest.1) })
 
 -- none of the lines that are left is faulty
-says_something : LineLaws → (line : List ℕ) (behind : List (List ℕ)) (said : List Stimulus) (fault : FieldsFault) → SayStimuli (line ∷ behind) said
+says_something : ProbeLineLaws → (line : List ℕ) (behind : List (List ℕ)) (said : List Stimulus) (fault : FieldsFault) → SayStimuli (line ∷ behind) said
     → IsFaultyProbeLine (fields_of line) fault → ⊥
 says_something laws line behind [] fault say faulty = laws.not_faulty (fields_of line) lines.End fault say.0 faulty
 says_something laws line behind (stimulus ∷ rest) fault say faulty = laws.not_faulty (fields_of line) (lines.Does stimulus) fault say.0 faulty
 
-pub none_faulty : LineLaws → (left : List (List ℕ)) (line : List ℕ) (behind : List (List ℕ)) (said : List Stimulus) (fault : FieldsFault) → AreStimuli left said
+pub none_faulty : ProbeLineLaws → (left : List (List ℕ)) (line : List ℕ) (behind : List (List ℕ)) (said : List Stimulus) (fault : FieldsFault) → AreStimuli left said
     → left ≡ line ∷ behind → IsFaultyProbeLine (fields_of line) fault → ⊥
 none_faulty laws left line behind said fault are cut faulty =
     says_something laws line behind said fault (subst (λ (list : List (List ℕ)). SayStimuli list said) cut are.say) faulty

@@ -7,7 +7,7 @@ use Rattle.command_grammar.specs.declared.commands.Command.{Command}
 use Rattle.tag_machine.specs.TagValue.{TagValue}
 use Rattle.probe_lines.specs.Said.{Stimulus, StimulusEffect, Hears, Befalls, Nothing}
 use Rattle.probe_lines.specs.Said as stimuli
-use Rattle.probe_lines.specs.Answers.{HasEffect, Tells, first_number, text_from}
+use Rattle.probe_lines.specs.Answers.{HasEffect, TellsEffects, first_number, probe_text_from}
 
 -- what the laws of spellings say
 pub record Known : Type 0 where
@@ -57,6 +57,6 @@ one_effects known (stimulus ∷ said) (e ∷ es) (f ∷ fs) has has' =
     cc
 
 pub one_text : ((said : List Stimulus) (one other : List StimulusEffect) → AllZip HasEffect said one → AllZip HasEffect said other → one ≡ other)
-    → (tag : TagValue) (said : List Stimulus) (one other : List ℕ) → Tells tag said one → Tells tag said other → one ≡ other
+    → (tag : TagValue) (said : List Stimulus) (one other : List ℕ) → TellsEffects tag said one → TellsEffects tag said other → one ≡ other
 one_text once tag said one other tells tells' =
-    tells.told ∙ ap (λ (effects : List StimulusEffect). text_from first_number tag effects) (once said tells.effects tells'.effects tells.each tells'.each) ∙ sym tells'.told
+    tells.told ∙ ap (λ (effects : List StimulusEffect). probe_text_from first_number tag effects) (once said tells.effects tells'.effects tells.each tells'.each) ∙ sym tells'.told

@@ -3,15 +3,15 @@ use Rattle.std.proofs.Common.{◌≡◌, ℕ, List, [], ap, get_or, arith, refl,
 use Rattle.air_events.specs.declared.Event.{Event}
 use Rattle.air_events.specs.declared.Event.TheVariants as events
 use Rattle.command_text.specs.CommandText.{flag_word}
-use Rattle.command_text.specs.laws.FieldTexts.{flag_is}
-use Rattle.command_text.specs.laws.ToldApart.{flag_told}
+use Rattle.command_text.proofs.FieldTexts.{flag_is}
+use Rattle.command_text.proofs.ToldApart.{flag_told}
 use Rattle.scenario_lines.specs.declared.first_fields.EventKind.{EventKind}
 use Rattle.scenario_lines.specs.declared.first_fields.EventKind.TheVariants as kinds
 use Rattle.scenario_lines.specs.Names.{event_kind, event_word}
 use Rattle.text_fields.specs.NamedFields.{AreFilled, AreSpelling}
-use Rattle.text_fields.specs.laws.FilledFields.{none_filled, one_more}
-use Rattle.text_fields.specs.laws.NamedFieldLaws.{IsVocabulary, same_behind}
-use Rattle.probe_lines.specs.ProbeLine.{IsProbeEvent, event_field_count, other_event_fields, probe_events}
+use Rattle.text_fields.proofs.FilledFields.{none_filled, one_more}
+use Rattle.text_fields.proofs.NamedFieldLaws.{IsVocabulary, same_behind}
+use Rattle.probe_lines.specs.ProbeLine.{IsProbeEvent, probe_event_fields, other_event_fields, probe_events}
 
 kind_told : (one other : EventKind) → event_word one ≡ event_word other → one ≡ other
 kind_told kinds.Timeout kinds.Timeout same = refl
@@ -23,7 +23,7 @@ kind_told one other same =
     let second = ap (λ (text : List ℕ). get_or text 1 0) same in
     absurd (omega arith)
 
-filled : (event : Event) → AreFilled (event_field_count (event_kind event)) (other_event_fields event)
+filled : (event : Event) → AreFilled (probe_event_fields (event_kind event)) (other_event_fields event)
 filled events.Timeout = none_filled
 filled events.Off = none_filled
 filled events.On = none_filled

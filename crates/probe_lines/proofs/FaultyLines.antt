@@ -5,8 +5,8 @@ use Rattle.text_fields.specs.declared.fields_fault.FieldsFault.{FieldsFault}
 use Rattle.probe_lines.specs.declared.line.LineWord.{LineWord}
 use Rattle.probe_lines.specs.declared.line.LineWord.TheVariants as words
 use Rattle.text_fields.specs.declared.fields_fault.FieldsFault.TheVariants as reasons
-use Rattle.probe_lines.specs.LineFaults.{AreFaultyBehind, BeginsWith, IsFaultyProbeLine}
-use Rattle.probe_lines.specs.laws.LineLaws.{LineLaws}
+use Rattle.probe_lines.specs.LineFaults.{AreFaultyBehind, BeginsWithWord, IsFaultyProbeLine}
+use Rattle.probe_lines.specs.laws.LineLaws.{ProbeLineLaws}
 use Rattle.probe_lines.specs.ProbeText.{IsTooMuch, most_stimuli}
 use Rattle.probe_lines.specs.Said as lines
 use Rattle.probe_lines.specs.Said.{Stimulus}
@@ -25,16 +25,16 @@ faulty_behind result cause fields others word is first faulty =
     kept result cause (IsFaultyProbeLine fields) is (inl (record { word = word; begins = record { others = others; first = first }; behind = faulty }))
 
 -- another word
-pub begins_with_bits : (fields others : List (List ℕ)) → fields ≡ line_word words.Bits ∷ others → ¬ BeginsWith fields words.End
+pub begins_with_bits : (fields others : List (List ℕ)) → fields ≡ line_word words.Bits ∷ others → ¬ BeginsWithWord fields words.End
 begins_with_bits fields others first begins = word_or_word fields others begins.others words.Bits words.End (λ same. cc) first begins.first
 
-pub begins_with_event : (fields others : List (List ℕ)) → fields ≡ line_word words.Event ∷ others → ¬ BeginsWith fields words.End
+pub begins_with_event : (fields others : List (List ℕ)) → fields ≡ line_word words.Event ∷ others → ¬ BeginsWithWord fields words.End
 begins_with_event fields others first begins = word_or_word fields others begins.others words.Event words.End (λ same. cc) first begins.first
 
 pub ruleset no_ends = (begins_with_bits, begins_with_event)
 
 -- what is said is known, and has no room
-pub one_too_many : LineLaws → (count : ℕ) (fields : List (List ℕ)) (stimulus : Stimulus) → SpellsProbeLine fields (lines.Does stimulus) → most_stimuli ≤ count
+pub one_too_many : ProbeLineLaws → (count : ℕ) (fields : List (List ℕ)) (stimulus : Stimulus) → SpellsProbeLine fields (lines.Does stimulus) → most_stimuli ≤ count
     → (¬ IsFaultyProbeLine fields reasons.Word) × IsTooMuch count fields
 one_too_many laws count fields stimulus spells full =
     (laws.not_faulty fields (lines.Does stimulus) reasons.Word spells, record { full = full; needs = stimulus_is_no_end fields stimulus spells })

@@ -15,10 +15,10 @@ use Rattle.tag_machine.specs.declared.any_tag.Answered.TheVariants.{Silent, Plai
 use Rattle.tag_machine.specs.Answers.{Outcome, Sent, bits_sent}
 use Rattle.tag_machine.specs.declared.any_tag.Heard.{Heard}
 use Rattle.tag_machine.specs.Hearing.{GivesOutcome}
-use Rattle.probe_lines.specs.Answers.{answer_line, preamble_word}
-use Rattle.probe_lines.specs.Heard.{IsAnswered}
+use Rattle.probe_lines.specs.Answers.{probe_answer_line, preamble_word}
+use Rattle.probe_lines.specs.Heard.{IsHeardAnswer}
 
-pub reply_heard : (answer : Option Sent) (answered : Answered) (expect : Option Expect) (bits : List Bool) → IsAnswered answer answered expect bits → answered ≢ Silent
+pub reply_heard : (answer : Option Sent) (answered : Answered) (expect : Option Expect) (bits : List Bool) → IsHeardAnswer answer answered expect bits → answered ≢ Silent
     → (reply : Reply) × IsSomeAnd expect (λ it. AnswersExpected reply it bits)
 reply_heard None answered expect bits is heard = absurd (heard is.mark)
 reply_heard (Some sent) answered expect bits is heard = (sent.reply, is.bits_are)
@@ -39,9 +39,9 @@ no_mark true same = cc
 no_mark false same = cc
 
 -- the line of an answer that was sent
-pub answer_told : (answer : Option Sent) (extended : Bool) (expect : Option Expect) (bits : List Bool) (number : ℕ) (reply : Reply) → IsAnswered answer (marked extended) expect bits
+pub answer_told : (answer : Option Sent) (extended : Bool) (expect : Option Expect) (bits : List Bool) (number : ℕ) (reply : Reply) → IsHeardAnswer answer (marked extended) expect bits
     → ((other : Reply) → IsSomeAnd expect (λ it. AnswersExpected other it bits) → reply ≡ other)
-    → line_with (codes "answer" ∷ decimal number ∷ preamble_word extended ∷ reply_line reply ∷ []) ≡ answer_line number answer
+    → line_with (codes "answer" ∷ decimal number ∷ preamble_word extended ∷ reply_line reply ∷ []) ≡ probe_answer_line number answer
 answer_told None extended expect bits number reply is only = absurd (no_mark extended is.mark)
 answer_told (Some sent) extended expect bits number reply is only =
     ap (λ (r : Reply). line_with (codes "answer" ∷ decimal number ∷ preamble_word extended ∷ reply_line r ∷ [])) (only sent.reply is.bits_are)
@@ -62,7 +62,7 @@ answer_expected (Some sent) expect bits is expected = some_expected expect sent 
 -- what a tag made of a command is an answer that is known by what is expected
 pub answer_heard : (outcome : Outcome) (heard : Heard) (old new : BitString) (expect expected : Option Expect) → GivesOutcome outcome heard old new → expect ≡ expected
     → ((sent : Sent) → outcome.answer ≡ Some sent → IsSomeAnd expected (λ it. Carries it sent.handle × AnswersExpected sent.reply it (bits_sent (Some sent))))
-    → IsAnswered outcome.answer heard.answered expect new.items
+    → IsHeardAnswer outcome.answer heard.answered expect new.items
 answer_heard outcome heard old new expect expected gives same are = record {
   mark = gives.answered;
   bits_are = answer_expected outcome.answer expect new.items (ap (λ (b : BitString). b.items) gives.bits)

@@ -2,12 +2,12 @@
 use Rattle.std.proofs.Common.{◌≡◌, ◌≢◌, ℕ, Bool, List, [], ◌∷◌, ap, get_or, arith, refl, sym, ◌∙◌, inl, inr, subst}
 use Rattle.std.specs.Prelude.{codes}
 use Rattle.text_fields.specs.Binary.{binary}
-use Rattle.text_fields.specs.laws.FieldTextLaws.{IsFieldText-binary}
+use Rattle.text_fields.proofs.FieldTextLaws.{IsFieldText-binary}
 use Rattle.text_fields.specs.NamedFields.{AreFilled, spelled_fields}
 use Rattle.text_fields.specs.declared.fields_fault.FieldsFault.{FieldsFault}
 use Rattle.text_fields.specs.declared.fields_fault.FieldsFault.TheVariants as reasons
-use Rattle.text_fields.specs.laws.FilledFields.{none_filled, one_more}
-use Rattle.text_fields.specs.laws.NamedFieldLaws.{one_fault as one_named_fault, same_behind, spelling_is_not_faulty}
+use Rattle.text_fields.proofs.FilledFields.{none_filled, one_more}
+use Rattle.text_fields.proofs.NamedFieldLaws.{one_fault as one_named_fault, same_behind, spelling_is_not_faulty}
 use Rattle.command_grammar.specs.declared.commands.Command.{Command}
 use Rattle.command_grammar.specs.declared.kinds.CommandKind.{CommandKind}
 use Rattle.command_grammar.specs.declared.kinds.CommandKind.TheVariants as kinds
@@ -16,8 +16,8 @@ use Rattle.probe_lines.specs.declared.line.LineWord.{LineWord}
 use Rattle.probe_lines.specs.declared.line.LineWord.TheVariants as words
 use Rattle.probe_lines.specs.Said as lines
 use Rattle.probe_lines.specs.Said.{Stimulus, ProbeLine}
-use Rattle.probe_lines.specs.LineFaults.{AreFaultyBehind, BeginsWith, IsFaultyProbeLine, MisspellsCommand, MisspellsWord}
-use Rattle.probe_lines.specs.laws.LineLaws.{LineLaws}
+use Rattle.probe_lines.specs.LineFaults.{AreFaultyBehind, BeginsWithWord, IsFaultyProbeLine, MisspellsCommand, MisspellsWord}
+use Rattle.probe_lines.specs.laws.LineLaws.{ProbeLineLaws}
 use Rattle.probe_lines.specs.ProbeLine.{IsProbeEvent, SpellsProbeLine, line_word, probe_events, probe_line_fields}
 use Rattle.probe_lines.proofs.EventTexts.{event_told, events_are}
 
@@ -172,7 +172,7 @@ line_not_faulty known fields line fault spells (inl misspells) =
 line_not_faulty known fields line fault spells (inr misspells) = command_not_faulty known fields line fault spells misspells
 
 -- what is done to the tag doesn't begin with `end`
-pub stimulus_is_no_end : (fields : List (List ℕ)) (stimulus : Stimulus) → SpellsProbeLine fields (lines.Does stimulus) → ¬ BeginsWith fields words.End
+pub stimulus_is_no_end : (fields : List (List ℕ)) (stimulus : Stimulus) → SpellsProbeLine fields (lines.Does stimulus) → ¬ BeginsWithWord fields words.End
 stimulus_is_no_end fields (lines.SendsCommand c) spells begins =
     command_or_word fields (other_command_fields c) begins.others (command_kind c) words.End spells.spelling begins.first
 stimulus_is_no_end fields (lines.SendsBits b) spells begins = word_or_word fields _ begins.others words.Bits words.End (λ same. cc) spells.spelling begins.first
@@ -214,5 +214,5 @@ one_line_fault known fields one other (inl first) (inr second) = absurd (second.
 one_line_fault known fields one other (inr first) (inl second) = absurd (first.other second.word second.begins)
 one_line_fault known fields one other (inr first) (inr second) = known.one_fault fields one other first.faulty second.faulty
 
-pub lines_lawful : Known → LineLaws
+pub lines_lawful : Known → ProbeLineLaws
 lines_lawful known = record { told = line_told known; not_faulty = line_not_faulty known; one_fault = one_line_fault known }

@@ -12,8 +12,8 @@ use Rattle.tag_machine.specs.Hearing.{tag_value_of}
 use Rattle.tag_machine.specs.TagValue.{TagValue}
 use Rattle.text_fields.specs.Lines.{text_with}
 use Rattle.probe_lines.specs.Said.{Stimulus, StimulusEffect}
-use Rattle.probe_lines.specs.Answers.{HasEffect, Tells, first_number, last_text, lines_behind, outcome_of, text_from}
-use Rattle.probe_lines.specs.Played.{AddsFrontOf, HasPlayed, Sends, StopsIn, TellsNext, WritesPart}
+use Rattle.probe_lines.specs.Answers.{HasEffect, TellsEffects, first_number, last_text, probe_lines_behind, outcome_of_effect, probe_text_from}
+use Rattle.probe_lines.specs.Played.{AddsFrontOf, HasPlayed, WritesFrontOf, StopsIn, TellsNext, WritesPart}
 use Rattle.probe_lines.specs.ProbeText.{SayStimuli}
 
 -- whatever is done to a tag has an effect
@@ -24,7 +24,7 @@ HaveEffects = (said : List Stimulus) → (effects : List StimulusEffect) × AllZ
 pub record GoesBy (first : TagValue) (said : List Stimulus) (text : List ℕ) (number : ℕ) (tag : TagValue) (effects : List StimulusEffect) : Type 0 where
   pub all : List StimulusEffect
   pub each : AllZip HasEffect said all
-  pub told : text_from first_number first all ≡ text ++ text_from number tag effects
+  pub told : probe_text_from first_number first all ≡ text ++ probe_text_from number tag effects
 
 -- what a probe is played over: the tag at first, what is done to it, and what the sink was given before and how many faults it had met
 pub record Beginning : Type 0 where
@@ -59,7 +59,7 @@ none_played begun behind waiting say none = record {
   say = say;
   count = refl;
   goes = λ effects each.
-      record { all = effects; each = each; told = ap (λ (w : List ℕ). w ++ text_from first_number begun.first effects) (sym none) };
+      record { all = effects; each = each; told = ap (λ (w : List ℕ). w ++ probe_text_from first_number begun.first effects) (sym none) };
 }
 
 -- what is done next is the first of what is left
@@ -81,7 +81,7 @@ pub one_played : (begun : Beginning) (from : Place) (tag : TagValue) (waiting : 
     → TellsNext from.number from.tag next.stimulus tag from.waiting waiting
     → PlayedTo begun (record { number = from.number + 1; tag = tag; left = next.behind; waiting = waiting; written = from.written })
 one_played begun from tag waiting so_far next told =
-    let piece : List ℕ = text_with (lines_behind from.number told.effect from.tag) in
+    let piece : List ℕ = text_with (probe_lines_behind from.number told.effect from.tag) in
     record {
       sent = so_far.sent;
       added = so_far.added;
@@ -94,24 +94,24 @@ one_played begun from tag waiting so_far next told =
             all = by.all;
             each = by.each;
             told = by.told
-                ∙ ap (λ (t : TagValue). (so_far.sent ++ from.waiting) ++ (piece ++ text_from (from.number + 1) t effects)) (sym told.becomes)
-                ∙ piece_behind so_far.sent from.waiting waiting piece (text_from (from.number + 1) tag effects) told.told;
+                ∙ ap (λ (t : TagValue). (so_far.sent ++ from.waiting) ++ (piece ++ probe_text_from (from.number + 1) t effects)) (sym told.becomes)
+                ∙ piece_behind so_far.sent from.waiting waiting piece (probe_text_from (from.number + 1) tag effects) told.told;
           };
     }
 
 -- what is done next was done, and what comes of it waits
 pub tells_next : {E : Type 0} (result : Result AnyTag E) (from : Place) (stimulus : Stimulus) (some : (effect : StimulusEffect) × HasEffect stimulus effect) (waiting : List ℕ)
-    → IfOk result (λ it. tag_value_of it ≡ (outcome_of some.0 from.tag).tag) → OnOk result (waiting ≡ from.waiting ++ text_with (lines_behind from.number some.0 from.tag))
+    → IfOk result (λ it. tag_value_of it ≡ (outcome_of_effect some.0 from.tag).tag) → OnOk result (waiting ≡ from.waiting ++ text_with (probe_lines_behind from.number some.0 from.tag))
     → IfOk result (λ it. TellsNext from.number from.tag stimulus (tag_value_of it) from.waiting waiting)
 tells_next (Ok it) from stimulus some waiting becomes told = record { effect = some.0; has = some.1; becomes = becomes; told = told }
 tells_next (Err cause) from stimulus some waiting becomes told = tt
 
 -- nothing of what waits is written, or all of it
-pub none_sent : (waiting : List ℕ) (written : Option (List ℕ)) → Sends waiting waiting written written
+pub none_sent : (waiting : List ℕ) (written : Option (List ℕ)) → WritesFrontOf waiting waiting written written
 none_sent waiting written = record { front = []; cut = refl; added = Adds-nothing written }
 
 pub all_sent : {E : Type 0} (result : Result (Unit {0}) E) (waiting waiting' : List ℕ) (written written' : Option (List ℕ)) → OnOk result (Adds written written' waiting)
-    → OnOk result (waiting' ≡ []) → OnOk result (Sends waiting waiting' written written')
+    → OnOk result (waiting' ≡ []) → OnOk result (WritesFrontOf waiting waiting' written written')
 all_sent (Ok done) waiting waiting' written written' added empty =
     record { front = waiting; cut = sym (ap (λ (w : List ℕ). waiting ++ w) empty ∙ append-nil waiting); added = added }
 all_sent (Err cause) waiting waiting' written written' added empty = tt
@@ -122,7 +122,7 @@ none_waits (Ok done) waiting empty = rw empty (omega arith)
 none_waits (Err cause) waiting empty = tt
 
 -- a front of what waits was written
-pub some_sent : (begun : Beginning) (from : Place) (waiting : List ℕ) (after : Option (List ℕ)) → PlayedTo begun from → Sends from.waiting waiting from.written after
+pub some_sent : (begun : Beginning) (from : Place) (waiting : List ℕ) (after : Option (List ℕ)) → PlayedTo begun from → WritesFrontOf from.waiting waiting from.written after
     → PlayedTo begun (record { number = from.number; tag = from.tag; left = from.left; waiting = waiting; written = after })
 some_sent begun from waiting after so_far sends = record {
   sent = so_far.sent ++ sends.front;
@@ -136,7 +136,7 @@ some_sent begun from waiting after so_far sends = record {
         all = by.all;
         each = by.each;
         told = by.told
-            ∙ ap (λ (t : List ℕ). t ++ text_from from.number from.tag effects)
+            ∙ ap (λ (t : List ℕ). t ++ probe_text_from from.number from.tag effects)
             (ap (λ (w : List ℕ). so_far.sent ++ w) sends.cut ∙ sym (append_assoc so_far.sent sends.front waiting));
       };
 }
@@ -145,7 +145,7 @@ some_sent begun from waiting after so_far sends = record {
 pub record IsTold (begun : Beginning) (to : Place) : Type 0 where
   pub sent : List ℕ
   pub added : Adds begun.written to.written sent
-  pub tells : Tells begun.first begun.said (sent ++ to.waiting)
+  pub tells : TellsEffects begun.first begun.said (sent ++ to.waiting)
 
 pub all_told : (begun : Beginning) (from : Place) (waiting : List ℕ) (so_far : PlayedTo begun from) → so_far.left ≡ [] → waiting ≡ from.waiting ++ last_text from.tag
     → IsTold begun (record from { waiting = waiting })
@@ -163,7 +163,7 @@ all_told begun from waiting so_far none is =
 
 -- a front of a text that is told was written
 part_of : (begun : Beginning) (written after : Option (List ℕ)) (sent waiting behind : List ℕ) → Adds begun.written written sent
-    → Tells begun.first begun.said ((sent ++ waiting) ++ behind) → AddsFrontOf waiting written after → WritesPart begun.first begun.said begun.written after
+    → TellsEffects begun.first begun.said ((sent ++ waiting) ++ behind) → AddsFrontOf waiting written after → WritesPart begun.first begun.said begun.written after
 part_of begun written after sent waiting behind added tells adds = record {
   front = sent ++ adds.front;
   rest = adds.rest ++ behind;
@@ -190,7 +190,7 @@ stop_played have begun from after faults fault so_far stop =
     let effects = have so_far.left in
     let by = so_far.goes effects.0 effects.1 in
     stopped begun from.waiting from.written after faults fault
-    (part_of begun from.written after so_far.sent from.waiting (text_from from.number from.tag effects.0) so_far.added
+    (part_of begun from.written after so_far.sent from.waiting (probe_text_from from.number from.tag effects.0) so_far.added
     (record { effects = by.all; each = by.each; told = sym by.told })) stop
 
 -- ... and behind it
@@ -202,7 +202,7 @@ last_told (Ok done) begun to after faults told ok steady failed = (
   record { text = told.sent ++ to.waiting; tells = told.tells; added = Adds-more begun.written to.written after told.sent to.waiting told.added ok },
 )
 last_told (Err fault) begun to after faults told ok steady failed =
-    let tells : Tells begun.first begun.said ((told.sent ++ to.waiting) ++ []) = record {
+    let tells : TellsEffects begun.first begun.said ((told.sent ++ to.waiting) ++ []) = record {
       effects = told.tells.effects;
       each = told.tells.each;
       told = append-nil (told.sent ++ to.waiting) ∙ told.tells.told;
@@ -227,7 +227,7 @@ nothing_played have result first said written faults is =
       refl,
       record {
         front = [];
-        rest = text_from first_number first effects.0;
+        rest = probe_text_from first_number first effects.0;
         tells = record { effects = effects.0; each = effects.1; told = refl };
         added = Adds-nothing written;
       },

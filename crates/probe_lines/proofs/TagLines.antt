@@ -9,9 +9,9 @@ use Rattle.scenario_lines.specs.declared.tag.TagSpec.{TagSpec}
 use Rattle.scenario_lines.specs.LineFaults.{IsFaultyLine, SpellsLine}
 use Rattle.scenario_lines.specs.Names.{keyword_text}
 use Rattle.scenario_lines.specs.Reading.{MisreadsTag}
-use Rattle.scenario_lines.specs.Spelling.{tag_fields}
+use Rattle.scenario_lines.specs.Spelling.{tag_spec_fields}
 use Rattle.text_fields.specs.NamedFields.{AreFilled}
-use Rattle.text_fields.specs.laws.NamedFieldLaws.{same_behind}
+use Rattle.text_fields.proofs.NamedFieldLaws.{same_behind}
 use Rattle.checked_lines.specs.declared.fault.FaultReason.{FaultReason}
 use Rattle.checked_lines.specs.declared.fault.FaultReason.TheVariants.{Word, Shape, Number, Pc}
 use Rattle.probe_lines.specs.laws.LineLaws.{TagLineLaws}
@@ -46,10 +46,10 @@ tag_told known fields one other spells spells' =
     cc
 
 tag_not_faulty : Known → (fields : List (List ℕ)) (tag : TagSpec) (fault : FaultReason) → SpellsTag fields tag → IsFaultyTagLine fields fault → ⊥
-tag_not_faulty known fields tag Word spells faulty = faulty (record { others = tag_fields tag; first = spells.spelling })
+tag_not_faulty known fields tag Word spells faulty = faulty (record { others = tag_spec_fields tag; first = spells.spelling })
 tag_not_faulty known fields tag Shape spells faulty =
     known.not_faulty fields (lines.Tag tag) reasons.Shape (as_line fields tag spells) (shape_of_line fields faulty.0 faulty.1)
-tag_not_faulty known fields tag Number spells faulty = faulty.1.1 tag spells.is.form (same_others fields (tag_fields tag) faulty.0 spells.spelling)
+tag_not_faulty known fields tag Number spells faulty = faulty.1.1 tag spells.is.form (same_others fields (tag_spec_fields tag) faulty.0 spells.spelling)
 tag_not_faulty known fields tag Pc spells faulty =
     known.not_faulty fields (lines.Tag tag) reasons.Pc (as_line fields tag spells) (pc_of_line fields faulty.0 faulty.1)
 tag_not_faulty known fields tag fault spells faulty = faulty

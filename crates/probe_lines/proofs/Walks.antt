@@ -11,13 +11,13 @@ use Rattle.scenario_lines.specs.declared.tag.TagSpec.{TagSpec}
 use Rattle.probe_lines.specs.Said.{ProbeLine, Stimulus}
 use Rattle.probe_lines.specs.Said as lines
 use Rattle.probe_lines.specs.LineFaults.{IsFaultyProbeLine}
-use Rattle.probe_lines.specs.laws.LineLaws.{LineLaws, TagLineLaws}
+use Rattle.probe_lines.specs.laws.LineLaws.{ProbeLineLaws, TagLineLaws}
 use Rattle.probe_lines.specs.ProbeLine.{SpellsProbeLine}
 use Rattle.probe_lines.specs.ProbeText.{GoesTo, HasRoom, IsFaultyBehind, IsFaultyHere, IsProbe, IsTooMuch, Standing, after, begun, ended, probe_rules, start, within}
 
 -- what single lines say
 pub record Laws : Type 0 where
-  pub lines : LineLaws
+  pub lines : ProbeLineLaws
   pub tags : TagLineLaws
 
 -- a line leads to one place

@@ -33,10 +33,10 @@ HasEffect (stimuli.SendsBits bits) Nothing = (command : Command) → ¬ SpellsCo
 HasEffect (stimuli.SendsBits bits) (Befalls event) = ⊥
 
 -- the tag after it, and what it answers
-abbrev pub outcome_of : StimulusEffect → TagValue → Outcome
-outcome_of (Hears command) tag = step command tag.state tag.body
-outcome_of (Befalls event) tag = record { tag = tag_after_event event tag.state tag.body; answer = None }
-outcome_of Nothing tag = silent tag.state tag.body
+abbrev pub outcome_of_effect : StimulusEffect → TagValue → Outcome
+outcome_of_effect (Hears command) tag = step command tag.state tag.body
+outcome_of_effect (Befalls event) tag = record { tag = tag_after_event event tag.state tag.body; answer = None }
+outcome_of_effect Nothing tag = silent tag.state tag.body
 
 -- a reply with the extended preamble, or with the TRext of the Query
 abbrev pub preamble_word : Bool → List ℕ
@@ -44,9 +44,9 @@ preamble_word true = codes "extended"
 preamble_word false = codes "plain"
 
 -- what was answered to the line of this number
-abbrev pub answer_line : ℕ → Option Sent → List ℕ
-answer_line number None = line_with (codes "answer" ∷ decimal number ∷ codes "-" ∷ [])
-answer_line number (Some sent) = line_with (codes "answer" ∷ decimal number ∷ preamble_word sent.extended ∷ reply_line sent.reply ∷ [])
+abbrev pub probe_answer_line : ℕ → Option Sent → List ℕ
+probe_answer_line number None = line_with (codes "answer" ∷ decimal number ∷ codes "-" ∷ [])
+probe_answer_line number (Some sent) = line_with (codes "answer" ∷ decimal number ∷ preamble_word sent.extended ∷ reply_line sent.reply ∷ [])
 
 -- a cover, or none
 abbrev pub cover_word : Option ℕ → List ℕ
@@ -77,11 +77,11 @@ state_line number tag =
     ++ fields_behind (number_fields (numbers_of tag.state))
 
 -- the lines that tell of one line: an event has no answer
-abbrev pub lines_behind : ℕ → StimulusEffect → TagValue → List (List ℕ)
-lines_behind number (Hears command) tag =
-    answer_line number (outcome_of (Hears command) tag).answer ∷ state_line number (outcome_of (Hears command) tag).tag ∷ []
-lines_behind number (Befalls event) tag = state_line number (outcome_of (Befalls event) tag).tag ∷ []
-lines_behind number Nothing tag = answer_line number None ∷ state_line number tag ∷ []
+abbrev pub probe_lines_behind : ℕ → StimulusEffect → TagValue → List (List ℕ)
+probe_lines_behind number (Hears command) tag =
+    probe_answer_line number (outcome_of_effect (Hears command) tag).answer ∷ state_line number (outcome_of_effect (Hears command) tag).tag ∷ []
+probe_lines_behind number (Befalls event) tag = state_line number (outcome_of_effect (Befalls event) tag).tag ∷ []
+probe_lines_behind number Nothing tag = probe_answer_line number None ∷ state_line number tag ∷ []
 
 -- the tag as a report tells it, and that this was all
 abbrev pub last_text : TagValue → List ℕ
@@ -89,21 +89,21 @@ last_text tag = report_text (TagLine 0 tag ∷ DoneLine ∷ [])
 
 -- The text behind the line before this number: what each effect makes of the tag, one after another, and then the tag as a report
 -- tells it, and that this was all.
-abbrev pub text_from : ℕ → TagValue → List StimulusEffect → List ℕ
-text_from number tag [] = last_text tag
-text_from number tag (effect ∷ effects) =
-    text_with (lines_behind number effect tag) ++ text_from (number + 1) (outcome_of effect tag).tag effects
+abbrev pub probe_text_from : ℕ → TagValue → List StimulusEffect → List ℕ
+probe_text_from number tag [] = last_text tag
+probe_text_from number tag (effect ∷ effects) =
+    text_with (probe_lines_behind number effect tag) ++ probe_text_from (number + 1) (outcome_of_effect effect tag).tag effects
 
 -- the number of the first line behind that of the tag
 abbrev pub first_number : ℕ
 first_number = 3
 
 -- a tag as the line of a tag gives it: ready, with new flags and no draw made
-abbrev pub tag_of : TagSpec → TagValue
-tag_of tag = tag_of_image tag.image tag.locks tag.words
+abbrev pub probed_tag : TagSpec → TagValue
+probed_tag tag = tag_of_image tag.image tag.locks tag.words
 
 -- the text tells what comes of this, done to the tag
-pub record Tells (tag : TagValue) (said : List Stimulus) (text : List ℕ) : Type 0 where
+pub record TellsEffects (tag : TagValue) (said : List Stimulus) (text : List ℕ) : Type 0 where
   pub effects : List StimulusEffect
   pub each : AllZip HasEffect said effects
-  pub told : text ≡ text_from first_number tag effects
+  pub told : text ≡ probe_text_from first_number tag effects

@@ -8,6 +8,6 @@ use Rattle.tag_machine.specs.Answers.{Sent}
 use Rattle.tag_machine.specs.Hearing.{mark_of}
 
 -- The answer is marked so, and its bits answer what is expected.
-pub record IsAnswered (answer : Option Sent) (answered : Answered) (expect : Option Expect) (bits : List Bool) : Type 0 where
+pub record IsHeardAnswer (answer : Option Sent) (answered : Answered) (expect : Option Expect) (bits : List Bool) : Type 0 where
   pub mark : answered ≡ mark_of answer
   pub bits_are : IfSome answer (λ sent. IsSomeAnd expect (λ it. AnswersExpected sent.reply it bits))

@@ -7,10 +7,10 @@ use Rattle.text_fields.specs.declared.fields_fault.FieldsFault.TheVariants as re
 use Rattle.command_text.specs.CommandText.{IsFaultyCommand}
 use Rattle.probe_lines.specs.declared.line.LineWord.{LineWord}
 use Rattle.probe_lines.specs.declared.line.LineWord.TheVariants as words
-use Rattle.probe_lines.specs.ProbeLine.{IsProbeEvent, line_word, most_bits, probe_events}
+use Rattle.probe_lines.specs.ProbeLine.{IsProbeEvent, line_word, most_line_bits, probe_events}
 
 -- the line begins with this word
-pub record BeginsWith (fields : List (List ℕ)) (word : LineWord) : Type 0 where
+pub record BeginsWithWord (fields : List (List ℕ)) (word : LineWord) : Type 0 where
   pub others : List (List ℕ)
   pub first : fields ≡ line_word word ∷ others
 
@@ -18,7 +18,7 @@ pub record BeginsWith (fields : List (List ℕ)) (word : LineWord) : Type 0 wher
 abbrev pub AreFaultyBits : List (List ℕ) → FieldsFault → Type 0
 AreFaultyBits others reasons.Word = ⊥
 AreFaultyBits others reasons.Shape = ¬ AreFilled 1 others
-AreFaultyBits others reasons.Number = AreFilled 1 others × ((bits : List Bool) → length bits ≤ most_bits → others ≢ binary bits ∷ [])
+AreFaultyBits others reasons.Number = AreFilled 1 others × ((bits : List Bool) → length bits ≤ most_line_bits → others ≢ binary bits ∷ [])
 
 -- nothing may stand behind `end`
 abbrev pub AreFaultyEnd : List (List ℕ) → FieldsFault → Type 0
@@ -35,12 +35,12 @@ AreFaultyBehind words.End others fault = AreFaultyEnd others fault
 -- the line begins with one of the words, and says nothing
 pub record MisspellsWord (fields : List (List ℕ)) (fault : FieldsFault) : Type 0 where
   pub word : LineWord
-  pub begins : BeginsWith fields word
+  pub begins : BeginsWithWord fields word
   pub behind : AreFaultyBehind word begins.others fault
 
 -- it begins with none of them, and says no command
 pub record MisspellsCommand (fields : List (List ℕ)) (fault : FieldsFault) : Type 0 where
-  pub other : (word : LineWord) → ¬ BeginsWith fields word
+  pub other : (word : LineWord) → ¬ BeginsWithWord fields word
   pub faulty : IsFaultyCommand fields fault
 
 -- the first reason for which the fields say no line that may stand behind that of the tag

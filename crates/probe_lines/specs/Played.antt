@@ -6,19 +6,19 @@ use Rattle.report_lines.specs.declared.mode.PlayFault.TheVariants.{Write, OutOfM
 use Rattle.tag_machine.specs.TagValue.{TagValue}
 use Rattle.probe_lines.specs.Said.{Stimulus, StimulusEffect}
 use Rattle.text_fields.specs.Lines.{text_with}
-use Rattle.probe_lines.specs.Answers.{HasEffect, Tells, lines_behind, outcome_of}
+use Rattle.probe_lines.specs.Answers.{HasEffect, TellsEffects, probe_lines_behind, outcome_of_effect}
 
 -- the text that tells what comes of this, done to the tag, was written whole
 pub record WritesText (tag : TagValue) (said : List Stimulus) (written written' : Option (List ℕ)) : Type 0 where
   pub text : List ℕ
-  pub tells : Tells tag said text
+  pub tells : TellsEffects tag said text
   pub added : Adds written written' text
 
 -- a front of it was written
 pub record WritesPart (tag : TagValue) (said : List Stimulus) (written written' : Option (List ℕ)) : Type 0 where
   pub front : List ℕ
   pub rest : List ℕ
-  pub tells : Tells tag said (front ++ rest)
+  pub tells : TellsEffects tag said (front ++ rest)
   pub added : Adds written written' front
 
 -- a front of a text was written
@@ -37,11 +37,11 @@ StopsIn text written written' faults faults' OutOfMemory = (faults' ≡ faults) 
 pub record TellsNext (number : ℕ) (tag : TagValue) (stimulus : Stimulus) (tag' : TagValue) (waiting waiting' : List ℕ) : Type 0 where
   pub effect : StimulusEffect
   pub has : HasEffect stimulus effect
-  pub becomes : tag' ≡ (outcome_of effect tag).tag
-  pub told : waiting' ≡ waiting ++ text_with (lines_behind number effect tag)
+  pub becomes : tag' ≡ (outcome_of_effect effect tag).tag
+  pub told : waiting' ≡ waiting ++ text_with (probe_lines_behind number effect tag)
 
 -- a front of what waits was written, and the rest waits on
-pub record Sends (waiting waiting' : List ℕ) (written written' : Option (List ℕ)) : Type 0 where
+pub record WritesFrontOf (waiting waiting' : List ℕ) (written written' : Option (List ℕ)) : Type 0 where
   pub front : List ℕ
   pub cut : waiting ≡ front ++ waiting'
   pub added : Adds written written' front

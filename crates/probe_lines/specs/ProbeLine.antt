@@ -12,7 +12,7 @@ use Rattle.scenario_lines.specs.declared.first_fields.EventKind.TheVariants as k
 use Rattle.scenario_lines.specs.declared.first_fields.Keyword.TheVariants as keywords
 use Rattle.scenario_lines.specs.declared.tag.TagSpec.{TagSpec}
 use Rattle.scenario_lines.specs.Names.{event_kind, event_word, keyword_text}
-use Rattle.scenario_lines.specs.Spelling.{tag_fields}
+use Rattle.scenario_lines.specs.Spelling.{tag_spec_fields}
 use Rattle.scenario_lines.specs.TagForm.{IsTag}
 use Rattle.probe_lines.specs.declared.line.LineWord.{LineWord}
 use Rattle.probe_lines.specs.declared.line.LineWord.TheVariants as words
@@ -24,20 +24,20 @@ abbrev pub version_line : List ℕ
 version_line = codes "probe 1"
 
 -- how many bits one line may have
-abbrev pub most_bits : ℕ
-most_bits = 8240
+abbrev pub most_line_bits : ℕ
+most_line_bits = 8240
 
 -- the fields of the second line say the tag, as those of a scenario do
 pub record SpellsTag (fields : List (List ℕ)) (tag : TagSpec) : Type 0 where
-  pub spelling : fields ≡ keyword_text keywords.Tag ∷ tag_fields tag
+  pub spelling : fields ≡ keyword_text keywords.Tag ∷ tag_spec_fields tag
   pub is : IsTag tag
 
 -- an event of the one tag that there is: its kind and, where the persistence of a flag ends, the flag
-abbrev pub event_field_count : EventKind → ℕ
-event_field_count kinds.Timeout = 0
-event_field_count kinds.Off = 0
-event_field_count kinds.On = 0
-event_field_count kinds.Expire = 1
+abbrev pub probe_event_fields : EventKind → ℕ
+probe_event_fields kinds.Timeout = 0
+probe_event_fields kinds.Off = 0
+probe_event_fields kinds.On = 0
+probe_event_fields kinds.Expire = 1
 
 abbrev pub other_event_fields : Event → List (List ℕ)
 other_event_fields events.Timeout = []
@@ -46,7 +46,7 @@ other_event_fields events.On = []
 other_event_fields (events.Expire flag) = flag_word flag ∷ []
 
 abbrev pub probe_events : Vocabulary EventKind Event
-probe_events = record { name = event_word; count = event_field_count; kind = event_kind; others = other_event_fields }
+probe_events = record { name = event_word; count = probe_event_fields; kind = event_kind; others = other_event_fields }
 
 -- S0 has no expiry (6.3.2.2)
 abbrev pub IsProbeEvent : Event → Type 0
@@ -68,7 +68,7 @@ probe_line_fields lines.End = line_word words.End ∷ []
 -- each number of the line is in its range
 abbrev pub IsProbeLine : ProbeLine → Type 0
 IsProbeLine (lines.Does (lines.SendsCommand command)) = IsLegalCommand command
-IsProbeLine (lines.Does (lines.SendsBits bits)) = length bits ≤ most_bits
+IsProbeLine (lines.Does (lines.SendsBits bits)) = length bits ≤ most_line_bits
 IsProbeLine (lines.Does (lines.Brings event)) = IsProbeEvent event
 IsProbeLine lines.End = Unit {0}
 

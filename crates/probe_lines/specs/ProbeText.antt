@@ -14,7 +14,7 @@ use Rattle.probe_lines.specs.Said.{Stimulus, ProbeLine}
 use Rattle.probe_lines.specs.Said as lines
 use Rattle.probe_lines.specs.declared.line.LineWord.TheVariants as words
 use Rattle.probe_lines.specs.ProbeLine.{SpellsProbeLine, SpellsTag, version_line}
-use Rattle.probe_lines.specs.LineFaults.{BeginsWith, IsFaultyProbeLine}
+use Rattle.probe_lines.specs.LineFaults.{BeginsWithWord, IsFaultyProbeLine}
 
 -- how many lines may stand between that of the tag and the end
 abbrev pub most_stimuli : ℕ
@@ -77,7 +77,7 @@ IsFaultyTagLine fields fault = ⊥
 -- as many lines stand before it as may, and it isn't the end
 pub record IsTooMuch (count : ℕ) (fields : List (List ℕ)) : Type 0 where
   pub full : most_stimuli ≤ count
-  pub needs : ¬ BeginsWith fields words.End
+  pub needs : ¬ BeginsWithWord fields words.End
 
 -- the first reason for which a line is faulty that stands behind the tag and so many lines
 abbrev pub IsFaultyBehind : ℕ → List (List ℕ) → FaultReason → Type 0

@@ -2,7 +2,7 @@
 ghost use Rattle.std.specs.Prelude.{◌≡◌, ◌≤◌, length};
 ghost use Rattle.probe_lines.specs.Said.{Does, SendsBits, effect_with, stimulus_with};
 ghost use Rattle.probe_lines.specs.Answers.{HasEffect};
-ghost use Rattle.probe_lines.specs.ProbeLine.{IsProbeLine, most_bits};
+ghost use Rattle.probe_lines.specs.ProbeLine.{IsProbeLine, most_line_bits};
 
 use crate::line::SaidStimulus;
 use air_events::Event;
@@ -24,8 +24,8 @@ pub enum SaidEffect {
 /// What is done to the tag by bits that are sent: it hears the command that they spell, which takes the place of another, and none where
 /// the last of them leaves a command unfinished, or some bit fits none. The room for bits is lent.
 fn effect_of_bits(digits: Digits<'_>, bits: &mut Bits, command: &mut Command) -> SaidEffect
-    requires short { length digits ≤ most_bits }
-    requires room { most_bits ≤ bits.old.capacity }
+    requires short { length digits ≤ most_line_bits }
+    requires room { most_line_bits ≤ bits.old.capacity }
     ensures effect { HasEffect (SendsBits digits.entry) (effect_with result command.new) }
     ensures capacity { bits.new.capacity ≡ bits.old.capacity }
 {
@@ -46,8 +46,9 @@ fn effect_of_bits(digits: Digits<'_>, bits: &mut Bits, command: &mut Command) ->
 /// for bits is lent.
 pub fn effect_of(stimulus: SaidStimulus<'_>, bits: &mut Bits, command: &mut Command) -> SaidEffect
     requires legal { IsProbeLine (Does (stimulus_with stimulus command.old)) }
-    requires room { most_bits ≤ bits.old.capacity }
-    ensures effect { HasEffect (stimulus_with stimulus.entry command.old) (effect_with result command.new) }
+    requires room { most_line_bits ≤ bits.old.capacity }
+    ensures effect { HasEffect (stimulus_with stimulus.entry command.old)
+        (effect_with result command.new) }
     ensures capacity { bits.new.capacity ≡ bits.old.capacity }
 {
     match stimulus {

@@ -2,7 +2,7 @@
 ghost use Rattle.std.specs.Prelude.{◌≡◌, IfOk, IfErr, IfSome, IfNone};
 ghost use Rattle.air_events.specs.declared.Event.{Event};
 ghost use Rattle.text_fields.specs.NamedFields.{AreFaulty, AreFilled, AreSpelling, SpellBehind};
-ghost use Rattle.probe_lines.specs.ProbeLine.{IsProbeEvent, event_field_count, probe_events};
+ghost use Rattle.probe_lines.specs.ProbeLine.{IsProbeEvent, probe_event_fields, probe_events};
 
 use air_events::Event;
 use scenario_lines::{EventKind, event_kind_named, expiring_flag_named};
@@ -10,7 +10,7 @@ use text_fields::{Fields, FieldsFault, are_filled, one_field};
 
 /// How many fields stand behind the kind of an event.
 fn field_count(kind: EventKind) -> u32
-    ensures { result ≡ event_field_count kind }
+    ensures { result ≡ probe_event_fields kind }
 {
     match kind {
         EventKind::Timeout | EventKind::Off | EventKind::On => 0,
@@ -20,9 +20,10 @@ fn field_count(kind: EventKind) -> u32
 
 /// The event that the fields behind its kind spell.
 fn event_behind(kind: EventKind, fields: Fields) -> Option<Event>
-    requires { AreFilled (event_field_count kind) fields }
+    requires { AreFilled (probe_event_fields kind) fields }
     ensures value { IfSome result (SpellBehind probe_events IsProbeEvent kind fields.entry) }
-    ensures none { IfNone result ((event : Event) → ¬ SpellBehind probe_events IsProbeEvent kind fields.entry event) }
+    ensures none { IfNone result
+        ((event : Event) → ¬ SpellBehind probe_events IsProbeEvent kind fields.entry event) }
 {
     match kind {
         EventKind::Timeout => Some(Event::Timeout),

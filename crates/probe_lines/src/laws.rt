@@ -6,8 +6,8 @@ ghost use Rattle.checked_lines.specs.declared.fault.FaultReason.{FaultReason};
 ghost use Rattle.scenario_lines.specs.declared.tag.TagSpec.{TagSpec};
 ghost use Rattle.tag_machine.specs.TagValue.{TagValue};
 ghost use Rattle.probe_lines.specs.Said.{Stimulus, StimulusEffect};
-ghost use Rattle.probe_lines.specs.Answers.{HasEffect, Tells};
-ghost use Rattle.probe_lines.specs.laws.LineLaws.{LineLaws, TagLineLaws};
+ghost use Rattle.probe_lines.specs.Answers.{HasEffect, TellsEffects};
+ghost use Rattle.probe_lines.specs.laws.LineLaws.{ProbeLineLaws, TagLineLaws};
 ghost use Rattle.probe_lines.specs.ProbeText.{IsFirstFault, IsProbe};
 
 use command_grammar::spelling_laws;
@@ -19,7 +19,7 @@ use text_fields::bits_are_told_apart;
 
 /// What the laws of single lines say, together.
 pub fn line_laws()
-    ensures lines { LineLaws }
+    ensures lines { ProbeLineLaws }
     ensures tags { TagLineLaws }
 {
     commands_are_told_apart();
@@ -33,22 +33,26 @@ pub fn line_laws()
 
 /// Whatever is done to a tag has an effect on it, and one only.
 pub fn stimuli_have_one_effect()
-    ensures some { (said : List Stimulus) → (effects : List StimulusEffect) × AllZip HasEffect said effects }
-    ensures one { (said : List Stimulus) (one other : List StimulusEffect) → AllZip HasEffect said one → AllZip HasEffect said other → one ≡ other }
+    ensures some { (said : List Stimulus) → (effects : List StimulusEffect)
+        × AllZip HasEffect said effects }
+    ensures one { (said : List Stimulus) (one other : List StimulusEffect)
+        → AllZip HasEffect said one → AllZip HasEffect said other → one ≡ other }
 {
     spelling_laws();
 }
 
 /// One text tells what comes of what is done to a tag.
 pub fn probes_have_one_text()
-    ensures { (tag : TagValue) (said : List Stimulus) (one other : List ℕ) → Tells tag said one → Tells tag said other → one ≡ other }
+    ensures { (tag : TagValue) (said : List Stimulus) (one other : List ℕ)
+        → TellsEffects tag said one → TellsEffects tag said other → one ≡ other }
 {
     stimuli_have_one_effect();
 }
 
 /// Bytes are the text of one probe at most.
 pub fn probes_are_told_apart()
-    ensures { (bytes : List ℕ) (tag other_tag : TagSpec) (said other_said : List Stimulus) → IsProbe bytes tag said → IsProbe bytes other_tag other_said
+    ensures { (bytes : List ℕ) (tag other_tag : TagSpec) (said other_said : List Stimulus)
+        → IsProbe bytes tag said → IsProbe bytes other_tag other_said
         → (tag ≡ other_tag) × (said ≡ other_said) }
 {
     line_laws();
@@ -56,14 +60,16 @@ pub fn probes_are_told_apart()
 
 /// The text of a probe has no faulty line.
 pub fn probe_texts_are_not_faulty()
-    ensures { (bytes : List ℕ) (tag : TagSpec) (said : List Stimulus) (number : ℕ) (fault : FaultReason) → IsProbe bytes tag said → IsFirstFault bytes number fault → ⊥ }
+    ensures { (bytes : List ℕ) (tag : TagSpec) (said : List Stimulus) (number : ℕ)
+        (fault : FaultReason) → IsProbe bytes tag said → IsFirstFault bytes number fault → ⊥ }
 {
     line_laws();
 }
 
 /// A text has at most one first faulty line, which has one first reason.
 pub fn probe_texts_have_one_fault()
-    ensures { (bytes : List ℕ) (one other : ℕ) (fault reason : FaultReason) → IsFirstFault bytes one fault → IsFirstFault bytes other reason
+    ensures { (bytes : List ℕ) (one other : ℕ) (fault reason : FaultReason)
+        → IsFirstFault bytes one fault → IsFirstFault bytes other reason
         → (one ≡ other) × (fault ≡ reason) }
 {
     line_laws();

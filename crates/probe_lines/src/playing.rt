@@ -6,8 +6,8 @@ ghost use Rattle.text_fields.specs.Lines.{text_with};
 ghost use Rattle.scenario_lines.specs.TagForm.{IsTag};
 ghost use Rattle.tag_machine.specs.Hearing.{tag_value_of};
 ghost use Rattle.probe_lines.specs.Said.{Does, Hears, Stimulus, effect_with, stimulus_with};
-ghost use Rattle.probe_lines.specs.Answers.{last_text, lines_behind, outcome_of, tag_of};
-ghost use Rattle.probe_lines.specs.Played.{HasPlayed, Sends, StopsIn, TellsNext};
+ghost use Rattle.probe_lines.specs.Answers.{last_text, probe_lines_behind, outcome_of_effect, probed_tag};
+ghost use Rattle.probe_lines.specs.Played.{HasPlayed, WritesFrontOf, StopsIn, TellsNext};
 ghost use Rattle.probe_lines.specs.ProbeLine.{IsProbeLine};
 ghost use Rattle.probe_lines.specs.ProbeText.{AreStimuli};
 
@@ -41,7 +41,7 @@ const TEXT_ROOM: usize = 6_656;
 /// The tag as the line gives it: ready, with new flags and no draw made.
 fn new_tag(alloc: Global, tag: &TagText<'_>) -> Result<AnyTag, OutOfMemory>
     requires { IsTag tag.now }
-    ensures { IfOk result (λ it. tag_value_of it ≡ tag_of tag.now) }
+    ensures { IfOk result (λ it. tag_value_of it ≡ probed_tag tag.now) }
 {
     let TagSpec {
         image,
@@ -54,7 +54,9 @@ fn new_tag(alloc: Global, tag: &TagText<'_>) -> Result<AnyTag, OutOfMemory>
 /// Writes a text whole.
 fn write_text<O: Sink>(out: &mut O, text: &str) -> Result<(), PlayFault>
     ensures ok { OnOk result (Adds (O.written out.old) (O.written out.new) text.now) }
-    ensures failed { IfErr result (StopsIn text.now (O.written out.old) (O.written out.new) (O.faults out.old) (O.faults out.new)) }
+    ensures failed { IfErr result
+        (StopsIn text.now (O.written out.old) (O.written out.new) (O.faults out.old)
+        (O.faults out.new)) }
     ensures steady { OnOk result (O.faults out.new ≡ O.faults out.old) }
 {
     match write_all(out, text.as_bytes()) {
@@ -95,8 +97,12 @@ impl Rooms {
         tag: AnyTag,
         steps: &mut Steps<L>,
     ) -> Result<AnyTag, OutOfMemory>
-        ensures tag { IfOk result (λ it. tag_value_of it ≡ (outcome_of (Hears self.old.command) (tag_value_of tag)).tag) }
-        ensures text { OnOk result (string_bytes self.new.text ≡ string_bytes self.old.text ++ text_with (lines_behind number (Hears self.old.command) (tag_value_of tag))) }
+        ensures tag { IfOk result
+            (λ it. tag_value_of it
+            ≡ (outcome_of_effect (Hears self.old.command) (tag_value_of tag)).tag) }
+        ensures text { OnOk result
+            (string_bytes self.new.text ≡ string_bytes self.old.text
+            ++ text_with (probe_lines_behind number (Hears self.old.command) (tag_value_of tag))) }
     {
         // By this law the bits of an answer are a reply that is expected.
         answers_are_replies();
@@ -124,9 +130,13 @@ impl Rooms {
         effect: SaidEffect,
         steps: &mut Steps<L>,
     ) -> Result<AnyTag, OutOfMemory>
-        ensures tag { IfOk result (λ it. tag_value_of it ≡ (outcome_of (effect_with effect self.old.command) (tag_value_of tag)).tag) }
+        ensures tag { IfOk result
+            (λ it. tag_value_of it
+            ≡ (outcome_of_effect (effect_with effect self.old.command) (tag_value_of tag)).tag) }
         ensures text { OnOk result (string_bytes self.new.text
-            ≡ string_bytes self.old.text ++ text_with (lines_behind number (effect_with effect self.old.command) (tag_value_of tag))) }
+            ≡ string_bytes self.old.text
+            ++ text_with (probe_lines_behind number (effect_with effect self.old.command)
+            (tag_value_of tag))) }
     {
         match effect {
             SaidEffect::Hears => self.hear(number, tag, steps),
@@ -156,7 +166,9 @@ impl Rooms {
         steps: &mut Steps<L>,
     ) -> Result<AnyTag, OutOfMemory>
         requires legal { IsProbeLine (Does (stimulus_with stimulus self.old.command)) }
-        ensures { IfOk result (λ it. TellsNext number (tag_value_of tag) (stimulus_with stimulus.entry self.old.command) (tag_value_of it)
+        ensures { IfOk result
+            (λ it. TellsNext number (tag_value_of tag)
+            (stimulus_with stimulus.entry self.old.command) (tag_value_of it)
             (string_bytes self.old.text) (string_bytes self.new.text)) }
     {
         let effect = effect_of(stimulus, &mut self.bits, &mut self.command);
@@ -169,7 +181,9 @@ impl Rooms {
     ///
     /// There was no memory.
     fn tell_tag(&mut self, tag: &AnyTag) -> Result<(), OutOfMemory>
-        ensures { OnOk result (string_bytes self.new.text ≡ string_bytes self.old.text ++ last_text (tag_value_of tag.now)) }
+        ensures { OnOk result
+            (string_bytes self.new.text ≡ string_bytes self.old.text
+            ++ last_text (tag_value_of tag.now)) }
     {
         push_tag_line(&mut self.text, 0, tag)?;
         push_done_line(&mut self.text)
@@ -181,9 +195,12 @@ impl Rooms {
     ///
     /// A write failed. A front of it was written.
     fn flush<O: Sink>(&mut self, out: &mut O) -> Result<(), PlayFault>
-        ensures sent { OnOk result (Adds (O.written out.old) (O.written out.new) (string_bytes self.old.text)) }
+        ensures sent { OnOk result
+            (Adds (O.written out.old) (O.written out.new) (string_bytes self.old.text)) }
         ensures empty { OnOk result (string_bytes self.new.text ≡ []) }
-        ensures failed { IfErr result (StopsIn (string_bytes self.old.text) (O.written out.old) (O.written out.new) (O.faults out.old) (O.faults out.new)) }
+        ensures failed { IfErr result
+            (StopsIn (string_bytes self.old.text) (O.written out.old) (O.written out.new)
+            (O.faults out.old) (O.faults out.new)) }
         ensures steady { OnOk result (O.faults out.new ≡ O.faults out.old) }
     {
         write_text(out, self.text.as_str())?;
@@ -197,9 +214,13 @@ impl Rooms {
     ///
     /// As for `flush`.
     fn write_page<O: Sink>(&mut self, out: &mut O) -> Result<(), PlayFault>
-        ensures sent { OnOk result (Sends (string_bytes self.old.text) (string_bytes self.new.text) (O.written out.old) (O.written out.new)) }
+        ensures sent { OnOk result
+            (WritesFrontOf (string_bytes self.old.text) (string_bytes self.new.text)
+            (O.written out.old) (O.written out.new)) }
         ensures page { OnOk result (length (string_bytes self.new.text) < 4096) }
-        ensures failed { IfErr result (StopsIn (string_bytes self.old.text) (O.written out.old) (O.written out.new) (O.faults out.old) (O.faults out.new)) }
+        ensures failed { IfErr result
+            (StopsIn (string_bytes self.old.text) (O.written out.old) (O.written out.new)
+            (O.faults out.old) (O.faults out.new)) }
         ensures steady { OnOk result (O.faults out.new ≡ O.faults out.old) }
     {
         if self.text.len() < PAGE_BYTES {
@@ -224,7 +245,8 @@ fn play_on<L: Ledger, O: Sink>(
     requires said { (said : List Stimulus) × AreStimuli stimuli said }
     requires nothing { string_bytes rooms.old.text ≡ [] }
     ensures { (said : List Stimulus) → AreStimuli stimuli.entry said
-        → HasPlayed (tag_value_of first) said (O.written out.old) (O.written out.new) (O.faults out.old) (O.faults out.new) result }
+        → HasPlayed (tag_value_of first) said (O.written out.old) (O.written out.new)
+        (O.faults out.old) (O.faults out.new) result }
 {
     // By this law what is left has an effect, so that there is a whole text.
     stimuli_have_one_effect();
@@ -254,7 +276,8 @@ pub fn play<O: Sink>(alloc: Global, probe: Probe<'_>, out: &mut O) -> Result<(),
     requires tag { IsTag probe.tag }
     requires said { (said : List Stimulus) × AreStimuli probe.stimuli said }
     ensures { (said : List Stimulus) → AreStimuli probe.entry.stimuli said
-        → HasPlayed (tag_of probe.entry.tag) said (O.written out.old) (O.written out.new) (O.faults out.old) (O.faults out.new) result }
+        → HasPlayed (probed_tag probe.entry.tag) said (O.written out.old) (O.written out.new)
+        (O.faults out.old) (O.faults out.new) result }
 {
     stimuli_have_one_effect();
     let Probe { tag, stimuli } = probe;

@@ -6,8 +6,8 @@ ghost use Rattle.text_fields.specs.Lines.{fields_behind, line_feed, line_with, s
 ghost use Rattle.reply_text.specs.ReplyText.{reply_line};
 ghost use Rattle.tag_machine.specs.Answers.{Sent};
 ghost use Rattle.tag_machine.specs.Hearing.{tag_value_of};
-ghost use Rattle.probe_lines.specs.Answers.{answer_line, cover_word, half_word, number_fields, password_word, state_line};
-ghost use Rattle.probe_lines.specs.Heard.{IsAnswered};
+ghost use Rattle.probe_lines.specs.Answers.{probe_answer_line, cover_word, half_word, number_fields, password_word, state_line};
+ghost use Rattle.probe_lines.specs.Heard.{IsHeardAnswer};
 
 use answer_reading::expected_reply_to;
 use bit_strings::{Bits, OutOfMemory};
@@ -52,9 +52,10 @@ pub(crate) fn push_answer_line(
     expect: &Option<Expect>,
     reply: &mut Reply,
 ) -> Result<(), OutOfMemory>
-    requires { (answer : Option Sent) × IsAnswered answer answered expect.now bits.now.items }
-    ensures { (answer : Option Sent) → IsAnswered answer answered expect.now bits.now.items
-        → OnOk result (string_bytes text.new ≡ string_bytes text.old ++ (answer_line number answer ++ line_feed ∷ [])) }
+    requires { (answer : Option Sent) × IsHeardAnswer answer answered expect.now bits.now.items }
+    ensures { (answer : Option Sent) → IsHeardAnswer answer answered expect.now bits.now.items
+        → OnOk result (string_bytes text.new ≡ string_bytes text.old
+        ++ (probe_answer_line number answer ++ line_feed ∷ [])) }
 {
     match answered {
         Answered::Silent => push_silence(text, number),
@@ -71,7 +72,8 @@ pub(crate) fn push_answer_line(
 
 /// Writes a cover, or a hyphen for none, as the next field.
 fn push_next_cover(text: &mut String, cover: Option<u16>) -> Result<(), OutOfMemory>
-    ensures { OnOk result (string_bytes text.new ≡ string_bytes text.old ++ space ∷ cover_word cover) }
+    ensures { OnOk result (string_bytes text.new ≡ string_bytes text.old
+        ++ space ∷ cover_word cover) }
 {
     match cover {
         Some(cover) => push_next_word(text, cover),
@@ -91,7 +93,8 @@ fn password_name(password: Password) -> &'static str
 
 /// Writes the first half of a password, or a hyphen for none, as the next field.
 fn push_next_half(text: &mut String, half: Option<Half>) -> Result<(), OutOfMemory>
-    ensures { OnOk result (string_bytes text.new ≡ string_bytes text.old ++ space ∷ half_word half) }
+    ensures { OnOk result (string_bytes text.new ≡ string_bytes text.old
+        ++ space ∷ half_word half) }
 {
     let Some(half) = half else {
         return text.push_str(" -");
@@ -102,7 +105,8 @@ fn push_next_half(text: &mut String, half: Option<Half>) -> Result<(), OutOfMemo
 
 /// Writes what a tag in open or secured holds as the next fields.
 fn push_next_held(text: &mut String, held: &Held) -> Result<(), OutOfMemory>
-    ensures { OnOk result (string_bytes text.new ≡ string_bytes text.old ++ fields_behind (number_fields (StateNumbers.Held held.now))) }
+    ensures { OnOk result (string_bytes text.new ≡ string_bytes text.old
+        ++ fields_behind (number_fields (StateNumbers.Held held.now))) }
 {
     push_next_number(text, u32::from(held.session.get()))?;
     push_next_number(text, u32::from(held.q.get()))?;
@@ -113,7 +117,8 @@ fn push_next_held(text: &mut String, held: &Held) -> Result<(), OutOfMemory>
 
 /// Writes the numbers of a state as the next fields.
 fn push_next_state_numbers(text: &mut String, numbers: StateNumbers) -> Result<(), OutOfMemory>
-    ensures { OnOk result (string_bytes text.new ≡ string_bytes text.old ++ fields_behind (number_fields numbers)) }
+    ensures { OnOk result (string_bytes text.new ≡ string_bytes text.old
+        ++ fields_behind (number_fields numbers)) }
 {
     match numbers {
         StateNumbers::None => Ok(()),
@@ -137,7 +142,8 @@ pub(crate) fn push_state_line(
     number: u32,
     tag: &AnyTag,
 ) -> Result<(), OutOfMemory>
-    ensures { OnOk result (string_bytes text.new ≡ string_bytes text.old ++ (state_line number (tag_value_of tag.now) ++ line_feed ∷ [])) }
+    ensures { OnOk result (string_bytes text.new ≡ string_bytes text.old
+        ++ (state_line number (tag_value_of tag.now) ++ line_feed ∷ [])) }
 {
     push_named_number(text, "state", number)?;
     push_next_state(text, tag.state())?;

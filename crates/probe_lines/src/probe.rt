@@ -31,7 +31,9 @@ fn is_version(line: &[u8]) -> bool
 ///
 /// The first faulty line, counted from 1, with the first reason that applies to it.
 pub fn read_probe(text: &[u8]) -> Result<Probe<'_>, FaultyLine>
-    ensures ok { IfOk result (λ probe. (said : List Stimulus) × IsProbe text.now probe.tag said × AreStimuli probe.stimuli said) }
+    ensures ok { IfOk result
+        (λ probe. (said : List Stimulus) × IsProbe text.now probe.tag said
+        × AreStimuli probe.stimuli said) }
     ensures tag { IfOk result (λ probe. IsTag probe.tag) }
     ensures refused { IfErr result (λ fault. IsFirstFault text.now fault.line fault.reason) }
 {

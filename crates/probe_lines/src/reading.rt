@@ -2,9 +2,9 @@
 ghost use Rattle.std.specs.Prelude.{◌≡◌, ◌<◌, ◌≤◌, ◌↔◌, ◌⊎◌, [], ◌∷◌, length, IfOk, IfErr, IfSome, IfNone, IsOk, IsTrue, IsFalse, Some};
 ghost use Rattle.text_fields.specs.Binary.{binary};
 ghost use Rattle.text_fields.specs.Lines.{fields_of};
-ghost use Rattle.probe_lines.specs.LineFaults.{AreFaultyBits, AreFaultyEnd, BeginsWith, IsFaultyProbeLine};
+ghost use Rattle.probe_lines.specs.LineFaults.{AreFaultyBits, AreFaultyEnd, BeginsWithWord, IsFaultyProbeLine};
 ghost use Rattle.probe_lines.specs.Said.{probe_line_with};
-ghost use Rattle.probe_lines.specs.ProbeLine.{SpellsProbeLine, SpellsTag, line_word, most_bits};
+ghost use Rattle.probe_lines.specs.ProbeLine.{SpellsProbeLine, SpellsTag, line_word, most_line_bits};
 ghost use Rattle.scenario_lines.specs.declared.first_fields.Keyword.{Keyword};
 ghost use Rattle.scenario_lines.specs.Names.{keyword_text};
 ghost use Rattle.probe_lines.specs.ProbeText.{BeginsAsTag, HasRoom, IsFaultyBehind, IsFaultyTagLine, IsTooMuch, most_stimuli};
@@ -40,7 +40,7 @@ fn word_named(field: &[u8]) -> Option<LineWord>
 /// The word that a line begins with, and the fields behind it; none exactly where it begins with none of the words.
 fn split_word(line: &[u8]) -> Option<(LineWord, Fields<'_>)>
     ensures some { IfSome result (λ it. fields_of line.now ≡ line_word it.0 ∷ it.1) }
-    ensures none { IfNone result ((word : LineWord) → ¬ BeginsWith (fields_of line.now) word) }
+    ensures none { IfNone result ((word : LineWord) → ¬ BeginsWithWord (fields_of line.now) word) }
 {
     let mut others = Fields::new(line);
     let word = word_named(others.next()?)?;
@@ -49,7 +49,8 @@ fn split_word(line: &[u8]) -> Option<(LineWord, Fields<'_>)>
 
 /// The bits that the fields behind `bits` spell.
 fn read_bits<'a>(others: Fields<'a>) -> Result<Digits<'a>, FieldsFault>
-    ensures ok { IfOk result (λ bits. (others.entry ≡ binary bits ∷ []) × (length bits ≤ most_bits)) }
+    ensures ok { IfOk result
+        (λ bits. (others.entry ≡ binary bits ∷ []) × (length bits ≤ most_line_bits)) }
     ensures refused { IfErr result (AreFaultyBits others.entry) }
 {
     let Some(field) = one_field(others) else {
@@ -82,7 +83,8 @@ pub fn read_probe_line<'a>(
     line: &'a [u8],
     command: &mut Command,
 ) -> Result<SaidLine<'a>, FieldsFault>
-    ensures ok { IfOk result (λ said. SpellsProbeLine (fields_of line.now) (probe_line_with said command.new)) }
+    ensures ok { IfOk result
+        (λ said. SpellsProbeLine (fields_of line.now) (probe_line_with said command.new)) }
     ensures refused { IfErr result (IsFaultyProbeLine (fields_of line.now)) }
 {
     match split_word(line) {
@@ -106,8 +108,8 @@ pub fn read_probe_line<'a>(
 /// Whether a line begins with `end`.
 #[tactic(auto, using(crate::proofs::FaultyLines::no_ends))]
 fn begins_with_end(line: &[u8]) -> bool
-    ensures yes { IsTrue result → BeginsWith (fields_of line.now) LineWord.End }
-    ensures no { IsFalse result → ¬ BeginsWith (fields_of line.now) LineWord.End }
+    ensures yes { IsTrue result → BeginsWithWord (fields_of line.now) LineWord.End }
+    ensures no { IsFalse result → ¬ BeginsWithWord (fields_of line.now) LineWord.End }
 {
     match split_word(line) {
         Some((LineWord::End, _)) => true,
@@ -120,7 +122,8 @@ fn begins_with_end(line: &[u8]) -> bool
 /// Whether a line is one too many behind so many.
 fn is_too_much(line: &[u8], count: u32) -> bool
     ensures yes { IsTrue result → IsTooMuch count (fields_of line.now) }
-    ensures no { IsFalse result → (count < most_stimuli) ⊎ BeginsWith (fields_of line.now) LineWord.End }
+    ensures no { IsFalse result → (count < most_stimuli)
+        ⊎ BeginsWithWord (fields_of line.now) LineWord.End }
 {
     if count < MOST_STIMULI {
         return false;
@@ -140,7 +143,9 @@ pub fn read_behind<'a>(
     count: u32,
     command: &mut Command,
 ) -> Result<SaidLine<'a>, FaultReason>
-    ensures ok { IfOk result (λ said. SpellsProbeLine (fields_of line.now) (probe_line_with said command.new) × HasRoom count (probe_line_with said command.new)) }
+    ensures ok { IfOk result
+        (λ said. SpellsProbeLine (fields_of line.now) (probe_line_with said command.new)
+        × HasRoom count (probe_line_with said command.new)) }
     ensures refused { IfErr result (IsFaultyBehind count (fields_of line.now)) }
 {
     // By these laws a line says something or is faulty for one reason.

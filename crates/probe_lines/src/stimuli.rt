@@ -54,7 +54,8 @@ impl<'a> Stimuli<'a> {
     /// The first faulty line.
     pub(crate) fn new(text: &'a [u8]) -> Result<Stimuli<'a>, FaultyLine>
         ensures ok { IfOk result (λ it. (it ≡ lines_of text.now) × EndProbe (lines_of text.now)) }
-        ensures refused { IfErr result (λ fault. IsFirstFaultBehind (lines_of text.now) fault.line fault.reason) }
+        ensures refused { IfErr result
+            (λ fault. IsFirstFaultBehind (lines_of text.now) fault.line fault.reason) }
     {
         let mut command = Command::Nak;
         let mut rest = text;
@@ -83,8 +84,10 @@ impl<'a> Stimuli<'a> {
     /// What is done next; none where nothing more is. A command takes the place of another.
     pub(crate) fn next_to(&mut self, command: &mut Command) -> Option<SaidStimulus<'a>>
         ensures some { IfSome result (λ it. IsProbeLine (Does (stimulus_with it command.new))
-            × ((said : List Stimulus) → SayStimuli self.old said → (left : List Stimulus) × (said ≡ stimulus_with it command.new ∷ left) × SayStimuli self.new left)) }
-        ensures none { IfNone result ((said : List Stimulus) → SayStimuli self.old said → said ≡ []) }
+            × ((said : List Stimulus) → SayStimuli self.old said → (left : List Stimulus)
+            × (said ≡ stimulus_with it command.new ∷ left) × SayStimuli self.new left)) }
+        ensures none { IfNone result
+            ((said : List Stimulus) → SayStimuli self.old said → said ≡ []) }
         ensures fewer { IfSome result (λ _. length self.new < length self.old) }
     {
         // A line says one thing alone, and what says something is not faulty.

@@ -2,3 +2,4 @@ pub mod RoundLaws
 pub mod RoundFacts
 pub mod TurnFacts
 pub mod RoundAnswers
+pub mod SlotLaws

@@ -11,7 +11,7 @@ use Rattle.q_round.specs.declared.round.Stage.TheVariants as stages
 use Rattle.q_round.specs.declared.rule.Rule.{Rule}
 use Rattle.q_round.specs.SpecValue.{SpecValue}
 use Rattle.q_round.specs.Rounds.{goes_up, goes_down, Turn, adjust, rep, limit, turn_of, frame_of, is_over, slots_of}
-use Rattle.q_round.specs.laws.SlotLaws.{slots-underway}
+use Rattle.q_round.proofs.SlotLaws.{slots-underway}
 use Rattle.q_round.proofs.TurnFacts.{turn_at}
 use Rattle.q_round.specs.RoundValue.{RoundValue, frame_after_outcome, change_of, frame_begun_by, IsFrameOf, IsStageOf, RoundStandsFor, IsNextAnswer}
 

@@ -4,7 +4,7 @@ use Rattle.command_fields.specs.declared.choices.UpDn.TheVariants.{Up, Same, Dow
 use Rattle.pie_line.specs.Link.{LinkValue}
 use Rattle.q_round.specs.declared.frame.Outcome.{Outcome}
 use Rattle.q_round.specs.laws.RoundFacts.{IsNextTurn, RoundFacts}
-use Rattle.q_round.specs.Rounds.{Turn, query, adjust, rep, quiet, limit, turn_of, q_of, frame_of, AreOutcomes, answer_of, next_command}
+use Rattle.q_round.specs.Rounds.{Turn, query, adjust, rep, quiet, limit, turn_of, q_of, frame_of, AreOutcomes, next_of_turn, next_command}
 use Rattle.q_round.specs.SpecValue.{SpecValue, IsLegalSpec}
 use Rattle.q_round.proofs.RoundLaws.{next_at, counted-at, turn-known, q-in-range, quiet-frame}
 use Rattle.q_round.proofs.TurnFacts.{IsTurn, rep-sound}
@@ -25,7 +25,7 @@ turn-fits spec link outcome before rep t legal are known = rw t (record {
   frame_is = refl;
   room = rw (← add-one (length (frame_of spec before))) (rep-sound (next_at spec outcome before) (counted-at spec outcome before legal are) known.1).slots;
 })
-turn-fits spec link outcome before quiet t legal are known = rw t (quiet-frame spec link outcome before legal are (ap (λ turn. answer_of spec link turn) t))
+turn-fits spec link outcome before quiet t legal are known = rw t (quiet-frame spec link outcome before legal are (ap (λ turn. next_of_turn spec link turn) t))
 turn-fits spec link outcome before limit t legal are known = rw t tt
 
 pub facts : (spec : SpecValue) (link : LinkValue) → IsLegalSpec spec → RoundFacts spec link

@@ -8,10 +8,10 @@ use Rattle.q_round.specs.declared.frame.Outcome.{Outcome}
 use Rattle.q_round.specs.declared.frame.Outcome.TheVariants.{Silence, Whole, Refused}
 use Rattle.q_round.specs.declared.round.Next.TheVariants.{Send, Quiet}
 use Rattle.q_round.specs.SpecValue.{SpecValue, IsLegalSpec}
-use Rattle.q_round.specs.Rounds.{qfp_of, is_silent, all_silent, refused_in, Turn, query, adjust, rep, quiet, limit, q_after, frame_after, ends, turn_of, q_of, frame_of, is_over, AreOutcomes, slots_of, answer_of, next_command}
+use Rattle.q_round.specs.Rounds.{qfp_of, is_silent, all_silent, refused_in, Turn, query, adjust, rep, quiet, limit, q_after, frame_after, is_last_turn, turn_of, q_of, frame_of, is_over, AreOutcomes, slots_of, next_of_turn, next_command}
 use Rattle.q_round.specs.RoundValue.{IsSoundFrame, IsCounted, frame_after_outcome, IsFrameOf}
 use Rattle.q_round.specs.laws.RoundLaws.{IsSilentFrame}
-use Rattle.q_round.specs.laws.SlotLaws.{slots-underway}
+use Rattle.q_round.proofs.SlotLaws.{slots-underway}
 use Rattle.q_round.proofs.TurnFacts.{IsTurn, turn-tells, counted-frame, begun-sound, rep-sound, some-slots, both}
 use Rattle.q_round.proofs.RoundAnswers.{turn-is}
 
@@ -41,7 +41,7 @@ turn-at spec outcome before on s =
     (turn-tells spec (length before + 1) next s)
 
 -- ... by cases on the turn
-frame-sound : (spec : SpecValue) (outcome : Outcome) (before : List Outcome) (turn : Turn) → turn_of spec (outcome ∷ before) ≡ turn → ends turn ≡ false →
+frame-sound : (spec : SpecValue) (outcome : Outcome) (before : List Outcome) (turn : Turn) → turn_of spec (outcome ∷ before) ≡ turn → is_last_turn turn ≡ false →
     is_over spec before ≡ false → IsCounted (next_at spec outcome before) → IsTurn turn spec.limit (length before + 1) (next_at spec outcome before) →
     IsSoundFrame (frame_at spec (outcome ∷ before))
 frame-sound spec outcome before query t goes on s known = absurd known
@@ -78,7 +78,7 @@ slots-within spec (outcome ∷ before) legal are =
     within spec outcome before (turn_of spec (outcome ∷ before)) refl (slots-within spec before legal are.1) (slots-underway spec before are.1 are.0) (turn-known spec outcome before legal are)
 
 -- Q is in its range, also where the round is over
-kept : (turn : Turn) (q : ℕ) → ends turn ≡ true → q_after turn q ≡ q
+kept : (turn : Turn) (q : ℕ) → is_last_turn turn ≡ true → q_after turn q ≡ q
 kept query q over = absurd (cc)
 kept (adjust updn) q over = absurd (cc)
 kept rep q over = absurd (cc)
@@ -106,7 +106,7 @@ all-silent (outcome ∷ before) h =
     let b = both (is_silent outcome) (all_silent before) h in
     (silent-is outcome b.0, all-silent before b.1)
 
-quiet-turn : (spec : SpecValue) (link : LinkValue) (turn : Turn) → answer_of spec link turn ≡ Quiet → turn ≡ quiet
+quiet-turn : (spec : SpecValue) (link : LinkValue) (turn : Turn) → next_of_turn spec link turn ≡ Quiet → turn ≡ quiet
 quiet-turn spec link query h = absurd (cc)
 quiet-turn spec link (adjust updn) h = absurd (cc)
 quiet-turn spec link rep h = absurd (cc)
@@ -124,7 +124,7 @@ quiet-frame spec link outcome before legal are h =
     }
 
 -- a QueryRep goes on
-rep-turn : (spec : SpecValue) (link : LinkValue) (session : ℕ) (turn : Turn) → answer_of spec link turn ≡ Send (QueryRep session) → turn ≡ rep
+rep-turn : (spec : SpecValue) (link : LinkValue) (session : ℕ) (turn : Turn) → next_of_turn spec link turn ≡ Send (QueryRep session) → turn ≡ rep
 rep-turn spec link session query h = absurd (cc)
 rep-turn spec link session (adjust updn) h = absurd (cc)
 rep-turn spec link session rep h = refl
@@ -135,7 +135,7 @@ pub rep-frame : (spec : SpecValue) (link : LinkValue) (session : ℕ) (outcomes 
     next_command spec link outcomes ≡ Send (QueryRep session) → length (frame_of spec outcomes) < 2 ^ q_of spec outcomes
 rep-frame spec link session outcomes legal are h =
     let t : turn_of spec outcomes ≡ rep = rep-turn spec link session (turn_of spec outcomes) h in
-    let on : is_over spec outcomes ≡ false = ap ends t in
+    let on : is_over spec outcomes ≡ false = ap is_last_turn t in
     (sound spec outcomes legal are on).slots
 
 -- the frame is the last of the outcomes

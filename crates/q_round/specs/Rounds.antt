@@ -128,27 +128,27 @@ q_of spec outcomes = (course_of spec outcomes).q
 abbrev pub frame_of : SpecValue → List Outcome → List Outcome
 frame_of spec outcomes = (course_of spec outcomes).frame
 
-abbrev pub answer_of : SpecValue → LinkValue → Turn → Next
-answer_of spec link query = Send (Query link.dr link.code link.trext spec.sel spec.session spec.target spec.q)
-answer_of spec link (adjust updn) = Send (QueryAdjust spec.session updn)
-answer_of spec link rep = Send (QueryRep spec.session)
-answer_of spec link quiet = Quiet
-answer_of spec link limit = Limit
+abbrev pub next_of_turn : SpecValue → LinkValue → Turn → Next
+next_of_turn spec link query = Send (Query link.dr link.code link.trext spec.sel spec.session spec.target spec.q)
+next_of_turn spec link (adjust updn) = Send (QueryAdjust spec.session updn)
+next_of_turn spec link rep = Send (QueryRep spec.session)
+next_of_turn spec link quiet = Quiet
+next_of_turn spec link limit = Limit
 
 -- the next slot command of a round, or its end
 abbrev pub next_command : SpecValue → LinkValue → List Outcome → Next
-next_command spec link outcomes = answer_of spec link (turn_of spec outcomes)
+next_command spec link outcomes = next_of_turn spec link (turn_of spec outcomes)
 
-abbrev pub ends : Turn → Bool
-ends query = false
-ends (adjust updn) = false
-ends rep = false
-ends quiet = true
-ends limit = true
+abbrev pub is_last_turn : Turn → Bool
+is_last_turn query = false
+is_last_turn (adjust updn) = false
+is_last_turn rep = false
+is_last_turn quiet = true
+is_last_turn limit = true
 
 -- no slot follows these outcomes
 abbrev pub is_over : SpecValue → List Outcome → Bool
-is_over spec outcomes = ends (turn_of spec outcomes)
+is_over spec outcomes = is_last_turn (turn_of spec outcomes)
 
 -- no outcome stands behind the end of the round
 abbrev pub AreOutcomes : SpecValue → List Outcome → Type 0

@@ -16,13 +16,13 @@ pub record SpecValue : Type 0 where
   pub limit : ℕ
 
 -- Annex D: by how much a slot moves Qfp, 0.1 to 0.5, here in thousandths (profile)
-abbrev pub IsStep : ℕ → Type 0
-IsStep c = (100 ≤ c) × (c ≤ 500)
+abbrev pub IsQfpStep : ℕ → Type 0
+IsQfpStep c = (100 ≤ c) × (c ≤ 500)
 
 -- what a rule has of numbers is within its range
 abbrev pub IsLegalRule : Rule → Type 0
 IsLegalRule Fixed = Unit {0}
-IsLegalRule (Float c) = IsStep c
+IsLegalRule (Float c) = IsQfpStep c
 IsLegalRule Frame = Unit {0}
 
 -- profile: how many slot commands a round may give

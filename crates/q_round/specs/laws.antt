@@ -1,3 +1,2 @@
 pub mod RoundLaws
 pub mod RoundFacts
-pub mod SlotLaws

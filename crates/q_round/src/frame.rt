@@ -35,7 +35,8 @@ pub(crate) struct Frame {
 impl Frame {
     /// The frame that a Query begins.
     pub(crate) fn new(q: QValue) -> Frame
-        ensures value { result ≡ record { q = q; qfp = 1000 * q; slots = 0; refused = 0; silent = true } }
+        ensures value { result
+            ≡ record { q = q; qfp = 1000 * q; slots = 0; refused = 0; silent = true } }
         ensures sound { IsSoundFrame result }
     {
         let q = u32::from(q.get());

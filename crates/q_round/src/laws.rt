@@ -18,29 +18,43 @@ ghost use Rattle.q_round.specs.laws.RoundLaws.{MovesQ, IsSilentFrame, IsLegalNex
 /// given one more of them than it was given outcomes; where it is over, an end comes next, and each slot
 /// command had its outcome.
 pub fn round_laws()
-    ensures limit { (spec : SpecValue) (outcomes : List Outcome) → IsLegalSpec spec → AreOutcomes spec outcomes →
+    ensures limit { (spec : SpecValue) (outcomes : List Outcome) → IsLegalSpec spec
+        → AreOutcomes spec outcomes →
         slots_of spec outcomes ≤ spec.limit }
-    ensures range { (spec : SpecValue) (outcomes : List Outcome) → IsLegalSpec spec → AreOutcomes spec outcomes →
+    ensures range { (spec : SpecValue) (outcomes : List Outcome) → IsLegalSpec spec
+        → AreOutcomes spec outcomes →
         q_of spec outcomes ≤ 15 }
-    ensures moves { (spec : SpecValue) (link : LinkValue) (outcome : Outcome) (before : List Outcome) → IsLegalSpec spec → AreOutcomes spec (outcome ∷ before) →
-        MovesQ (next_command spec link (outcome ∷ before)) (q_of spec before) (q_of spec (outcome ∷ before)) }
-    ensures quiet { (spec : SpecValue) (link : LinkValue) (outcome : Outcome) (before : List Outcome) → IsLegalSpec spec → AreOutcomes spec (outcome ∷ before) →
-        next_command spec link (outcome ∷ before) ≡ Quiet → IsSilentFrame (q_of spec before) (outcome ∷ frame_of spec before) }
-    ensures rep { (spec : SpecValue) (link : LinkValue) (session : ℕ) (outcomes : List Outcome) → IsLegalSpec spec → AreOutcomes spec outcomes →
-        next_command spec link outcomes ≡ Send (QueryRep session) → length (frame_of spec outcomes) < 2 ^ q_of spec outcomes }
+    ensures moves { (spec : SpecValue) (link : LinkValue) (outcome : Outcome)
+        (before : List Outcome) → IsLegalSpec spec → AreOutcomes spec (outcome ∷ before) →
+        MovesQ (next_command spec link (outcome ∷ before)) (q_of spec before)
+        (q_of spec (outcome ∷ before)) }
+    ensures quiet { (spec : SpecValue) (link : LinkValue) (outcome : Outcome)
+        (before : List Outcome) → IsLegalSpec spec → AreOutcomes spec (outcome ∷ before) →
+        next_command spec link (outcome ∷ before) ≡ Quiet
+        → IsSilentFrame (q_of spec before) (outcome ∷ frame_of spec before) }
+    ensures rep { (spec : SpecValue) (link : LinkValue) (session : ℕ) (outcomes : List Outcome)
+        → IsLegalSpec spec → AreOutcomes spec outcomes →
+        next_command spec link outcomes ≡ Send (QueryRep session)
+        → length (frame_of spec outcomes) < 2 ^ q_of spec outcomes }
     ensures frame { (spec : SpecValue) (outcomes : List Outcome) →
         (earlier : List Outcome) × (outcomes ≡ frame_of spec outcomes ++ earlier) }
-    ensures legal { (spec : SpecValue) (link : LinkValue) (outcomes : List Outcome) → IsLegalSpec spec →
+    ensures legal { (spec : SpecValue) (link : LinkValue) (outcomes : List Outcome)
+        → IsLegalSpec spec →
         IsLegalNext (next_command spec link outcomes) }
     ensures begins { (spec : SpecValue) (link : LinkValue) →
-        next_command spec link [] ≡ Send (Query link.dr link.code link.trext spec.sel spec.session spec.target spec.q) }
-    ensures underway { (spec : SpecValue) (outcomes : List Outcome) → AreOutcomes spec outcomes → is_over spec outcomes ≡ false →
+        next_command spec link []
+        ≡ Send (Query link.dr link.code link.trext spec.sel spec.session spec.target spec.q) }
+    ensures underway { (spec : SpecValue) (outcomes : List Outcome) → AreOutcomes spec outcomes
+        → is_over spec outcomes ≡ false →
         slots_of spec outcomes ≡ length outcomes + 1 }
-    ensures over { (spec : SpecValue) (outcomes : List Outcome) → AreOutcomes spec outcomes → is_over spec outcomes ≡ true →
+    ensures over { (spec : SpecValue) (outcomes : List Outcome) → AreOutcomes spec outcomes
+        → is_over spec outcomes ≡ true →
         slots_of spec outcomes ≡ length outcomes }
-    ensures next_slot { (spec : SpecValue) (link : LinkValue) (outcomes : List Outcome) → is_over spec outcomes ≡ false →
+    ensures next_slot { (spec : SpecValue) (link : LinkValue) (outcomes : List Outcome)
+        → is_over spec outcomes ≡ false →
         SendsSlotCommand spec.session (next_command spec link outcomes) }
-    ensures next_end { (spec : SpecValue) (link : LinkValue) (outcomes : List Outcome) → is_over spec outcomes ≡ true →
+    ensures next_end { (spec : SpecValue) (link : LinkValue) (outcomes : List Outcome)
+        → is_over spec outcomes ≡ true →
         IsEnd (next_command spec link outcomes) }
 {}
 

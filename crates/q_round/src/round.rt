@@ -54,7 +54,8 @@ impl Model for Round {
 
     ghost view = { λ a. record { spec = a.spec; stage = a.stage; slots_sent = a.slots_sent } };
 
-    ghost invariant = { λ a. IsSoundRound (record { spec = a.spec; stage = a.stage; slots_sent = a.slots_sent }) };
+    ghost invariant = { λ a. IsSoundRound
+        (record { spec = a.spec; stage = a.stage; slots_sent = a.slots_sent }) };
 }
 
 impl Round {
@@ -93,12 +94,16 @@ impl Round {
     /// one has room for the longest list of words. After the end it is the same end, whatever the outcome.
     pub fn next(&mut self, outcome: Outcome, command: &mut Command) -> Option<RoundEnd>
         // The round stands for the list of outcomes that it was given, the latest first.
-        ensures answer { (spec : SpecValue) (outcomes : List Outcome) → RoundStandsFor self.old spec outcomes → is_over spec outcomes ≡ false →
+        ensures answer { (spec : SpecValue) (outcomes : List Outcome)
+            → RoundStandsFor self.old spec outcomes → is_over spec outcomes ≡ false →
             IsNextAnswer (next_of result command.new) self.new spec (outcome ∷ outcomes) }
-        ensures again { (spec : SpecValue) (outcomes : List Outcome) → RoundStandsFor self.old spec outcomes → is_over spec outcomes ≡ true →
-            (self.new ≡ self.old) × IsNextAnswer (next_of result command.new) self.new spec outcomes }
+        ensures again { (spec : SpecValue) (outcomes : List Outcome)
+            → RoundStandsFor self.old spec outcomes → is_over spec outcomes ≡ true →
+            (self.new ≡ self.old)
+            × IsNextAnswer (next_of result command.new) self.new spec outcomes }
         ensures spec { self.new.spec ≡ self.old.spec }
-        ensures sent { self.new.slots_sent ≡ self.old.slots_sent + slots_in (next_of result command.new) }
+        ensures sent { self.new.slots_sent ≡ self.old.slots_sent
+            + slots_in (next_of result command.new) }
         ensures limit { self.new.slots_sent ≤ self.new.spec.limit }
     {
         let frame = match self.stage {
@@ -131,7 +136,8 @@ impl Round {
     /// How many slot commands the round has given so far, its Query among them.
     pub fn slots_sent(&self) -> u32
         ensures value { result ≡ self.now.slots_sent }
-        ensures stands { (spec : SpecValue) (outcomes : List Outcome) → RoundStandsFor self.now spec outcomes → result ≡ slots_of spec outcomes }
+        ensures stands { (spec : SpecValue) (outcomes : List Outcome)
+            → RoundStandsFor self.now spec outcomes → result ≡ slots_of spec outcomes }
         ensures limit { result ≤ self.now.spec.limit }
     {
         self.slots_sent

@@ -25,7 +25,8 @@ impl Model for RoundSpec {
 
     ghost view = { λ a. record { sel = a.sel; session = a.session; target = a.target; q = a.q; rule = a.rule; limit = a.limit } };
 
-    ghost invariant = { λ a. IsLegalSpec (record { sel = a.sel; session = a.session; target = a.target; q = a.q; rule = a.rule; limit = a.limit }) };
+    ghost invariant = { λ a. IsLegalSpec
+        (record { sel = a.sel; session = a.session; target = a.target; q = a.q; rule = a.rule; limit = a.limit }) };
 
     ghost inverse = { λ v. record { sel = v.sel; session = v.session; target = v.target; q = v.q; rule = v.rule; limit = v.limit } };
 }
@@ -45,7 +46,8 @@ impl RoundSpec {
         rule: Rule,
         limit: u32,
     ) -> Option<RoundSpec>
-        ensures spec { IfSome result (λ spec. spec ≡ record { sel = sel; session = session; target = target; q = q; rule = rule; limit = limit }) }
+        ensures spec { IfSome result
+            (λ spec. spec ≡ record { sel = sel; session = session; target = target; q = q; rule = rule; limit = limit }) }
         ensures legal { IfSome result IsLegalSpec }
         ensures none { IsNone result ↔ ¬ (IsLegalRule rule × IsLimit limit) }
     {

@@ -7,7 +7,7 @@ use Rattle.reply_grammar.specs.declared.expected.ReplyRefusal.{ReplyRefusal}
 use Rattle.reply_grammar.specs.Table.{AnswersExpected}
 use Rattle.reply_grammar.specs.Refusals.{RefusesReply}
 use Rattle.reply_grammar.specs.laws.Passing.{answers_pass}
-use Rattle.reply_grammar.specs.laws.Replies.{one_reply, one_fault, passes_apart}
+use Rattle.reply_grammar.proofs.Replies.{one_reply, one_fault, passes_apart}
 
 pub decided : (result : Result Reply ReplyRefusal) (e : Expect) (bits : List Bool) → IfOk result (λ reply. AnswersExpected reply e bits) → IfErr result (λ refusal. RefusesReply refusal e bits) → (reply : Reply) → AnswersExpected reply e bits → result ≡ Ok reply
 decided (Ok found) e bits ok refused reply answers = ap (λ (r : Reply). Ok r) (one_reply found reply e bits ok answers)

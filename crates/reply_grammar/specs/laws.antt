@@ -2,7 +2,4 @@
 pub mod Passing
 pub mod PassingReplies
 pub mod Reading
-pub mod Replies
-pub mod SamePairs
 pub mod SomeReply
-pub mod Suiting

@@ -23,8 +23,10 @@ const ERROR_LENGTH: u32 = 41;
 pub fn decode_reply(bits: &Bits, expect: &Expect) -> Result<Reply, ReplyRefusal>
     ensures ok { IfOk result (λ reply. AnswersExpected reply expect.now bits.now.items) }
     ensures refused { IfErr result (λ refusal. RefusesReply refusal expect.now bits.now.items) }
-    ensures only { (reply : Reply) → AnswersExpected reply expect.now bits.now.items → result ≡ Ok reply }
-    ensures first { (refusal : ReplyRefusal) → RefusesReply refusal expect.now bits.now.items → result ≡ Err refusal }
+    ensures only { (reply : Reply) → AnswersExpected reply expect.now bits.now.items
+        → result ≡ Ok reply }
+    ensures first { (refusal : ReplyRefusal) → RefusesReply refusal expect.now bits.now.items
+        → result ≡ Err refusal }
 {
     take_apart(bits, expect)
 }
@@ -102,7 +104,8 @@ fn fits_epc(bits: &Bits) -> bool
 
 /// Whether a length is that of 1 to 512 words with header, handle and CRC-16.
 fn fits_any_words(length: u32) -> bool
-    ensures { IsTrue result ↔ ((count : ℕ) × (1 ≤ count) × (count ≤ 512) × (length ≡ 33 + 16 * count)) }
+    ensures { IsTrue result
+        ↔ ((count : ℕ) × (1 ≤ count) × (count ≤ 512) × (length ≡ 33 + 16 * count)) }
 {
     if length < 49 {
         return false;
@@ -302,7 +305,8 @@ fn epc_words(bits: &Bits) -> EpcWords
 fn read_words_to(bits: &Bits, count: u32, reply: &mut Reply)
     requires few { count ≤ 512 }
     requires whole { length bits.now.items ≡ 33 + 16 * count }
-    ensures { (words : List ℕ) × (reply.new ≡ Words words) × ReadTo bits.now.items 1 (length bits.now.items - 32) words }
+    ensures { (words : List ℕ) × (reply.new ≡ Words words)
+        × ReadTo bits.now.items 1 (length bits.now.items - 32) words }
 {
     // The room of words is taken over as it is.
     if let Reply::Words(words) = reply {

@@ -21,7 +21,8 @@ pub fn encode_reply(reply: &Reply, handle: u16, out: &mut Bits)
     ensures few_words { FitsBank reply.now }
     ensures least { 16 ≤ length out.new.items }
     ensures most { length out.new.items ≤ longest_reply }
-    ensures answers { (expect : Expect) → Suits reply.now expect → Carries expect handle → AnswersExpected reply.now expect out.new.items }
+    ensures answers { (expect : Expect) → Suits reply.now expect → Carries expect handle
+        → AnswersExpected reply.now expect out.new.items }
 {
     write_reply(reply, handle, out);
 }

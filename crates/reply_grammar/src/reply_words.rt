@@ -21,7 +21,8 @@ impl Model for EpcWords {
 
     ghost view = { λ a. a.words.items };
 
-    ghost invariant = { λ a. (length a.words.items ≤ 31) × All (λ word. word < 2 ^ 16) a.words.items };
+    ghost invariant = { λ a. (length a.words.items ≤ 31)
+        × All (λ word. word < 2 ^ 16) a.words.items };
 
     ghost inverse = { λ words. record { words = record { items = words } } };
 }
@@ -116,7 +117,8 @@ impl Model for ReadWords {
 
     ghost view = { λ a. a.words.items };
 
-    ghost invariant = { λ a. (length a.words.items ≤ 512) × All (λ word. word < 2 ^ 16) a.words.items };
+    ghost invariant = { λ a. (length a.words.items ≤ 512)
+        × All (λ word. word < 2 ^ 16) a.words.items };
 
     ghost inverse = { λ words. record { words = record { items = words } } };
 }

@@ -22,7 +22,8 @@ const HYPHEN_AND_HANDLE: usize = 5;
 /// in decimal digits.
 pub fn expect_of(field: &[u8]) -> Option<Expect>
     ensures value { IfSome result (λ expect. (field.now ≡ expect_word expect) × IsExpect expect) }
-    ensures only { (expect : Expect) → IsExpect expect → field.now ≡ expect_word expect → result ≡ Some expect }
+    ensures only { (expect : Expect) → IsExpect expect → field.now ≡ expect_word expect
+        → result ≡ Some expect }
 {
     match field {
         b"rn16" => Some(Expect::Rn16),
@@ -35,11 +36,15 @@ pub fn expect_of(field: &[u8]) -> Option<Expect>
 /// The expectation with a handle that a field spells.
 fn with_handle(field: &[u8]) -> Option<Expect>
     ensures value { IfSome result (λ expect. (field.now ≡ expect_word expect) × IsExpect expect) }
-    ensures same { (handle : ℕ) → handle < 2 ^ 16 → field.now ≡ expect_word (Expect.Same handle) → result ≡ Some (Expect.Same handle) }
-    ensures any { (handle : ℕ) → handle < 2 ^ 16 → field.now ≡ expect_word (Expect.AnyWords handle) → result ≡ Some (Expect.AnyWords handle) }
-    ensures header { (handle : ℕ) → handle < 2 ^ 16 → field.now ≡ expect_word (Expect.Header handle) → result ≡ Some (Expect.Header handle) }
+    ensures same { (handle : ℕ) → handle < 2 ^ 16 → field.now ≡ expect_word (Expect.Same handle)
+        → result ≡ Some (Expect.Same handle) }
+    ensures any { (handle : ℕ) → handle < 2 ^ 16 → field.now ≡ expect_word (Expect.AnyWords handle)
+        → result ≡ Some (Expect.AnyWords handle) }
+    ensures header { (handle : ℕ) → handle < 2 ^ 16 → field.now ≡ expect_word (Expect.Header handle)
+        → result ≡ Some (Expect.Header handle) }
     ensures words { (count handle : ℕ) → 1 ≤ count → count ≤ 255 → handle < 2 ^ 16
-        → field.now ≡ expect_word (Expect.Words count handle) → result ≡ Some (Expect.Words count handle) }
+        → field.now ≡ expect_word (Expect.Words count handle)
+        → result ≡ Some (Expect.Words count handle) }
 {
     if let Some(handle) = handle_behind(field, b"same-") {
         return Some(Expect::Same(handle));
@@ -57,7 +62,8 @@ fn with_handle(field: &[u8]) -> Option<Expect>
 /// The handle behind a front; none exactly where the text is not this front and a handle.
 fn handle_behind(text: &[u8], front: &[u8]) -> Option<u16>
     ensures value { IfSome result (λ handle. text.now ≡ front.now ++ hex_word handle) }
-    ensures only { (handle : ℕ) → handle < 2 ^ 16 → text.now ≡ front.now ++ hex_word handle → result ≡ Some handle }
+    ensures only { (handle : ℕ) → handle < 2 ^ 16 → text.now ≡ front.now ++ hex_word handle
+        → result ≡ Some handle }
 {
     word(behind(text, front)?)
 }
@@ -65,7 +71,8 @@ fn handle_behind(text: &[u8], front: &[u8]) -> Option<u16>
 /// What stands behind a front; none exactly where the text doesn't begin with it.
 fn behind<'a>(text: &'a [u8], front: &[u8]) -> Option<&'a [u8]>
     ensures value { IfSome result (λ rest. text.now ≡ front.now ++ rest.now) }
-    ensures only { (rest : List ℕ) → text.now ≡ front.now ++ rest → IsSomeAnd result (λ it. it.now ≡ rest) }
+    ensures only { (rest : List ℕ) → text.now ≡ front.now ++ rest
+        → IsSomeAnd result (λ it. it.now ≡ rest) }
 {
     text.strip_prefix(front)
 }
@@ -94,7 +101,8 @@ fn split_tail(text: &[u8]) -> Option<(&[u8], &[u8])>
 /// The number of words from 1 to 255 that a text spells; none exactly where it spells no such number.
 fn word_count(text: &[u8]) -> Option<Count1>
     ensures value { IfSome result (λ count. text.now ≡ decimal count) }
-    ensures only { (count : ℕ) → 1 ≤ count → count ≤ 255 → text.now ≡ decimal count → result ≡ Some count }
+    ensures only { (count : ℕ) → 1 ≤ count → count ≤ 255 → text.now ≡ decimal count
+        → result ≡ Some count }
 {
     Count1::new(number(text, MOST_WORDS)? as u8)
 }

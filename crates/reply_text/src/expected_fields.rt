@@ -13,7 +13,8 @@ use text_fields::{push_next_name, push_number, push_word};
 /// Writes what is expected as the next field, as [`expect_of`](crate::expect_of) reads it. After an error the text may hold
 /// a part of it.
 pub fn push_next_expect(text: &mut String, expect: &Expect) -> Result<(), OutOfMemory>
-    ensures { OnOk result (string_bytes text.new ≡ string_bytes text.old ++ space ∷ expect_word expect.now) }
+    ensures { OnOk result (string_bytes text.new ≡ string_bytes text.old
+        ++ space ∷ expect_word expect.now) }
 {
     match expect {
         Expect::Rn16 => push_next_name(text, "rn16"),
@@ -28,7 +29,8 @@ pub fn push_next_expect(text: &mut String, expect: &Expect) -> Result<(), OutOfM
 
 /// Writes a field that is a front and a handle.
 fn push_front(text: &mut String, front: &str, handle: u16) -> Result<(), OutOfMemory>
-    ensures { OnOk result (string_bytes text.new ≡ string_bytes text.old ++ space ∷ (front.now ++ hex_word handle)) }
+    ensures { OnOk result (string_bytes text.new ≡ string_bytes text.old
+        ++ space ∷ (front.now ++ hex_word handle)) }
 {
     push_next_name(text, front)?;
     push_word(text, handle)

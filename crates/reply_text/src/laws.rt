@@ -8,19 +8,21 @@ ghost use Rattle.reply_grammar.specs.declared.expected.Reply.{Reply};
 ghost use Rattle.reply_text.specs.ReplyText.{IsExpect, IsFaultyReply, IsReplyText, expect_word, reply_fields, reply_line};
 
 /// Each spelling of an expectation may stand as a field.
-#[tactic(auto, using(crate::specs::laws::FieldTexts::expect_word_is_field_text))]
+#[tactic(auto, using(crate::proofs::FieldTexts::expect_word_is_field_text))]
 pub fn expectations_are_field_texts()
     ensures { (expect : Expect) → IsExpect expect → IsFieldText (expect_word expect) }
 {}
 
 /// Two expectations are not spelled alike.
 pub fn expectations_are_told_apart()
-    ensures { (one other : Expect) → IsExpect one → IsExpect other → expect_word one ≡ expect_word other → one ≡ other }
+    ensures { (one other : Expect) → IsExpect one → IsExpect other
+        → expect_word one ≡ expect_word other → one ≡ other }
 {}
 
 /// Fields spell at most one reply.
 pub fn replies_are_told_apart()
-    ensures { (fields : List (List ℕ)) (one other : Reply) → IsReplyText fields one → IsReplyText fields other → one ≡ other }
+    ensures { (fields : List (List ℕ)) (one other : Reply) → IsReplyText fields one
+        → IsReplyText fields other → one ≡ other }
 {}
 
 /// Each field of a reply may stand as a field.
@@ -35,10 +37,12 @@ pub fn reply_lines_come_back()
 
 /// Fields that spell a reply are not faulty.
 pub fn spelled_replies_are_not_faulty()
-    ensures { (fields : List (List ℕ)) (reply : Reply) (fault : FieldsFault) → IsReplyText fields reply → IsFaultyReply fields fault → ⊥ }
+    ensures { (fields : List (List ℕ)) (reply : Reply) (fault : FieldsFault)
+        → IsReplyText fields reply → IsFaultyReply fields fault → ⊥ }
 {}
 
 /// Fields are faulty for at most one reason.
 pub fn replies_have_one_fault()
-    ensures { (fields : List (List ℕ)) (one other : FieldsFault) → IsFaultyReply fields one → IsFaultyReply fields other → one ≡ other }
+    ensures { (fields : List (List ℕ)) (one other : FieldsFault) → IsFaultyReply fields one
+        → IsFaultyReply fields other → one ≡ other }
 {}

@@ -37,8 +37,10 @@ fn read_epc(fields: Fields) -> Option<Reply>
 /// The words that the field behind `words` spells.
 fn read_words(fields: Fields) -> Option<ReadWords>
     requires { AreFilled 1 fields }
-    ensures value { IfSome result (λ words. (fields.entry ≡ hex_words words ∷ []) × IsWordList 1 512 words) }
-    ensures none { IfNone result ((words : List ℕ) → IsWordList 1 512 words → fields.entry ≢ hex_words words ∷ []) }
+    ensures value { IfSome result
+        (λ words. (fields.entry ≡ hex_words words ∷ []) × IsWordList 1 512 words) }
+    ensures none { IfNone result
+        ((words : List ℕ) → IsWordList 1 512 words → fields.entry ≢ hex_words words ∷ []) }
 {
     read_words_of(one_field(fields)?)
 }
@@ -80,7 +82,8 @@ pub fn read_reply(mut fields: Fields) -> Result<Reply, FieldsFault>
     // What is read is spelled so.
     ensures ok { IfOk result (IsReplyText fields.entry) }
     // What is spelled so is read.
-    ensures only { (reply : Reply) → IsReplyText fields.entry reply → IsOkAnd result (λ it. it ≡ reply) }
+    ensures only { (reply : Reply) → IsReplyText fields.entry reply
+        → IsOkAnd result (λ it. it ≡ reply) }
     ensures refused { IfErr result (IsFaultyReply fields.entry) }
 {
     let Some(name) = fields.next() else {

@@ -1,1 +1,2 @@
 pub mod RepliesReceived
+pub mod ReceivedLaws

@@ -1,2 +1,1 @@
-pub mod ReceivedLaws
 pub mod SomeReceived

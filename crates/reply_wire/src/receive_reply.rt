@@ -34,10 +34,19 @@ pub fn receive(
     requires room { length stream.now.items ≤ bits.old.capacity }
     requires few { length stream.now.items ≤ most_counted }
     ensures received { IsReceived (table_of code) trext expect.now stream.now.items received.new }
-    ensures only { (answer : Received) → IsReceived (table_of code) trext expect.now stream.now.items answer → received.new ≡ answer }
-    ensures only_whole { (reply : Reply) (sent : List Bool) → IsStream (table_of code) trext sent stream.now.items → AnswersExpected reply expect.now sent → (received.new ≡ Whole reply) × (bits.new.items ≡ sent) }
-    ensures whole { (reply : Reply) → received.new ≡ Whole reply → IsStream (table_of code) trext bits.new.items stream.now.items × AnswersExpected reply expect.now bits.new.items }
-    ensures flip { (sent whole : List Bool) (at : ℕ) → IsStream (table_of code) trext sent whole → at < length whole → stream.now.items ≡ with_level_flipped whole at → (place : ℕ) × (received.new ≡ Refused place) }
+    ensures only { (answer : Received)
+        → IsReceived (table_of code) trext expect.now stream.now.items answer
+        → received.new ≡ answer }
+    ensures only_whole { (reply : Reply) (sent : List Bool)
+        → IsStream (table_of code) trext sent stream.now.items
+        → AnswersExpected reply expect.now sent → (received.new ≡ Whole reply)
+        × (bits.new.items ≡ sent) }
+    ensures whole { (reply : Reply) → received.new ≡ Whole reply
+        → IsStream (table_of code) trext bits.new.items stream.now.items
+        × AnswersExpected reply expect.now bits.new.items }
+    ensures flip { (sent whole : List Bool) (at : ℕ) → IsStream (table_of code) trext sent whole
+        → at < length whole → stream.now.items ≡ with_level_flipped whole at → (place : ℕ)
+        × (received.new ≡ Refused place) }
     ensures refused { (place : ℕ) → received.new ≡ Refused place → bits.new.items ≡ [] }
     ensures capacity { bits.new.capacity ≡ bits.old.capacity }
 {
@@ -56,7 +65,9 @@ pub fn receive(
 
 /// Gives the reply that bits are, in place of what was received before. Where they are refused, nothing is known of what stands there.
 fn take_whole(bits: &Bits, expect: &Expect, received: &mut Received) -> Result<(), ReplyRefusal>
-    ensures whole { OnOk result ((reply : Reply) × (received.new ≡ Whole reply) × AnswersExpected reply expect.now bits.now.items) }
+    ensures whole { OnOk result
+        ((reply : Reply) × (received.new ≡ Whole reply)
+        × AnswersExpected reply expect.now bits.now.items) }
     ensures refused { IfErr result (λ refusal. RefusesReply refusal expect.now bits.now.items) }
 {
     // The room of a whole reply is taken over as it is.

@@ -7,3 +7,6 @@ pub mod Raising
 pub mod Skipping
 pub mod OneName
 pub mod SomeName
+pub mod JsonLaws
+pub mod SeenLaws
+pub mod SpelledLaws

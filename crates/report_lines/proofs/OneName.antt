@@ -6,7 +6,7 @@ use Rattle.std.specs.List.{AllZip, flat_map}
 use Rattle.std.proofs.lemmas.Bool.{cases_eq}
 use Rattle.text_fields.specs.Lines.{text_with}
 use Rattle.text_fields.specs.Hexadecimal.{hex_words}
-use Rattle.text_fields.specs.laws.ToldApart.{hex_words_told}
+use Rattle.text_fields.proofs.ToldApart.{hex_words_told}
 use Rattle.epc_sgtin.specs.SgtinValue.{SgtinValue}
 use Rattle.epc_sgtin.specs.Epc.{IsSgtin}
 use Rattle.epc_sgtin.specs.EpcFaults.{RefusesEpc}

@@ -1,10 +1,10 @@
 -- The entries of a map from pairs of PC and EPC to counts, as counts.
 use Rattle.std.specs.Prelude.{ℕ, List, map}
 use Rattle.report_lines.specs.declared.seen.Listed.{Listed}
-use Rattle.report_lines.specs.SeenCounts.{Seen}
+use Rattle.report_lines.specs.SeenCounts.{SeenCount}
 
-abbrev pub seen_of_entry : Listed × ℕ → Seen
+abbrev pub seen_of_entry : Listed × ℕ → SeenCount
 seen_of_entry entry = record { pc = entry.0.pc; epc = entry.0.epc; count = entry.1 }
 
-abbrev pub seen_of : List (Listed × ℕ) → List Seen
-seen_of entries = map seen_of_entry entries
+abbrev pub seen_of_listed : List (Listed × ℕ) → List SeenCount
+seen_of_listed entries = map seen_of_entry entries

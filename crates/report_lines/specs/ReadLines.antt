@@ -10,11 +10,11 @@ use Rattle.text_fields.specs.declared.fields_fault.FieldsFault.TheVariants.{Word
 use Rattle.report_lines.specs.ReportLine.{ReportLine, report_fields}
 
 -- how many intervals a tx line has at most, and how many levels an rx line
-abbrev pub most_intervals : ℕ
-most_intervals = 20000
+abbrev pub most_tx_intervals : ℕ
+most_tx_intervals = 20000
 
-abbrev pub most_levels : ℕ
-most_levels = 132000
+abbrev pub most_rx_levels : ℕ
+most_rx_levels = 132000
 
 -- a line without its line feed
 abbrev pub text_of : ReportLine → List ℕ
@@ -25,7 +25,7 @@ abbrev pub first_field : List ℕ → List ℕ
 first_field line = get_or (fields_of line) 0 []
 
 -- decimal digits, however many there are, without leading zeros
-pub record IsNumber (text : List ℕ) : Type 0 where
+pub record IsDecimal (text : List ℕ) : Type 0 where
   pub some : text ≢ []
   pub digits : All (λ digit. (48 ≤ digit) × (digit ≤ 57)) text
   pub no_zeros : (text ≡ codes "0") ⊎ (get_or text 0 48 ≢ 48)
@@ -35,9 +35,9 @@ pub record TxFields (line : List ℕ) : Type 0 where
   pub exchange : List ℕ
   pub intervals : List ℕ
   pub are : fields_of line ≡ codes "tx" ∷ exchange ∷ map decimal intervals
-  pub number : IsNumber exchange
+  pub number : IsDecimal exchange
   pub some : 1 ≤ length intervals
-  pub few : length intervals ≤ most_intervals
+  pub few : length intervals ≤ most_tx_intervals
   pub short : All (λ interval. interval ≤ longest_interval) intervals
 
 -- ... of an rx line: the number of the exchange, how many tags replied, and the levels that came
@@ -46,13 +46,13 @@ pub record RxFields (line : List ℕ) : Type 0 where
   pub count : List ℕ
   pub levels : List Bool
   pub are : fields_of line ≡ codes "rx" ∷ exchange ∷ count ∷ binary levels ∷ []
-  pub number : IsNumber exchange
-  pub count_number : IsNumber count
-  pub few : length levels ≤ most_levels
+  pub number : IsDecimal exchange
+  pub count_number : IsDecimal count
+  pub few : length levels ≤ most_rx_levels
 
 -- a tx line has its word, the number of the exchange and the intervals
 abbrev pub HasTxShape : List ℕ → Type 0
-HasTxShape line = (3 ≤ length (fields_of line)) × (length (fields_of line) ≤ most_intervals + 2)
+HasTxShape line = (3 ≤ length (fields_of line)) × (length (fields_of line) ≤ most_tx_intervals + 2)
 
 -- an rx line has its word, the number of the exchange, the count and the levels
 abbrev pub HasRxShape : List ℕ → Type 0

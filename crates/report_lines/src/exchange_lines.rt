@@ -17,7 +17,8 @@ use wave_dump::Gave;
 
 /// Writes the name of a line and the number of the exchange.
 fn push_numbered(text: &mut String, name: &str, exchange: u64) -> Result<(), OutOfMemory>
-    ensures { OnOk result (string_bytes text.new ≡ string_bytes text.old ++ line_with (name.now ∷ decimal exchange ∷ [])) }
+    ensures { OnOk result (string_bytes text.new ≡ string_bytes text.old
+        ++ line_with (name.now ∷ decimal exchange ∷ [])) }
 {
     text.push_str(name)?;
     push_next_long_number(text, exchange)
@@ -29,7 +30,8 @@ pub fn push_exchange_line(
     exchange: u64,
     command: &Command,
 ) -> Result<(), OutOfMemory>
-    ensures { OnOk result (string_bytes text.new ≡ string_bytes text.old ++ report_line_text (ExchangeLine exchange command.now)) }
+    ensures { OnOk result (string_bytes text.new ≡ string_bytes text.old
+        ++ report_line_text (ExchangeLine exchange command.now)) }
 {
     push_numbered(text, "exchange", exchange)?;
     text.push(' ')?;
@@ -39,7 +41,8 @@ pub fn push_exchange_line(
 
 /// Writes `missed E TAG`: the tag with this number missed the command, as the scenario says.
 pub fn push_missed_line(text: &mut String, exchange: u64, tag: u32) -> Result<(), OutOfMemory>
-    ensures { OnOk result (string_bytes text.new ≡ string_bytes text.old ++ report_line_text (MissedLine exchange tag)) }
+    ensures { OnOk result (string_bytes text.new ≡ string_bytes text.old
+        ++ report_line_text (MissedLine exchange tag)) }
 {
     push_numbered(text, "missed", exchange)?;
     push_next_number(text, tag)?;
@@ -61,7 +64,8 @@ pub fn push_answer_line(
     extended: bool,
     reply: &Reply,
 ) -> Result<(), OutOfMemory>
-    ensures { OnOk result (string_bytes text.new ≡ string_bytes text.old ++ report_line_text (AnswerLine exchange tag extended reply.now)) }
+    ensures { OnOk result (string_bytes text.new ≡ string_bytes text.old
+        ++ report_line_text (AnswerLine exchange tag extended reply.now)) }
 {
     push_numbered(text, "answer", exchange)?;
     push_next_number(text, tag)?;
@@ -73,7 +77,8 @@ pub fn push_answer_line(
 
 /// Writes what the channel gave as the next fields.
 fn push_next_given(text: &mut String, given: &Gave) -> Result<(), OutOfMemory>
-    ensures { OnOk result (string_bytes text.new ≡ string_bytes text.old ++ space ∷ line_with (given_fields given.now)) }
+    ensures { OnOk result (string_bytes text.new ≡ string_bytes text.old
+        ++ space ∷ line_with (given_fields given.now)) }
 {
     match given {
         Gave::Silence => push_next_name(text, "silence"),

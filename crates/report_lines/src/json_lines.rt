@@ -42,7 +42,8 @@ fn push_list_object(
     pc: u16,
     epc: &EpcWords,
 ) -> Result<(), OutOfMemory>
-    ensures { OnOk result (string_bytes text.new ≡ string_bytes text.old ++ json_line_text (ListLine round slot pc epc.now)) }
+    ensures { OnOk result (string_bytes text.new ≡ string_bytes text.old
+        ++ json_line_text (ListLine round slot pc epc.now)) }
 {
     set_words(&mut texts.epc, epc.as_slice())?;
     set_word(&mut texts.pc, pc)?;
@@ -66,7 +67,8 @@ fn push_op_object(
     index: u32,
     ended: &OpResult,
 ) -> Result<(), OutOfMemory>
-    ensures { OnOk result (string_bytes text.new ≡ string_bytes text.old ++ json_line_text (OpLine round slot index ended.now)) }
+    ensures { OnOk result (string_bytes text.new ≡ string_bytes text.old
+        ++ json_line_text (OpLine round slot index ended.now)) }
 {
     set_result(&mut texts.value, ended)?;
     push_object(
@@ -88,7 +90,8 @@ fn push_round_object(
     end: RoundEnd,
     slots: u32,
 ) -> Result<(), OutOfMemory>
-    ensures { OnOk result (string_bytes text.new ≡ string_bytes text.old ++ json_line_text (RoundLine round end slots)) }
+    ensures { OnOk result (string_bytes text.new ≡ string_bytes text.old
+        ++ json_line_text (RoundLine round end slots)) }
 {
     push_object(
         text,
@@ -108,7 +111,8 @@ fn push_seen_object(
     pc: u16,
     epc: &EpcWords,
 ) -> Result<(), OutOfMemory>
-    ensures { OnOk result (string_bytes text.new ≡ string_bytes text.old ++ json_line_text (SeenLine times pc epc.now)) }
+    ensures { OnOk result (string_bytes text.new ≡ string_bytes text.old
+        ++ json_line_text (SeenLine times pc epc.now)) }
 {
     set_words(&mut texts.epc, epc.as_slice())?;
     set_word(&mut texts.pc, pc)?;
@@ -129,7 +133,8 @@ fn push_tag_object(
     number: u32,
     tag: &AnyTag,
 ) -> Result<(), OutOfMemory>
-    ensures { OnOk result (string_bytes text.new ≡ string_bytes text.old ++ json_line_text (TagLine number (tag_value_of tag.now))) }
+    ensures { OnOk result (string_bytes text.new ≡ string_bytes text.old
+        ++ json_line_text (TagLine number (tag_value_of tag.now))) }
 {
     set_flags(&mut texts.flags, tag.flags())?;
     set_locks(&mut texts.locks, tag.locks())?;
@@ -160,7 +165,8 @@ pub fn push_json_line(
     texts: &mut MemberTexts,
     line: &Line<'_>,
 ) -> Result<(), OutOfMemory>
-    ensures { OnOk result (string_bytes text.new ≡ string_bytes text.old ++ json_line_text (line_of line.now)) }
+    ensures { OnOk result (string_bytes text.new ≡ string_bytes text.old
+        ++ json_line_text (line_of line.now)) }
 {
     match *line {
         Line::List {

@@ -22,7 +22,8 @@ fn send_text<S: Serializer>(
     key: &str,
     text: &str,
 ) -> Result<(), S::Error>
-    ensures { OnOk result (IsOk sent × SendsPair key.now (string text.now) (S.written out.old) (S.written out.new)) }
+    ensures { OnOk result (IsOk sent
+        × SendsPair key.now (string text.now) (S.written out.old) (S.written out.new)) }
 {
     sent?;
     out.key(key)?;
@@ -37,7 +38,8 @@ fn send_count<S: Serializer>(
     key: &str,
     count: u64,
 ) -> Result<(), S::Error>
-    ensures { OnOk result (IsOk sent × SendsPair key.now (count_value count) (S.written out.old) (S.written out.new)) }
+    ensures { OnOk result (IsOk sent
+        × SendsPair key.now (count_value count) (S.written out.old) (S.written out.new)) }
 {
     sent?;
     out.key(key)?;

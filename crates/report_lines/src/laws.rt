@@ -4,7 +4,7 @@ ghost use Rattle.std.specs.List.{AllByRecursion};
 ghost use Rattle.report_lines.specs.JsonLines.{json_pairs};
 ghost use Rattle.report_lines.specs.Names.{AreWithNames, BecomesLines};
 ghost use Rattle.report_lines.specs.ReportLine.{ReportLine};
-ghost use Rattle.report_lines.specs.SeenCounts.{count_of, seen_in, seen_more};
+ghost use Rattle.report_lines.specs.SeenCounts.{count_of, seen_counts, seen_more};
 ghost use Rattle.report_lines.specs.Unescaped.{HasWords, IsPlainPair};
 
 use epc_sgtin::sgtin_laws;
@@ -12,14 +12,17 @@ use epc_sgtin::sgtin_laws;
 /// With one pair more the count of this pair rises, or it stands last with the count 1. No pair has a
 /// greater count than pairs were listed.
 pub fn seen_laws()
-    ensures more { (pairs : List (ℕ × List ℕ)) (pair : ℕ × List ℕ) → seen_in (pairs ++ pair ∷ []) ≡ seen_more (seen_in pairs) pair }
-    ensures few { (pairs : List (ℕ × List ℕ)) (pair : ℕ × List ℕ) → count_of (seen_in pairs) pair ≤ length pairs }
+    ensures more { (pairs : List (ℕ × List ℕ)) (pair : ℕ × List ℕ)
+        → seen_counts (pairs ++ pair ∷ []) ≡ seen_more (seen_counts pairs) pair }
+    ensures few { (pairs : List (ℕ × List ℕ)) (pair : ℕ × List ℕ)
+        → count_of (seen_counts pairs) pair ≤ length pairs }
 {}
 
 /// Each line becomes some lines, and lines become one text with their names.
 pub fn lines_have_names()
     ensures some { (line : List ℕ) → (lines : List (List ℕ)) × BecomesLines line lines }
-    ensures one { (lines : List (List ℕ)) (one other : List ℕ) → AreWithNames lines one → AreWithNames lines other → one ≡ other }
+    ensures one { (lines : List (List ℕ)) (one other : List ℕ) → AreWithNames lines one
+        → AreWithNames lines other → one ≡ other }
 {
     // Words are those of one SGTIN, or are refused.
     sgtin_laws();

@@ -1,7 +1,7 @@
 //! The fields of the lines that are read.
 ghost use Rattle.std.specs.Prelude.{◌≡◌, ◌≢◌, ◌∷◌, [], IfNone, IfSome, IsFalse, IsTrue, length};
 ghost use Rattle.text_fields.specs.Lines.{fields_of};
-ghost use Rattle.report_lines.specs.ReadLines.{IsNumber, first_field};
+ghost use Rattle.report_lines.specs.ReadLines.{IsDecimal, first_field};
 
 use text_fields::Fields;
 
@@ -50,8 +50,8 @@ pub(crate) fn fields_behind<'a>(line: &'a [u8], word: &[u8]) -> Option<Fields<'a
 
 /// Whether a field is decimal digits, without leading zeros.
 pub(crate) fn is_number(field: &[u8]) -> bool
-    ensures yes { IsTrue result → IsNumber field.now }
-    ensures no { IsFalse result → ¬ IsNumber field.now }
+    ensures yes { IsTrue result → IsDecimal field.now }
+    ensures no { IsFalse result → ¬ IsDecimal field.now }
 {
     match field {
         [b'0'] => true,

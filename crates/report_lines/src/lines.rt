@@ -24,7 +24,8 @@ pub(crate) fn end_line(text: &mut String) -> Result<(), OutOfMemory>
 /// Writes `blf NUM/DEN`: the backscatter link frequency, the divide ratio over TRcal (6.3.1.2.8), as a
 /// fraction whose unit is one over a nanosecond.
 pub fn push_blf_line(text: &mut String, numerator: u32, denominator: u32) -> Result<(), OutOfMemory>
-    ensures { OnOk result (string_bytes text.new ≡ string_bytes text.old ++ report_line_text (BlfLine numerator denominator)) }
+    ensures { OnOk result (string_bytes text.new ≡ string_bytes text.old
+        ++ report_line_text (BlfLine numerator denominator)) }
 {
     text.push_str("blf ")?;
     push_number(text, numerator)?;
@@ -41,7 +42,8 @@ pub fn push_tx_line(
     exchange: u64,
     intervals: &[u32],
 ) -> Result<(), OutOfMemory>
-    ensures { OnOk result (string_bytes text.new ≡ string_bytes text.old ++ report_line_text (TxLine exchange intervals.now)) }
+    ensures { OnOk result (string_bytes text.new ≡ string_bytes text.old
+        ++ report_line_text (TxLine exchange intervals.now)) }
 {
     text.push_str("tx")?;
     push_next_long_number(text, exchange)?;
@@ -57,7 +59,8 @@ pub fn push_rx_line(
     count: u32,
     levels: &[bool],
 ) -> Result<(), OutOfMemory>
-    ensures { OnOk result (string_bytes text.new ≡ string_bytes text.old ++ report_line_text (RxLine exchange count levels.now)) }
+    ensures { OnOk result (string_bytes text.new ≡ string_bytes text.old
+        ++ report_line_text (RxLine exchange count levels.now)) }
 {
     text.push_str("rx")?;
     push_next_long_number(text, exchange)?;
@@ -83,7 +86,8 @@ pub fn push_list_line(
     pc: u16,
     epc: &EpcWords,
 ) -> Result<(), OutOfMemory>
-    ensures { OnOk result (string_bytes text.new ≡ string_bytes text.old ++ report_line_text (ListLine round slot pc epc.now)) }
+    ensures { OnOk result (string_bytes text.new ≡ string_bytes text.old
+        ++ report_line_text (ListLine round slot pc epc.now)) }
 {
     text.push_str("list")?;
     push_next_number(text, round)?;
@@ -109,7 +113,8 @@ pub fn push_round_line(
     end: RoundEnd,
     slots: u32,
 ) -> Result<(), OutOfMemory>
-    ensures { OnOk result (string_bytes text.new ≡ string_bytes text.old ++ report_line_text (RoundLine round end slots)) }
+    ensures { OnOk result (string_bytes text.new ≡ string_bytes text.old
+        ++ report_line_text (RoundLine round end slots)) }
 {
     text.push_str("round")?;
     push_next_number(text, round)?;
@@ -125,7 +130,8 @@ pub fn push_seen_line(
     pc: u16,
     epc: &EpcWords,
 ) -> Result<(), OutOfMemory>
-    ensures { OnOk result (string_bytes text.new ≡ string_bytes text.old ++ report_line_text (SeenLine count pc epc.now)) }
+    ensures { OnOk result (string_bytes text.new ≡ string_bytes text.old
+        ++ report_line_text (SeenLine count pc epc.now)) }
 {
     text.push_str("seen")?;
     push_next_long_number(text, count)?;
@@ -135,7 +141,8 @@ pub fn push_seen_line(
 
 /// Writes `done`, the last line of a report.
 pub fn push_done_line(text: &mut String) -> Result<(), OutOfMemory>
-    ensures { OnOk result (string_bytes text.new ≡ string_bytes text.old ++ report_line_text DoneLine) }
+    ensures { OnOk result (string_bytes text.new ≡ string_bytes text.old
+        ++ report_line_text DoneLine) }
 {
     text.push_str("done\n")
 }

@@ -18,7 +18,8 @@ pub trait Listener {
 
     /// Hears a line more.
     fn tell(&mut self, line: &Line<'_>)
-        ensures { (first : Self) (lines : List ReportLine) → hears first lines self.old → hears first (lines ++ line_of line.now ∷ []) self.new };
+        ensures { (first : Self) (lines : List ReportLine) → hears first lines self.old
+            → hears first (lines ++ line_of line.now ∷ []) self.new };
 
     /// The first fault that was met, if one was.
     fn fault(&self) -> Option<PlayFault>
@@ -26,12 +27,14 @@ pub trait Listener {
 
     /// Whether a line that says who said what in an exchange may make a difference. Where not, nobody has to tell it.
     fn wants_exchanges(&self) -> bool
-        ensures { IsFalse result → (first : Self) (lines : List ReportLine) (line : ReportLine) → is_of_exchanges line ≡ true
+        ensures { IsFalse result → (first : Self) (lines : List ReportLine) (line : ReportLine)
+            → is_of_exchanges line ≡ true
             → hears first lines self.now → hears first (lines ++ line ∷ []) self.now };
 
     /// Whether a line that a trace alone has may make a difference. Where not, nobody has to tell it.
     fn wants_frames(&self) -> bool
-        ensures { IsFalse result → (first : Self) (lines : List ReportLine) (line : ReportLine) → is_of_trace line ≡ true
+        ensures { IsFalse result → (first : Self) (lines : List ReportLine) (line : ReportLine)
+            → is_of_trace line ≡ true
             → hears first lines self.now → hears first (lines ++ line ∷ []) self.now };
 
     /// No line changes nothing.

@@ -73,7 +73,8 @@ impl Spelling for ModeSpelling {
 
 /// Writes what a line brings to a dump.
 fn draw(dump: &mut Dump, line: &Line<'_>, text: &mut String) -> Result<(), OutOfMemory>
-    ensures text { OnOk result (string_bytes text.new ≡ string_bytes text.old ++ drawn_line dump.old (line_of line.now)) }
+    ensures text { OnOk result
+        (string_bytes text.new ≡ string_bytes text.old ++ drawn_line dump.old (line_of line.now)) }
     ensures behind { OnOk result (dump.new ≡ drawing_after dump.old (line_of line.now)) }
 {
     match line {

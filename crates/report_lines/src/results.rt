@@ -12,7 +12,8 @@ use text_fields::{push_byte_hex, push_next_name, push_next_number, push_next_wor
 /// Writes how an operation ended as the next fields: a word, and behind it the words of a Read, where
 /// there are any, or the error code as two digits (Annex I).
 fn push_next_result(text: &mut String, ended: &OpResult) -> Result<(), OutOfMemory>
-    ensures { OnOk result (string_bytes text.new ≡ string_bytes text.old ++ space ∷ line_with (result_fields ended.now)) }
+    ensures { OnOk result (string_bytes text.new ≡ string_bytes text.old
+        ++ space ∷ line_with (result_fields ended.now)) }
 {
     match ended {
         OpResult::Ok(words) => {
@@ -43,7 +44,8 @@ pub fn push_op_line(
     index: u32,
     ended: &OpResult,
 ) -> Result<(), OutOfMemory>
-    ensures { OnOk result (string_bytes text.new ≡ string_bytes text.old ++ report_line_text (OpLine round slot index ended.now)) }
+    ensures { OnOk result (string_bytes text.new ≡ string_bytes text.old
+        ++ report_line_text (OpLine round slot index ended.now)) }
 {
     text.push_str("op")?;
     push_next_number(text, round)?;

@@ -1,6 +1,6 @@
 //! Lines of what came back, as they are read.
 ghost use Rattle.std.specs.Prelude.{◌≡◌, ◌≢◌, ◌≤◌, ◌∷◌, [], IfErr, IfNone, IfOk, IfSome, OnErr, length};
-ghost use Rattle.report_lines.specs.ReadLines.{IsNoRx, RxFields, most_levels};
+ghost use Rattle.report_lines.specs.ReadLines.{IsNoRx, RxFields, most_rx_levels};
 
 use crate::line_fields::{fields_behind, is_number, next_field};
 use bit_strings::Levels;
@@ -34,8 +34,10 @@ pub fn read_rx_line<'a>(
     line: &'a [u8],
     levels: &mut Levels,
 ) -> Result<(&'a [u8], &'a [u8]), FieldsFault>
-    requires { most_levels ≤ levels.old.capacity }
-    ensures fields { IfOk result (λ it. (rx : RxFields line.now) × (rx.exchange ≡ it.0.now) × (rx.count ≡ it.1.now) × (rx.levels ≡ levels.new.items)) }
+    requires { most_rx_levels ≤ levels.old.capacity }
+    ensures fields { IfOk result
+        (λ it. (rx : RxFields line.now) × (rx.exchange ≡ it.0.now) × (rx.count ≡ it.1.now)
+        × (rx.levels ≡ levels.new.items)) }
     ensures refused { IfErr result (IsNoRx line.now) }
     ensures err { OnErr result (levels.new.items ≡ []) }
     ensures capacity { levels.new.capacity ≡ levels.old.capacity }

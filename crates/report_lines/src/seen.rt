@@ -1,7 +1,7 @@
 //! How often each tag was listed.
 ghost use Rattle.std.specs.Prelude.{◌≡◌, ◌<◌, ◌^◌, ◌+◌, ◌++◌, ℕ, List, [], ◌∷◌, length, ◌≤◌, ◌↔◌, OnErr, OnOk, IfOk, IfSome, IsNone, Some, slice_get};
-ghost use Rattle.report_lines.specs.Entries.{seen_of};
-ghost use Rattle.report_lines.specs.SeenCounts.{seen_in, seen_more, total_of};
+ghost use Rattle.report_lines.specs.Entries.{seen_of_listed};
+ghost use Rattle.report_lines.specs.SeenCounts.{seen_counts, seen_more, total_of};
 
 use bit_strings::OutOfMemory;
 use indexmap::IndexMap;
@@ -25,12 +25,12 @@ pub struct SeenCounts {
 
 impl Model for SeenCounts {
     ghost use Rattle.std.specs.Prelude.{List};
-    ghost use Rattle.report_lines.specs.SeenCounts.{Seen};
-    ghost use Rattle.report_lines.specs.Entries.{seen_of};
+    ghost use Rattle.report_lines.specs.SeenCounts.{SeenCount};
+    ghost use Rattle.report_lines.specs.Entries.{seen_of_listed};
 
-    ghost Value = { List Seen };
+    ghost Value = { List SeenCount };
 
-    ghost view = { λ a. seen_of a.counts.entries };
+    ghost view = { λ a. seen_of_listed a.counts.entries };
 }
 
 /// A copy of the words of an EPC.
@@ -42,7 +42,9 @@ fn copy_of(epc: &EpcWords) -> Result<EpcWords, OutOfMemory>
 
 /// Counts one more of this pair.
 fn raise(counts: &mut IndexMap<Listed, u64>, listed: Listed) -> Result<(), OutOfMemory>
-    ensures more { OnOk result (seen_of counts.new.entries ≡ seen_more (seen_of counts.old.entries) (listed.pc, listed.epc)) }
+    ensures more { OnOk result
+        (seen_of_listed counts.new.entries
+        ≡ seen_more (seen_of_listed counts.old.entries) (listed.pc, listed.epc)) }
     ensures err { OnErr result (counts.new.entries ≡ counts.old.entries) }
 {
     let count = counts.entry(listed)?.or_insert(0);
@@ -66,7 +68,8 @@ impl SeenCounts {
     /// Counts one more of this pair. After an error nothing is changed; it is one too where the count has no room for one more.
     pub fn count(&mut self, pc: u16, epc: &EpcWords) -> Result<(), OutOfMemory>
         ensures more { OnOk result (self.new ≡ seen_more self.old (pc, epc.now)) }
-        ensures listed { (pairs : List (ℕ × List ℕ)) → self.old ≡ seen_in pairs → OnOk result (self.new ≡ seen_in (pairs ++ (pc, epc.now) ∷ [])) }
+        ensures listed { (pairs : List (ℕ × List ℕ)) → self.old ≡ seen_counts pairs
+            → OnOk result (self.new ≡ seen_counts (pairs ++ (pc, epc.now) ∷ [])) }
         ensures err { OnErr result (self.new ≡ self.old) }
     {
         let epc = copy_of(epc)?;
@@ -91,7 +94,9 @@ impl SeenCounts {
     /// The pair with this number, counted from 0 in the order in which they came first: how often it was
     /// listed, its PC and its EPC; none exactly past the end.
     pub fn get(&self, at: usize) -> Option<(u64, u16, &EpcWords)>
-        ensures value { IfSome result (λ it. slice_get self.now at ≡ Some (record { pc = it.1; epc = it.2.now; count = it.0 })) }
+        ensures value { IfSome result
+            (λ it. slice_get self.now at
+            ≡ Some (record { pc = it.1; epc = it.2.now; count = it.0 })) }
         ensures none { IsNone result ↔ (length self.now ≤ at) }
     {
         let (listed, count) = self.counts.get_index(at)?;

@@ -31,16 +31,19 @@ pub trait Spelling {
 
     /// Adds the text of a line. After an error a part of it may have been added.
     fn spell(&mut self, line: &Line<'_>, text: &mut String) -> Result<(), OutOfMemory>
-        ensures text { OnOk result (string_bytes text.new ≡ string_bytes text.old ++ text_of self.old (line_of line.now)) }
+        ensures text { OnOk result
+            (string_bytes text.new ≡ string_bytes text.old ++ text_of self.old (line_of line.now)) }
         ensures behind { OnOk result (self.new ≡ behind self.old (line_of line.now)) };
 
     /// Whether a line that says who said what in an exchange may make a difference.
     fn wants_exchanges(&self) -> bool
-        ensures { IsFalse result → (line : ReportLine) → is_of_exchanges line ≡ true → (text_of self.now line ≡ []) × (behind self.now line ≡ self.now) };
+        ensures { IsFalse result → (line : ReportLine) → is_of_exchanges line ≡ true
+            → (text_of self.now line ≡ []) × (behind self.now line ≡ self.now) };
 
     /// Whether a line that a trace alone has may make a difference.
     fn wants_frames(&self) -> bool
-        ensures { IsFalse result → (line : ReportLine) → is_of_trace line ≡ true → (text_of self.now line ≡ []) × (behind self.now line ≡ self.now) };
+        ensures { IsFalse result → (line : ReportLine) → is_of_trace line ≡ true
+            → (text_of self.now line ≡ []) × (behind self.now line ≡ self.now) };
 }
 
 /// What the lines of a report share: the intervals that were written, with their texts, and room for the texts of an object.
@@ -56,7 +59,8 @@ pub fn push_line(
     kept: &mut KeptIntervals,
     line: &Line<'_>,
 ) -> Result<(), OutOfMemory>
-    ensures { OnOk result (string_bytes text.new ≡ string_bytes text.old ++ report_line_text (line_of line.now)) }
+    ensures { OnOk result (string_bytes text.new ≡ string_bytes text.old
+        ++ report_line_text (line_of line.now)) }
 {
     match *line {
         Line::Blf {
@@ -137,7 +141,9 @@ impl Mode {
         shared: &mut Shared,
         line: &Line<'_>,
     ) -> Result<(), OutOfMemory>
-        ensures { OnOk result (string_bytes text.new ≡ string_bytes text.old ++ line_text_of self (line_of line.now)) }
+        ensures { OnOk result
+            (string_bytes text.new ≡ string_bytes text.old
+            ++ line_text_of self (line_of line.now)) }
     {
         match self {
             Mode::Plain | Mode::Trace | Mode::Exchanges => push_line(
@@ -157,7 +163,9 @@ impl Mode {
         shared: &mut Shared,
         line: &Line<'_>,
     ) -> Result<(), OutOfMemory>
-        ensures { OnOk result (string_bytes text.new ≡ string_bytes text.old ++ kept_line_text self (line_of line.now)) }
+        ensures { OnOk result
+            (string_bytes text.new ≡ string_bytes text.old
+            ++ kept_line_text self (line_of line.now)) }
     {
         if self.keeps(line) {
             self.push_line(text, shared, line)

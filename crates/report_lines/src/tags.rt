@@ -37,7 +37,8 @@ pub(crate) fn state_text(state: StateName) -> &'static str
 
 /// Writes the name of a state as the next field. After an error the text may hold a part of it.
 pub fn push_next_state(text: &mut String, state: StateName) -> Result<(), OutOfMemory>
-    ensures { OnOk result (string_bytes text.new ≡ string_bytes text.old ++ space ∷ state_word state) }
+    ensures { OnOk result (string_bytes text.new ≡ string_bytes text.old
+        ++ space ∷ state_word state) }
 {
     push_next_name(text, state_text(state))
 }
@@ -55,7 +56,8 @@ pub(crate) fn push_flags(text: &mut String, flags: &Flags) -> Result<(), OutOfMe
 
 /// Writes the flags as the next field. After an error the text may hold a part of them.
 pub fn push_next_flags(text: &mut String, flags: &Flags) -> Result<(), OutOfMemory>
-    ensures { OnOk result (string_bytes text.new ≡ string_bytes text.old ++ space ∷ flags_word flags.now) }
+    ensures { OnOk result (string_bytes text.new ≡ string_bytes text.old
+        ++ space ∷ flags_word flags.now) }
 {
     text.push(' ')?;
     push_flags(text, flags)
@@ -63,7 +65,8 @@ pub fn push_next_flags(text: &mut String, flags: &Flags) -> Result<(), OutOfMemo
 
 /// Writes the ten lock bits as the next field.
 fn next_locks(text: &mut String, locks: &Locks) -> Result<(), OutOfMemory>
-    ensures { OnOk result (string_bytes text.new ≡ string_bytes text.old ++ space ∷ locks_text locks.now) }
+    ensures { OnOk result (string_bytes text.new ≡ string_bytes text.old
+        ++ space ∷ locks_text locks.now) }
 {
     text.push_str(" ")?;
     push_locks(text, locks)
@@ -72,7 +75,9 @@ fn next_locks(text: &mut String, locks: &Locks) -> Result<(), OutOfMemory>
 /// Writes the four banks as the next fields.
 fn next_banks(text: &mut String, memory: &Memory) -> Result<(), OutOfMemory>
     ensures { OnOk result (string_bytes text.new ≡ string_bytes text.old
-        ++ space ∷ line_with (hex_words memory.now.reserved ∷ hex_words memory.now.epc ∷ hex_words memory.now.tid ∷ hex_words memory.now.user ∷ [])) }
+        ++ space ∷ line_with
+        (hex_words memory.now.reserved ∷ hex_words memory.now.epc ∷ hex_words
+        memory.now.tid ∷ hex_words memory.now.user ∷ [])) }
 {
     push_next_words(text, memory.bank(Bank::Reserved))?;
     push_next_words(text, memory.bank(Bank::Epc))?;
@@ -100,7 +105,8 @@ fn push_standing(
 
 /// Writes `tag K STATE FLAGS LOCKS RES EPC TID USER`: what the tag of this number is.
 pub fn push_tag_line(text: &mut String, number: u32, tag: &AnyTag) -> Result<(), OutOfMemory>
-    ensures { OnOk result (string_bytes text.new ≡ string_bytes text.old ++ report_line_text (TagLine number (tag_value_of tag.now))) }
+    ensures { OnOk result (string_bytes text.new ≡ string_bytes text.old
+        ++ report_line_text (TagLine number (tag_value_of tag.now))) }
 {
     push_standing(text, number, tag.state(), tag.flags(), tag.locks())?;
     next_banks(text, tag.memory())?;

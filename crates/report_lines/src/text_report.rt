@@ -40,10 +40,14 @@ impl<'o, S: Spelling, O: Sink> TextReport<'o, S, O> {
     /// Writes the text of a line.
     fn write(&mut self, line: &Line<'_>) -> Result<(), PlayFault>
         ensures out { self.new.out.ghost_name ≡ self.old.out.ghost_name }
-        ensures spelling { OnOk result (self.new.spelling.now ≡ S.behind self.old.spelling.now (line_of line.now)) }
+        ensures spelling { OnOk result
+            (self.new.spelling.now ≡ S.behind self.old.spelling.now (line_of line.now)) }
         ensures fault { self.new.fault ≡ self.old.fault }
-        ensures text { (text : List ℕ) (first : Option (List ℕ)) (before : ℕ) → IsAdded text first (O.written self.old.out.now) before (O.faults self.old.out.now) None
-            → IsAdded (text ++ S.text_of self.old.spelling.now (line_of line.now)) first (O.written self.new.out.now) before (O.faults self.new.out.now) (result_err result) }
+        ensures text { (text : List ℕ) (first : Option (List ℕ)) (before : ℕ)
+            → IsAdded text first (O.written self.old.out.now) before
+            (O.faults self.old.out.now) None
+            → IsAdded (text ++ S.text_of self.old.spelling.now (line_of line.now)) first
+            (O.written self.new.out.now) before (O.faults self.new.out.now) (result_err result) }
     {
         self.line.clear();
         self.spelling.spell(line, self.line)?;

@@ -1,6 +1,6 @@
 //! Lines of frames that were sent, as they are read.
 ghost use Rattle.std.specs.Prelude.{◌≡◌, ◌≤◌, ◌↔◌, [], IfErr, IfOk, IsTrue, OnErr, codes};
-ghost use Rattle.report_lines.specs.ReadLines.{HasTxShape, IsNoTx, TxFields, first_field, most_intervals};
+ghost use Rattle.report_lines.specs.ReadLines.{HasTxShape, IsNoTx, TxFields, first_field, most_tx_intervals};
 
 use crate::line_fields::{field_count, fields_behind, is_number, next_field};
 use pie_line::Intervals;
@@ -41,8 +41,10 @@ fn wrong_fields(line: &[u8]) -> FieldsFault
 ///
 /// The first reason for which it is no `tx` line, whatever frame the intervals are.
 pub fn read_tx_line<'a>(line: &'a [u8], intervals: &mut Intervals) -> Result<&'a [u8], FieldsFault>
-    requires { most_intervals ≤ intervals.old.capacity }
-    ensures fields { IfOk result (λ number. (tx : TxFields line.now) × (tx.exchange ≡ number.now) × (tx.intervals ≡ intervals.new.items)) }
+    requires { most_tx_intervals ≤ intervals.old.capacity }
+    ensures fields { IfOk result
+        (λ number. (tx : TxFields line.now) × (tx.exchange ≡ number.now)
+        × (tx.intervals ≡ intervals.new.items)) }
     ensures refused { IfErr result (IsNoTx line.now) }
     ensures err { OnErr result (intervals.new.items ≡ []) }
     ensures capacity { intervals.new.capacity ≡ intervals.old.capacity }

@@ -9,29 +9,29 @@ use Rattle.std.proofs.lemmas.List.Elements.{All-cons, All-head, All-nil, All-tai
 use Rattle.bit_strings.specs.declared.code.Code.{Code}
 use Rattle.text_fields.specs.Binary.{binary, binary_digit}
 use Rattle.text_fields.specs.CodeNames.{code_word}
-use Rattle.text_fields.specs.laws.FieldTextLaws.{IsFieldText-binary, IsFieldText-cons, IsFieldText-decimal, IsFieldText-one}
+use Rattle.text_fields.proofs.FieldTextLaws.{IsFieldText-binary, IsFieldText-cons, IsFieldText-decimal, IsFieldText-one}
 use Rattle.text_fields.specs.Lines.{IsFieldText, Lacks, line_feed, line_with, lines_of, space}
-use Rattle.text_fields.specs.laws.LineLaws.{fields_come_back, line_lacks, lines_come_back}
+use Rattle.text_fields.proofs.LineLaws.{fields_come_back, line_lacks, lines_come_back}
 use Rattle.line_code.specs.Stream.{stream_of}
 use Rattle.line_codes.specs.Codes.{table_of}
 use Rattle.line_codes.specs.laws.Codes.{stream_most}
-use Rattle.pie_line.specs.Pie.{kind_of, longest_interval, wave_of, IsFrame}
+use Rattle.pie_line.specs.Pie.{frame_kind_of, longest_interval, wave_of, IsFrame}
 use Rattle.pie_line.specs.Link.{IsLegalLink, LinkValue}
 use Rattle.pie_line.specs.declared.frame.Lead.{Lead}
-use Rattle.pie_text.specs.laws.WaveLength.{length-wave}
+use Rattle.pie_text.proofs.WaveLength.{length-wave}
 use Rattle.command_grammar.specs.Commands.{spelling_of, IsLegalCommand, SpellsCommand}
 use Rattle.command_grammar.specs.declared.commands.Command.{Command as OneCommand}
-use Rattle.command_text.specs.laws.FieldTexts.{Texts, bit_is, code_is, no_more, only, with}
+use Rattle.command_text.proofs.FieldTexts.{Texts, bit_is, code_is, no_more, only, with}
 use Rattle.reply_grammar.specs.Table.{AnswersExpected, FitsBank, IsReply, handle_of}
-use Rattle.reply_grammar.specs.laws.Suiting.{spelling-within}
+use Rattle.reply_grammar.proofs.Suiting.{spelling-within}
 use Rattle.reply_grammar.specs.declared.expected.Expect.{Expect}
 use Rattle.reply_grammar.specs.declared.expected.Expect.TheVariants.{Rn16 as OneRn16, Epc as OneEpc, Handle as OneHandle, Same, Words as SomeWords, AnyWords, Header as OneHeader}
 use Rattle.reply_grammar.specs.declared.expected.Reply.{Reply}
 use Rattle.reply_grammar.specs.declared.expected.Reply.TheVariants.{Rn16, Epc, Handle, Words, Header, Error}
 use Rattle.reply_grammar.specs.declared.expected.Received.TheVariants.{Whole}
 use Rattle.reply_text.specs.ReplyText.{expect_word, IsExpect, IsReplyForm}
-use Rattle.reply_text.specs.laws.FieldTexts.{expect_word_is_field_text}
-use Rattle.decode_lines.specs.Answer.{Answer, IsLineAnswer, answer_line, streamed, framed, commanded, replied, heard}
+use Rattle.reply_text.proofs.FieldTexts.{expect_word_is_field_text}
+use Rattle.decode_lines.specs.Answer.{Answer, IsLineAnswer, line_of_answer, streamed, framed, commanded, replied, heard}
 use Rattle.decode_lines.specs.DecodeLines.{Decodes}
 use Rattle.decode_lines.specs.Request.{AsksBehind, request_word}
 use Rattle.decode_lines.specs.declared.request.RequestKind.{RequestKind}
@@ -40,14 +40,14 @@ use Rattle.decode_lines.specs.declared.request.Request.{Request as DecodeRequest
 use Rattle.decode_lines.specs.declared.request.Request.TheVariants as decode
 use Rattle.encode_lines.specs.EncodeLines.{Encodes, written_line}
 use Rattle.encode_lines.specs.Request.{AsksForRequest, IsWithinLimits}
-use Rattle.encode_lines.specs.Written.{AreOfReply, AreWritten, IsAllowed, link_of, refusal_word, refused_fields, reply_bits}
+use Rattle.encode_lines.specs.Written.{AreOfReply, AreWritten, IsAllowedReply, link_of, refusal_word, refused_fields, reply_bits}
 use Rattle.encode_lines.specs.declared.request.Request.{Request}
 use Rattle.encode_lines.specs.declared.request.Request.TheVariants.{Stream, Pie, Command, Reply as ReplyLine, Heard}
 use Rattle.round_trip.specs.ReadBack.{ComesBack, IsReadBack}
 
 -- a line that asks `decode` for something, with its answer
 decodes_line : (kind : RequestKind) (others : List (List ℕ)) (request : DecodeRequest) (answer : Answer) → Texts (request_word kind ∷ others) → AsksBehind kind others request
-    → IsLineAnswer request answer → Decodes (written_line (request_word kind ∷ others)) (answer_line answer)
+    → IsLineAnswer request answer → Decodes (written_line (request_word kind ∷ others)) (line_of_answer answer)
 decodes_line kind others request answer texts asks right =
     let fields = request_word kind ∷ others in
     let line = line_with fields in
@@ -67,7 +67,7 @@ decodes_line kind others request answer texts asks right =
           tt,
         );
       };
-      answers = record { answers = answer ∷ []; each = (right, tt); lines = sym (append-nil (answer_line answer)) };
+      answers = record { answers = answer ∷ []; each = (right, tt); lines = sym (append-nil (line_of_answer answer)) };
     }
 
 pie_is : IsFieldText (codes "pie")
@@ -90,7 +90,7 @@ numbers_are (n ∷ numbers) within =
 
 -- the stream of bits that are no more than those of the longest reply has room in a line
 stream_back : (code : Code) (trext : Bool) (bits : List Bool) → length bits ≤ 8225
-    → Decodes (written_line (code_word code ∷ (binary_digit trext ∷ []) ∷ binary (stream_of (table_of code) trext bits) ∷ [])) (answer_line (streamed (Ok bits)))
+    → Decodes (written_line (code_word code ∷ (binary_digit trext ∷ []) ∷ binary (stream_of (table_of code) trext bits) ∷ [])) (line_of_answer (streamed (Ok bits)))
 stream_back code trext bits few =
     let levels = stream_of (table_of code) trext bits in
     let most = stream_most code trext bits in
@@ -101,22 +101,22 @@ stream_back code trext bits few =
 -- what laws of lower crates say: a wave is a frame, none of whose intervals is too long; a stream that brings an allowed reply is received
 -- whole; and commands have short spellings
 pub record WrittenLaws : Type 0 where
-  pub frame : (link : LinkValue) (lead : Lead) (bits : List Bool) → IsLegalLink link → IsFrame (kind_of link lead) bits (wave_of link lead bits)
+  pub frame : (link : LinkValue) (lead : Lead) (bits : List Bool) → IsLegalLink link → IsFrame (frame_kind_of link lead) bits (wave_of link lead bits)
   pub each : (link : LinkValue) (lead : Lead) (bits : List Bool) → IsLegalLink link → All (λ interval. interval ≤ longest_interval) (wave_of link lead bits)
   pub short : (command : OneCommand) (bits : List Bool) → SpellsCommand command bits → length bits ≤ 4162
 
 wave_back : WrittenLaws → (link : LinkValue) (lead : Lead) (bits : List Bool) → IsLegalLink link → length bits ≤ 8240
-    → Decodes (written_line (codes "pie" ∷ map decimal (wave_of link lead bits))) (answer_line (framed (Ok (kind_of link lead, bits))))
+    → Decodes (written_line (codes "pie" ∷ map decimal (wave_of link lead bits))) (line_of_answer (framed (Ok (frame_kind_of link lead, bits))))
 wave_back laws link lead bits legal few =
     let wave = wave_of link lead bits in
     let size = length-wave link lead bits in
     let small = laws.each link lead bits legal in
-    decodes_line kinds.Pie (map decimal wave) (decode.Pie wave) (framed (Ok (kind_of link lead, bits)))
+    decodes_line kinds.Pie (map decimal wave) (decode.Pie wave) (framed (Ok (frame_kind_of link lead, bits)))
     (with _ _ pie_is (numbers_are wave small))
     (record { same_kind = refl; spelling = refl; limits = (size.0, omega (arith, few, size.1), small) }) (laws.frame link lead bits legal)
 
 command_back : WrittenLaws → (command : OneCommand) → IsLegalCommand command
-    → Decodes (written_line (codes "command" ∷ binary (spelling_of command) ∷ [])) (answer_line (commanded (Ok command)))
+    → Decodes (written_line (codes "command" ∷ binary (spelling_of command) ∷ [])) (line_of_answer (commanded (Ok command)))
 command_back laws command legal =
     let spells : SpellsCommand command (spelling_of command) = record { legal = legal; spelled = refl } in
     decodes_line kinds.Command (binary (spelling_of command) ∷ []) (decode.Command (spelling_of command)) (commanded (Ok command))
@@ -124,7 +124,7 @@ command_back laws command legal =
     (record { same_kind = refl; spelling = refl; limits = omega (arith, laws.short command (spelling_of command) spells) }) spells
 
 -- an allowed reply is in its ranges
-allowed_range : (expect : Expect) (reply : Reply) → IsReplyForm reply → IsAllowed expect reply → IsReply reply
+allowed_range : (expect : Expect) (reply : Reply) → IsReplyForm reply → IsAllowedReply expect reply → IsReply reply
 allowed_range expect (Rn16 rn) form allowed = form
 allowed_range expect (Epc pc epc) form allowed = (form.0, form.1.small, allowed.1)
 allowed_range expect (Handle rn) form allowed = form
@@ -149,15 +149,15 @@ expect_range (SomeWords count handle) is = is.2
 expect_range (AnyWords handle) is = is
 expect_range (OneHeader handle) is = is
 
-reply_answers : (expect : Expect) (reply : Reply) → IsExpect expect → IsReplyForm reply → IsAllowed expect reply → AnswersExpected reply expect (reply_bits expect reply)
+reply_answers : (expect : Expect) (reply : Reply) → IsExpect expect → IsReplyForm reply → IsAllowedReply expect reply → AnswersExpected reply expect (reply_bits expect reply)
 reply_answers expect reply is form allowed =
     record { suits = allowed.0; in_range = allowed_range expect reply form allowed; handle_in_range = expect_range expect is; spelled = refl }
 
-reply_few : (expect : Expect) (reply : Reply) → IsReplyForm reply → IsAllowed expect reply → length (reply_bits expect reply) ≤ 8225
+reply_few : (expect : Expect) (reply : Reply) → IsReplyForm reply → IsAllowedReply expect reply → length (reply_bits expect reply) ≤ 8225
 reply_few expect reply form allowed = (spelling-within reply (handle_of expect) (allowed_range expect reply form allowed) (form_fits reply form)).1
 
-reply_back : (expect : Expect) (reply : Reply) → IsExpect expect → IsReplyForm reply → IsAllowed expect reply
-    → Decodes (written_line (codes "reply" ∷ expect_word expect ∷ binary (reply_bits expect reply) ∷ [])) (answer_line (replied (Ok reply)))
+reply_back : (expect : Expect) (reply : Reply) → IsExpect expect → IsReplyForm reply → IsAllowedReply expect reply
+    → Decodes (written_line (codes "reply" ∷ expect_word expect ∷ binary (reply_bits expect reply) ∷ [])) (line_of_answer (replied (Ok reply)))
 reply_back expect reply is form allowed =
     let bits = reply_bits expect reply in
     decodes_line kinds.Reply (expect_word expect ∷ binary bits ∷ []) (decode.Reply expect bits) (replied (Ok reply))
@@ -165,9 +165,9 @@ reply_back expect reply is form allowed =
     (record { same_kind = refl; spelling = refl; limits = (is, omega (arith, reply_few expect reply form allowed)) })
     (reply_answers expect reply is form allowed)
 
-heard_back : (code : Code) (trext : Bool) (expect : Expect) (reply : Reply) → IsExpect expect → IsReplyForm reply → IsAllowed expect reply
+heard_back : (code : Code) (trext : Bool) (expect : Expect) (reply : Reply) → IsExpect expect → IsReplyForm reply → IsAllowedReply expect reply
     → Decodes (written_line (codes "heard" ∷ code_word code ∷ (binary_digit trext ∷ []) ∷ expect_word expect ∷ binary (stream_of (table_of code) trext (reply_bits expect reply)) ∷ []))
-    (answer_line (heard (Whole reply)))
+    (line_of_answer (heard (Whole reply)))
 heard_back code trext expect reply is form allowed =
     let bits = reply_bits expect reply in
     let levels = stream_of (table_of code) trext bits in
@@ -178,21 +178,21 @@ heard_back code trext expect reply is form allowed =
     (record { bits = bits; stream = refl; answers = reply_answers expect reply is form allowed })
 
 -- fields of an allowed reply are read back, and others refuse it
-of_reply : (expect : Expect) (reply : Reply) (written fields : List (List ℕ)) (text : List ℕ) → AreOfReply expect reply written fields → (IsAllowed expect reply → Decodes (written_line written) text)
+of_reply : (expect : Expect) (reply : Reply) (written fields : List (List ℕ)) (text : List ℕ) → AreOfReply expect reply written fields → (IsAllowedReply expect reply → Decodes (written_line written) text)
     → ((what : List ℕ) × (fields ≡ refused_fields what)) ⊎ Decodes (written_line fields) text
 of_reply expect reply written fields text (inl (allowed, same)) back = inr (subst (λ f. Decodes (written_line f) text) (sym same) (back allowed))
 of_reply expect reply written fields text (inr (none, same)) back = inl (codes "reply", same)
 
 request_back : WrittenLaws → (request : Request) (fields : List (List ℕ)) → IsWithinLimits request → AreWritten request fields → IsReadBack request fields
 request_back laws (Stream code trext bits) fields within written =
-    inr (subst (λ f. Decodes (written_line f) (answer_line (streamed (Ok bits)))) (sym written) (stream_back code trext bits within))
+    inr (subst (λ f. Decodes (written_line f) (line_of_answer (streamed (Ok bits)))) (sym written) (stream_back code trext bits within))
 request_back laws (Pie tari rtcal trcal pw lead bits) fields within (inl wave) =
     let link = link_of tari rtcal trcal pw in
-    inr (subst (λ f. Decodes (written_line f) (answer_line (framed (Ok (kind_of link lead, bits))))) (sym wave.wave)
+    inr (subst (λ f. Decodes (written_line f) (line_of_answer (framed (Ok (frame_kind_of link lead, bits))))) (sym wave.wave)
     (wave_back laws link lead bits wave.legal within.4))
 request_back laws (Pie tari rtcal trcal pw lead bits) fields within (inr refused) = inl (refusal_word refused.refusal, refused.refused)
 request_back laws (Command command) fields within written =
-    inr (subst (λ f. Decodes (written_line f) (answer_line (commanded (Ok command)))) (sym written) (command_back laws command within))
+    inr (subst (λ f. Decodes (written_line f) (line_of_answer (commanded (Ok command)))) (sym written) (command_back laws command within))
 request_back laws (ReplyLine expect reply) fields within written = of_reply expect reply _ fields _ written (reply_back expect reply within.0 within.1)
 request_back laws (Heard code trext expect reply) fields within written = of_reply expect reply _ fields _ written (heard_back code trext expect reply within.0 within.1)
 

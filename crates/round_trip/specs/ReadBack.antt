@@ -3,7 +3,7 @@ use Rattle.std.specs.Prelude.{◌≡◌, ◌⊎◌, ℕ, List, [], ◌∷◌, �
 use Rattle.std.specs.List.{AllZip, flat_map}
 use Rattle.text_fields.specs.Binary.{binary}
 use Rattle.text_fields.specs.Lines.{line_feed}
-use Rattle.pie_line.specs.Pie.{kind_of}
+use Rattle.pie_line.specs.Pie.{frame_kind_of}
 use Rattle.pie_text.specs.PieText.{frame_line}
 use Rattle.command_text.specs.CommandText.{command_line}
 use Rattle.reply_text.specs.ReplyText.{reply_line}
@@ -17,7 +17,7 @@ use Rattle.encode_lines.specs.declared.request.Request.TheVariants.{Stream, Pie,
 -- what was read, as `decode` answers it: the bits, the frame's durations and bits, the command, or the reply
 abbrev pub read_line : Request → List ℕ
 read_line (Stream code trext bits) = codes "bits " ++ binary bits
-read_line (Pie tari rtcal trcal pw lead bits) = frame_line (kind_of (link_of tari rtcal trcal pw) lead) bits
+read_line (Pie tari rtcal trcal pw lead bits) = frame_line (frame_kind_of (link_of tari rtcal trcal pw) lead) bits
 read_line (Command command) = command_line command
 read_line (Reply expect reply) = reply_line reply
 read_line (Heard code trext expect reply) = reply_line reply

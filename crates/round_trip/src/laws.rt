@@ -11,7 +11,8 @@ use pie_line::written_frame;
 
 /// `decode` answers each line that `encode` writes, but a refusal, with what `encode` read.
 pub fn written_lines_are_read_back()
-    ensures line { (line : List ℕ) (request : Request) (fields : List (List ℕ)) → AsksForRequest line request → AreWritten request fields → IsReadBack request fields }
+    ensures line { (line : List ℕ) (request : Request) (fields : List (List ℕ))
+        → AsksForRequest line request → AreWritten request fields → IsReadBack request fields }
     ensures text { (bytes text : List ℕ) → Encodes bytes text → ComesBack bytes text }
 {
     // A wave is a frame of its bits, and each command has a short spelling.

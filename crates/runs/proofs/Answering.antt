@@ -9,14 +9,14 @@ use Rattle.air_model.specs.Channel.{given_in}
 use Rattle.air_model.specs.Past.{Start}
 use Rattle.air_model.specs.Reception.{has_handle, is_expected, HoldsOfSent, IsReplyFor, IsGivenFor, IsUnmistakable}
 use Rattle.air_events.specs.declared.Entry.{Entry}
-use Rattle.air_model.specs.laws.ReceptionLaws.{expected_answers}
-use Rattle.air_model.specs.laws.GivenLaws.{given_of_sent}
+use Rattle.air_model.proofs.ReceptionLaws.{expected_answers}
+use Rattle.air_model.proofs.GivenLaws.{given_of_sent}
 use Rattle.runs.specs.NextItem.{expectation_of}
 use Rattle.runs.specs.laws.Replies.{AnswersSo, StaysLegal, outcomes-answered, replies-answered}
 use Rattle.command_grammar.specs.declared.commands.Command.{Command}
 use Rattle.command_grammar.specs.declared.commands.Command.TheVariants as commands
 use Rattle.reply_grammar.specs.laws.Passing.{answers_pass}
-use Rattle.reply_grammar.specs.laws.Suiting.{suits-from}
+use Rattle.reply_grammar.proofs.Suiting.{suits-from}
 use Rattle.reply_grammar.specs.Table.{AnswersExpected, Suits, handle_of, spelling, suits}
 use Rattle.reply_grammar.specs.declared.expected.Expect.{Expect}
 use Rattle.reply_grammar.specs.declared.expected.Expect.TheVariants as expects

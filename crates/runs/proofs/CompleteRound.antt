@@ -13,8 +13,8 @@ use Rattle.runs.specs.Moments.{Ending, ending_of, past_after_query, tag_after_qu
 use Rattle.runs.specs.TagAtEnd.{StandsAtQuiet, StandsAtEnd, IsListedOnce}
 use Rattle.runs.specs.TagInRound.{is_matched, flags_in_round}
 use Rattle.runs.proofs.OtherRounds.{AllRecords, records-at, records-behind, records-all, AreOfOthers, of-others, listed-others, query-others, ending-others, records-others, Adds, step-adds, steps-add}
-use Rattle.runs.specs.laws.Growth.{RoundsKeepLimit}
-use Rattle.runs.specs.laws.PlayedRounds.{PlayedRound, number_of, past_behind_played}
+use Rattle.runs.proofs.Growth.{RoundsKeepLimit}
+use Rattle.runs.proofs.PlayedRounds.{PlayedRound, number_of, past_behind_played}
 use Rattle.runs.proofs.Members.{Member, StandsBefore}
 use Rattle.runs.proofs.TagsInRound.{past_at_query, frame_behind, StepsFlagsOf, ListsOwnEpc, StandsNext, known-once}
 use Rattle.runs.proofs.TagEnds.{listed-once, quiet-stands, end-stands}

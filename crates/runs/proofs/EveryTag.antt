@@ -27,7 +27,7 @@ use Rattle.runs.specs.TagInRound.{is_matched, flags_behind_query}
 use Rattle.runs.proofs.CompleteRound.{IsTold, IsToldBy, RoundsHaveFacts, RoundAmong, played, IsFairRound, history-told, told-counted}
 use Rattle.runs.proofs.MadeRecords.{made-record, none-given}
 use Rattle.runs.proofs.OtherRounds.{AllRecords, records-at, records-all}
-use Rattle.runs.specs.laws.Growth.{RoundsKeepLimit}
+use Rattle.runs.proofs.Growth.{RoundsKeepLimit}
 use Rattle.runs.proofs.Population.{tag_stepped, tag-steps}
 use Rattle.runs.proofs.TagQuery.{query-matched, query-memory}
 use Rattle.runs.proofs.Times.{times-append, times-one, times-first, bit, bit-if, lists-one}

@@ -8,7 +8,7 @@ use Rattle.runs.specs.History.{history_of}
 use Rattle.runs.specs.Listing.{Listed}
 use Rattle.runs.specs.Report.{list_line, report_of, run_lines}
 use Rattle.report_lines.specs.declared.mode.Mode.{Mode}
-use Rattle.runs.specs.laws.Growth.{RoundsKeepLimit}
+use Rattle.runs.proofs.Growth.{RoundsKeepLimit}
 use Rattle.runs.proofs.HeadlineKept.{kept-pass}
 use Rattle.runs.proofs.HeadlineLines.{list-no-trace, round-no-trace}
 use Rattle.runs.proofs.HeadlineListed.{IsTold, given-heard, listed-once}

@@ -4,7 +4,7 @@ use Rattle.tag_machine.specs.Exchange.{AreLegalTags}
 use Rattle.air_model.specs.Channel.{Given, silence, whole, broken, raw, heard_levels, IsReadBy}
 use Rattle.air_model.specs.Past.{Item, Record, exchanged, tags_behind}
 use Rattle.air_model.specs.Reception.{IsGivenFor, reception_of}
-use Rattle.air_model.specs.laws.ReceptionLaws.{stream_reception, whole_is_heard}
+use Rattle.air_model.proofs.ReceptionLaws.{stream_reception, whole_is_heard}
 use Rattle.command_grammar.specs.declared.commands.Command.{Command}
 use Rattle.line_codes.specs.Codes.{table_of}
 use Rattle.line_codes.specs.laws.Codes.{stream_least}
@@ -22,7 +22,7 @@ use Rattle.runs.specs.Listing.{Listed}
 use Rattle.runs.specs.NextItem.{expectation_of}
 use Rattle.runs.specs.Report.{report_of}
 use Rattle.runs.specs.ScenarioStart.{history, start_of}
-use Rattle.runs.specs.laws.Growth.{RoundsKeepLimit}
+use Rattle.runs.proofs.Growth.{RoundsKeepLimit}
 use Rattle.runs.proofs.Answering.{TagLaws}
 use Rattle.runs.proofs.HeadlineAll.{listed-kept, told-whole}
 use Rattle.runs.proofs.HeadlineListed.{IsTold}

@@ -11,7 +11,7 @@ use Rattle.runs.specs.Report.{exchange_lines, list_line, item_lines, past_lines,
 use Rattle.report_lines.specs.Kept.{is_plain}
 use Rattle.pie_line.specs.Link.{LinkValue}
 use Rattle.report_lines.specs.ReportLine.{ReportLine, ExchangeLine, MissedLine, GivenLine, TxLine, RxLine, ListLine, OpLine, RoundLine, SeenLine, TagLine, DoneLine}
-use Rattle.report_lines.specs.SeenCounts.{Seen, seen_in}
+use Rattle.report_lines.specs.SeenCounts.{SeenCount, seen_counts}
 use Rattle.tag_machine.specs.TagValue.{TagValue}
 
 -- no line passes that not each report has
@@ -109,7 +109,7 @@ operated-passes test link round slot index result past fails =
     filter-append test (past_lines link past) (OpLine round slot index result ∷ [])
     ∙ rw fails (append-nil (filter test (past_lines link past)))
 
-no-last : (test : ReportLine → Bool) → PassesFew test → (seen : List Seen) (number : ℕ) (tags : List TagValue)
+no-last : (test : ReportLine → Bool) → PassesFew test → (seen : List SeenCount) (number : ℕ) (tags : List TagValue)
     → filter test (map (λ seen. SeenLine seen.count seen.pc seen.epc) seen ++ tag_lines number tags ++ DoneLine ∷ []) ≡ []
 no-last test few [] number [] = rw few.done refl
 no-last test few [] number (tag ∷ tags) = rw (few.tag number tag) (no-last test few [] (number + 1) tags)
@@ -121,7 +121,7 @@ pub run-passes : (test : ReportLine → Bool) → PassesFew test → (start : St
 run-passes test few start past =
     filter-append test (past_lines start.link past) (last_lines start past)
     ∙ ap (λ (lines : List ReportLine). filter test (past_lines start.link past) ++ lines)
-    (no-last test few (seen_in (map (λ listed. (listed.pc, listed.epc)) (listing_of past))) 0 (tags_behind start past))
+    (no-last test few (seen_counts (map (λ listed. (listed.pc, listed.epc)) (listing_of past))) 0 (tags_behind start past))
     ∙ append-nil (filter test (past_lines start.link past))
 
 -- two tests in one

@@ -12,8 +12,8 @@ use Rattle.runs.specs.Headline.{IsSelect, IsLegalStep, AreLegalSteps, IsRecordOf
 use Rattle.runs.specs.History.{past_behind_answer, slot_reception, past_behind_slot, past_behind_round, past_behind_step, history_of}
 use Rattle.runs.specs.Listing.{Listed, reception_of_ack, listed_from, listed_by}
 use Rattle.runs.specs.Report.{list_line, past_lines, run_lines}
-use Rattle.runs.specs.laws.Growth.{RoundsKeepLimit, answer-holds, ack-keeps, round-holds, steps-hold}
-use Rattle.runs.specs.laws.PlayedRounds.{SlotOfRun}
+use Rattle.runs.proofs.Growth.{RoundsKeepLimit, answer-holds, ack-keeps, round-holds, steps-hold}
+use Rattle.runs.proofs.PlayedRounds.{SlotOfRun}
 use Rattle.runs.proofs.HeadlineLines.{list-lines-pass, sent-passes, befell-passes, operated-passes, run-passes, and-false}
 use Rattle.runs.proofs.HeadlineSlots.{next-begins, slot-rounds}
 use Rattle.command_grammar.specs.declared.commands.Command.{Command}

@@ -1,6 +1,6 @@
 -- A history grows by what comes next alone, and stops where nothing does.
 use Rattle.std.proofs.Common.{◌≡◌, ℕ, zero, suc, ◌+◌, ◌<◌, ◌==◌, Bool, true, false, List, [], ◌∷◌, ◌++◌, length, map, Option, Some, None, slice_get, refl, ap, sym, ◌∙◌, subst, arith, add-one, ne_eqb, eq-eqb}
-use Rattle.access_ops.specs.laws.DialogueLaws.{AwaitsReplies}
+use Rattle.access_ops.proofs.DialogueLaws.{AwaitsReplies}
 use Rattle.access_ops.specs.laws.OperationLaws.{Expects}
 use Rattle.access_ops.specs.Operations.{Dialogue, sends, tells, done}
 use Rattle.access_ops.specs.declared.OpList.{OpList}
@@ -8,8 +8,8 @@ use Rattle.air_model.specs.Past.{Start, Record, Item, exchanged, operated, ended
 use Rattle.reply_grammar.specs.Reception.{Reception}
 use Rattle.runs.specs.Headline.{IsSelect, IsLegalStep, AreLegalSteps, begins_slot, begins_slot_of, slot_records}
 use Rattle.runs.specs.History.{outcome_of, operation_reception, past_behind_dialogue, dialogue_begun, ack_reception, past_behind_ack, past_behind_answer, slot_reception, past_behind_round, past_behind_step, past_behind, history_of}
-use Rattle.runs.specs.NextItem.{finished_in, reception_of_slot, outcomes_of_round, rn_of, rn_received, item_by_rule, dialogue_behind_record, dialogue_behind_result, dialogue_behind_exchange, dialogue_left, results_behind_exchange, results_told, item_of_slots, item_in_round, item_of_step, next_item, GrowsByNext}
-use Rattle.runs.specs.laws.Growth.{RoundsKeepLimit, dialogue-holds, begun-awaits, answer-cases, next_at_end, round-holds}
+use Rattle.runs.specs.NextItem.{finished_in, reception_of_slot, outcomes_of_round, rn_of, rn_received, item_by_rule, dialogue_behind_record, dialogue_behind_result, dialogue_behind_exchange, dialogue_left, results_behind_exchange, results_told_in, item_of_slots, item_in_round, item_of_step, next_item, GrowsByNext}
+use Rattle.runs.proofs.Growth.{RoundsKeepLimit, dialogue-holds, begun-awaits, answer-cases, next_at_end, round-holds}
 use Rattle.runs.proofs.HeadlineLines.{and-true}
 use Rattle.runs.proofs.HeadlineSlots.{Fresh, step-fresh, first-fresh, next-begins, expects-begins-none}
 use Rattle.command_grammar.specs.declared.commands.Command.{Command}
@@ -133,7 +133,7 @@ tells-none command expect extended told suits = refl
 -- within a dialogue, whose next result has this number
 record InDialogue (on : UnderWay) (outcomes : List Outcome) (index : ℕ) (left : Dialogue) (past : List Item) : Type 0 where
   pub inside : Inside on outcomes None left past
-  pub told_is : results_told past + 1 ≡ index
+  pub told_is : results_told_in past + 1 ≡ index
   pub awaits : AwaitsReplies left
 
 -- a dialogue grows by what comes next alone
@@ -159,14 +159,14 @@ inside-dialogue on outcomes slot index left past count holds =
                       ∙ goes-on start on.operations sent command expect extended (sends command expect extended go_on) suits;
                 })
                 here.inside;
-            told_is = ap (λ n. n + 1) (tells-none command expect extended (results_told now) suits) ∙ here.told_is;
+            told_is = ap (λ n. n + 1) (tells-none command expect extended (results_told_in now) suits) ∙ here.told_is;
             awaits = here.awaits.1 _;
           };
       result = λ index result later now here. record {
         inside = record {
           grows = (
             next-inside on outcomes None (tells result later) now here.inside
-                ∙ ap (λ n. Some (operated round n (results_told now + 1) result)) count
+                ∙ ap (λ n. Some (operated round n (results_told_in now + 1) result)) count
                 ∙ ap (λ n. Some (operated round slot n result)) here.told_is,
             here.inside.grows,
           );

@@ -11,10 +11,10 @@ use Rattle.air_events.specs.declared.Choice.TheVariants as choices
 use Rattle.air_events.specs.declared.Entry.{Entry}
 use Rattle.air_events.specs.declared.Several.{Several}
 use Rattle.air_events.specs.declared.Several.TheVariants as severals
-use Rattle.runs.specs.Headline.{AreLegalSteps, Acknowledges, tag_in, IsFromTag, IsGivenWhole, IsSentByATag, HasNoRawStream}
+use Rattle.runs.specs.Headline.{AreLegalSteps, Acknowledges, tag_in_exchange, IsFromTag, IsGivenWhole, IsSentByATag, HasNoRawStream}
 use Rattle.runs.specs.History.{history_of}
 use Rattle.runs.specs.Listing.{Listed}
-use Rattle.runs.specs.laws.Growth.{RoundsKeepLimit}
+use Rattle.runs.proofs.Growth.{RoundsKeepLimit}
 use Rattle.runs.proofs.Among.{Among, among-split, contains-of}
 use Rattle.runs.proofs.HeadlineListed.{IsTold}
 use Rattle.runs.proofs.HeadlineTold.{told-ack}
@@ -156,7 +156,7 @@ from-tag start sent earlier rn replied made acknowledges given =
     let heard : Hears (is_missed replied.number entry) sent.command tag replied.sent = hears (is_missed replied.number entry) sent.command tag replied.sent by.answered in
     let present : is_present tag.state ≡ true =
     answers-present rn tag.state tag.body replied.sent (subst (λ (c : Command). (step c tag.state tag.body).answer ≡ Some replied.sent) acknowledges heard.answered) in
-    let tag_same : tag_in sent earlier replied.number by.tag ≡ tag =
+    let tag_same : tag_in_exchange sent earlier replied.number by.tag ≡ tag =
     ap (λ (e : Entry). tag_after_events replied.number e.events (tag_behind replied.number by.tag earlier)) entry_is in
     record {
       tag = by.tag;

@@ -10,12 +10,12 @@ use Rattle.runs.specs.Headline.{IsLegalStep, AreLegalSteps, is_round_line, begin
 use Rattle.runs.specs.History.{past_behind_answer, slot_reception, past_behind_slot, past_behind_round, past_behind_step, past_behind, history_of}
 use Rattle.runs.specs.Report.{past_lines, last_lines, run_lines}
 use Rattle.runs.proofs.HeadlineLines.{round-lines-pass, sent-adds-none, befell-passes, operated-passes, run-passes, and-false, and-true}
-use Rattle.runs.specs.laws.Growth.{RoundsKeepLimit, answer-keeps, round-holds, few-outcomes}
+use Rattle.runs.proofs.Growth.{RoundsKeepLimit, answer-keeps, round-holds, few-outcomes}
 use Rattle.command_grammar.specs.declared.commands.Command.{Command}
 use Rattle.command_grammar.specs.declared.commands.Command.TheVariants as commands
 use Rattle.pie_line.specs.Link.{LinkValue}
 use Rattle.q_round.specs.SpecValue.{SpecValue, IsLegalSpec}
-use Rattle.q_round.specs.Rounds.{Turn, query, adjust, rep, quiet, limit, turn_of, answer_of, next_command}
+use Rattle.q_round.specs.Rounds.{Turn, query, adjust, rep, quiet, limit, turn_of, next_of_turn, next_command}
 use Rattle.q_round.specs.declared.frame.Outcome.{Outcome}
 use Rattle.q_round.specs.declared.round.Next.{Next}
 use Rattle.q_round.specs.declared.round.Next.TheVariants as nexts
@@ -150,7 +150,7 @@ sends_slot (nexts.Send command) = begins_slot command
 sends_slot nexts.Quiet = false
 sends_slot nexts.Limit = false
 
-answer-begins : (spec : SpecValue) (link : LinkValue) (turn : Turn) (command : Command) → answer_of spec link turn ≡ nexts.Send command → begins_slot command ≡ true
+answer-begins : (spec : SpecValue) (link : LinkValue) (turn : Turn) (command : Command) → next_of_turn spec link turn ≡ nexts.Send command → begins_slot command ≡ true
 answer-begins spec link query command sends = sym (ap sends_slot sends)
 answer-begins spec link (adjust updn) command sends = sym (ap sends_slot sends)
 answer-begins spec link rep command sends = sym (ap sends_slot sends)

@@ -12,7 +12,7 @@ use Rattle.runs.specs.History.{history_of}
 use Rattle.scenario.specs.declared.values.Step.{Step}
 use Rattle.pie_line.specs.Link.{LinkValue}
 use Rattle.report_lines.specs.ReportLine.{ReportLine, SeenLine, TagLine, DoneLine}
-use Rattle.report_lines.specs.SeenCounts.{Seen, seen_in}
+use Rattle.report_lines.specs.SeenCounts.{SeenCount, seen_counts}
 use Rattle.tag_machine.specs.TagValue.{TagValue}
 
 tag-no-trace : PassesNoTrace is_tag_line
@@ -42,7 +42,7 @@ tags-alone : (number : ℕ) (starts : List TagValue) (past : List Item)
 tags-alone number [] past = refl
 tags-alone number (start ∷ starts) past = ap (λ (lines : List ReportLine). TagLine number (tag_behind number start past) ∷ lines) (tags-alone (number + 1) starts past)
 
-seen-then-tags : (seen : List Seen) (number : ℕ) (starts : List TagValue) (past : List Item)
+seen-then-tags : (seen : List SeenCount) (number : ℕ) (starts : List TagValue) (past : List Item)
     → filter is_tag_line (map (λ seen. SeenLine seen.count seen.pc seen.epc) seen ++ tag_lines number (tags_behind_from number starts past) ++ DoneLine ∷ []) ≡ tag_lines_behind number starts past
 seen-then-tags [] number starts past = tags-alone number starts past
 seen-then-tags (one ∷ more) number starts past = seen-then-tags more number starts past
@@ -53,7 +53,7 @@ run-tags : (start : Start) (past : List Item)
 run-tags start past =
     filter-append is_tag_line (past_lines start.link past) (last_lines start past)
     ∙ ap (λ (lines : List ReportLine). lines ++ filter is_tag_line (last_lines start past)) (no-past start.link past)
-    ∙ seen-then-tags (seen_in (map (λ listed. (listed.pc, listed.epc)) (listing_of past))) 0 start.tags past
+    ∙ seen-then-tags (seen_counts (map (λ listed. (listed.pc, listed.epc)) (listing_of past))) 0 start.tags past
 
 pub report-tags : (mode : Mode) (start : Start) (steps : List Step) → filter is_tag_line (report_of mode start steps) ≡ tag_lines_behind 0 start.tags (history_of start steps)
 report-tags mode start steps = kept-pass is_tag_line tag-no-trace mode (run_lines start steps) ∙ run-tags start (history_of start steps)

@@ -10,7 +10,7 @@ use Rattle.runs.specs.Said.{answer_line, exchanged_by}
 use Rattle.runs.specs.Report.{first_lines, exchange_lines, wave_lines, list_line, item_lines, past_lines, tag_lines, last_lines, run_lines, report_of}
 use Rattle.report_lines.specs.Kept.{keeps}
 use Rattle.report_lines.specs.declared.mode.Mode.{Mode}
-use Rattle.runs.specs.laws.Growth.{RoundsKeepLimit}
+use Rattle.runs.proofs.Growth.{RoundsKeepLimit}
 use Rattle.runs.proofs.Among.{Among, among-of, among-split}
 use Rattle.runs.proofs.HeadlineKept.{among-kept}
 use Rattle.runs.proofs.HeadlineListed.{Tells, IsTold, one-ack}
@@ -20,7 +20,7 @@ use Rattle.pie_line.specs.Link.{LinkValue}
 use Rattle.reply_grammar.specs.declared.expected.Expect.TheVariants as expects
 use Rattle.reply_grammar.specs.declared.expected.Reply.TheVariants as replies
 use Rattle.report_lines.specs.ReportLine.{ReportLine, MissedLine, GivenLine, SeenLine, DoneLine}
-use Rattle.report_lines.specs.SeenCounts.{Seen, seen_in}
+use Rattle.report_lines.specs.SeenCounts.{SeenCount, seen_counts}
 use Rattle.scenario.specs.declared.values.Step.{Step}
 use Rattle.wave_dump.specs.Exchanged.{Exchanged}
 use Rattle.tag_machine.specs.TagValue.{TagValue}
@@ -116,7 +116,7 @@ told link (item ∷ past) listed among =
     ]
 
 -- behind the steps nothing is listed
-none-last : (seen : List Seen) (number : ℕ) (tags : List TagValue) (listed : Listed)
+none-last : (seen : List SeenCount) (number : ℕ) (tags : List TagValue) (listed : Listed)
     → Among (list_line listed) (map (λ seen. SeenLine seen.count seen.pc seen.epc) seen ++ tag_lines number tags ++ DoneLine ∷ []) → ⊥
 none-last [] number [] listed (inl is) = cc
 none-last [] number [] listed (inr none) = none
@@ -130,7 +130,7 @@ pub told-run : (start : Start) (past : List Item) (listed : Listed)
 told-run start past listed among =
     elim (among-split (list_line listed) (past_lines start.link past) (last_lines start past) among) [
       | inl found ↦ told start.link past listed found
-      | inr found ↦ absurd (none-last (seen_in (map (λ listed. (listed.pc, listed.epc)) (listing_of past))) 0 (tags_behind start past) listed found)
+      | inr found ↦ absurd (none-last (seen_counts (map (λ listed. (listed.pc, listed.epc)) (listing_of past))) 0 (tags_behind start past) listed found)
     ]
 
 -- ... also where a mode has kept it

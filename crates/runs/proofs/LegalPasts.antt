@@ -16,14 +16,14 @@ use Rattle.air_model.specs.Past.{Start, Record, Item, befell, exchanged, operate
 use Rattle.air_model.specs.Reception.{has_handle, has_preamble, is_expected, reception_of, reception_with, IsGiven}
 use Rattle.air_events.specs.declared.Entry.{Entry}
 use Rattle.air_events.specs.declared.Event.{Event}
-use Rattle.air_model.specs.laws.ReceptionLaws.{from_whole}
+use Rattle.air_model.proofs.ReceptionLaws.{from_whole}
 use Rattle.bit_strings.specs.declared.code.Code.{Code}
 use Rattle.runs.proofs.Answering.{SendsInRange, given-of-answers}
-use Rattle.runs.specs.laws.Growth.{dialogue-holds, listing-holds, answer-holds, always-holds, steps-hold}
-use Rattle.runs.specs.laws.PlayedRounds.{SlotOfRun}
+use Rattle.runs.proofs.Growth.{dialogue-holds, listing-holds, answer-holds, always-holds, steps-hold}
+use Rattle.runs.proofs.PlayedRounds.{SlotOfRun}
 use Rattle.runs.proofs.LegalStart.{CopiesAreTags, start-legal, selection-legal}
 use Rattle.runs.specs.laws.Replies.{StaysLegal, events-legal}
-use Rattle.runs.specs.laws.Tags.{tags-exchanged, tags-befell, tags-operated, tags-ended}
+use Rattle.runs.proofs.Tags.{tags-exchanged, tags-befell, tags-operated, tags-ended}
 use Rattle.runs.specs.Headline.{IsRecordOf}
 use Rattle.runs.specs.History.{operation_reception, past_behind_dialogue, ack_reception, past_behind_ack, slot_reception, past_behind_slot, past_behind_round, past_behind_step}
 use Rattle.runs.specs.ScenarioStart.{start_of, history}
@@ -38,7 +38,7 @@ use Rattle.q_round.specs.SpecValue.{SpecValue, IsLegalSpec}
 use Rattle.q_round.specs.declared.frame.Outcome.{Outcome}
 use Rattle.q_round.specs.declared.round.RoundEnd.{RoundEnd}
 use Rattle.reply_grammar.specs.Reception.{Reception, no_stream, whole_reply, no_such_reply, reception_from}
-use Rattle.reply_grammar.specs.laws.Suiting.{suits-true}
+use Rattle.reply_grammar.proofs.Suiting.{suits-true}
 use Rattle.reply_grammar.specs.Table.{Suits, suits, handle_of, IsReply}
 use Rattle.reply_grammar.specs.declared.expected.Expect.{Expect}
 use Rattle.reply_grammar.specs.declared.expected.Expect.TheVariants as expects
@@ -48,7 +48,7 @@ use Rattle.reply_grammar.specs.declared.expected.Reply.{Reply}
 use Rattle.reply_grammar.specs.declared.expected.Reply.TheVariants as replies
 use Rattle.reply_wire.specs.Received.{IsReceived}
 use Rattle.reply_wire.specs.Receiving.{received_of}
-use Rattle.reply_wire.specs.laws.ReceivedLaws.{received_there}
+use Rattle.reply_wire.proofs.ReceivedLaws.{received_there}
 use Rattle.scenario.specs.Groups.{tags_of}
 use Rattle.scenario.specs.Limits.{IsStep, IsScenario}
 use Rattle.scenario.specs.declared.values.Scenario.{Scenario}

@@ -4,7 +4,7 @@ use Rattle.std.proofs.lemmas.List.Elements.{All-cons, All-from_recursion, recurs
 use Rattle.std.specs.List.{AllByRecursion}
 use Rattle.std.specs.Prelude.{All}
 use Rattle.tag_machine.specs.Exchange.{AreLegalTags}
-use Rattle.runs.specs.ScenarioStart.{start_of, tag_of}
+use Rattle.runs.specs.ScenarioStart.{start_of, scenario_tag}
 use Rattle.bit_strings.specs.laws.Numbers.{value_of-below}
 use Rattle.bit_strings.specs.Words.{bits_of_words}
 use Rattle.command_grammar.specs.Commands.{IsWord, IsLegalCommand}
@@ -20,7 +20,7 @@ use Rattle.scenario.specs.declared.values.Step.TheVariants as steps
 use Rattle.scenario.specs.declared.values.TagGroup.{TagGroup}
 use Rattle.scenario_lines.specs.declared.version.Version.{Version}
 use Rattle.scenario_lines.specs.TagForm.{IsTag}
-use Rattle.scenario_lines.specs.laws.TagLaws.{banks-legal}
+use Rattle.scenario_lines.proofs.TagLaws.{banks-legal}
 use Rattle.scenario_lines.specs.declared.tag.TagSpec.{TagSpec}
 use Rattle.tag_machine.specs.TagValue.{IsLegalTag}
 use Rattle.tag_memory.specs.Image.{banks_of, image_banks}
@@ -51,7 +51,7 @@ banks-words tag is = record {
   user = is.form.user.small;
 }
 
-new-legal : (tag : TagSpec) → IsTag tag → IsLegalTag (tag_of tag)
+new-legal : (tag : TagSpec) → IsTag tag → IsLegalTag (scenario_tag tag)
 new-legal tag is = record {
   state = tt;
   body = record {
@@ -62,7 +62,7 @@ new-legal tag is = record {
   };
 }
 
-new-legal-each : (tags : List TagSpec) → AllByRecursion IsTag tags → AreLegalTags (map tag_of tags)
+new-legal-each : (tags : List TagSpec) → AllByRecursion IsTag tags → AreLegalTags (map scenario_tag tags)
 new-legal-each [] are = tt
 new-legal-each (tag ∷ tags) are = (new-legal tag are.0, new-legal-each tags are.1)
 

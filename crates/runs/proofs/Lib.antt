@@ -39,3 +39,8 @@ pub mod Keeping
 pub mod PlainRounds
 pub mod OneRound
 pub mod PortalRounds
+pub mod Growth
+pub mod HeadlineCounts
+pub mod HeadlineLegal
+pub mod PlayedRounds
+pub mod Tags

@@ -6,14 +6,14 @@ use Rattle.air_events.specs.declared.Entry.{Entry}
 use Rattle.air_model.specs.Channel.{Given, raw, IsReadBy, IsOfReplies, GoesByReplies}
 use Rattle.tag_machine.specs.Exchange.{replies_in}
 use Rattle.air_model.specs.Past.{Start, Record, Item, befell, exchanged, operated, ended, tags_behind, exchanges_in, rounds_in, next_entry, next_record, past_behind_command}
-use Rattle.air_model.specs.laws.GivenLaws.{given_is_read, given_of_replies}
+use Rattle.air_model.proofs.GivenLaws.{given_is_read, given_of_replies}
 use Rattle.bit_strings.specs.declared.code.Code.{Code}
 use Rattle.command_grammar.specs.declared.commands.Command.{Command}
 use Rattle.runs.specs.Headline.{IsRecordOf, HasNoRawStream}
 use Rattle.runs.specs.History.{slot_reception, past_behind_slot, past_behind_step, past_behind, history_of}
 use Rattle.runs.specs.Listed.{sender_where, sender_listed_by}
 use Rattle.runs.specs.Listing.{Listed, listed_by}
-use Rattle.runs.specs.laws.Growth.{answer-keeps, always-holds}
+use Rattle.runs.proofs.Growth.{answer-keeps, always-holds}
 use Rattle.scenario.specs.declared.values.Step.{Step}
 use Rattle.scenario.specs.declared.values.Step.TheVariants as steps
 

@@ -2,7 +2,7 @@
 -- the results and ends that follow them.
 use Rattle.std.proofs.Common.{◌≡◌, ◌+◌, ◌<◌, ◌⊎◌, inl, inr, List, [], ◌∷◌, ◌++◌, length, refl, ap, sym, ◌∙◌, arith, length-append}
 use Rattle.air_model.specs.Past.{Start, Item, befell, exchanged, operated, ended}
-use Rattle.runs.specs.laws.Growth.{Grows, grows-more}
+use Rattle.runs.proofs.Growth.{Grows, grows-more}
 use Rattle.runs.proofs.HeadlineNext.{compared, equal, below, above, same-growth}
 use Rattle.runs.specs.EventsAndRecords.{events_and_records_of, IsConcluded}
 use Rattle.runs.specs.NextItem.{GrowsByNext}

@@ -14,14 +14,14 @@ use Rattle.q_round.specs.declared.round.RoundEnd.TheVariants as ends
 use Rattle.scenario.specs.declared.values.Step.TheVariants as steps
 use Rattle.session_flags.specs.Flags.{matches}
 use Rattle.tag_machine.specs.TagValue.{StateValue, TagValue, ReadyState, is_present}
-use Rattle.two_portals.specs.Played.{AreReady, IsLeft, IsPairOf, IsQuietRound, ListsItsTags, Played, flags_in_round, is_named, pair_of, times}
+use Rattle.two_portals.specs.Played.{AreReady, IsLeftByRound, IsPairOf, IsQuietRound, ListsItsTags, Played, flags_in_round, is_named, pc_and_epc_of, times}
 use Rattle.two_portals.proofs.Independence.{Laws}
 use Rattle.runs.specs.Listed.{tags_listed_in, tags_listed_where}
 use Rattle.runs.specs.Moments.{ending_of, flags_after_query, is_matched_in, tag_after_query}
 use Rattle.scenario.specs.Limits.{no_operations}
 use Rattle.runs.specs.RoundsTold.{played_of, start_with}
 use Rattle.runs.specs.TagInRound.{flags_behind_query, is_matched}
-use Rattle.runs.specs.laws.Tags.{length-tags}
+use Rattle.runs.proofs.Tags.{length-tags}
 use Rattle.runs.proofs.CompleteRound.{IsTold, complete-inventory, history-told, played}
 use Rattle.runs.proofs.EveryTag.{IsOneRun, IsThere, ListsTags, after-query, among_of, history_of_round, key, key_of, lists-tags}
 use Rattle.runs.proofs.Honesty.{honest-run}
@@ -53,7 +53,7 @@ one-run tags spec legal = record {
 -- the pair of a tag that is listed is its own
 key-is : (tags : List TagValue) (number : ℕ) → IsThere (start_with tags) number → IsPairOf tags (key (start_with tags) number) number
 key-is tags number there =
-    slice_get-map pair_of tags number ∙ ap (option_map pair_of) there.numbered ∙ ap (λ (found : Option TagValue). Some (key_of found)) (sym there.numbered)
+    slice_get-map pc_and_epc_of tags number ∙ ap (option_map pc_and_epc_of) there.numbered ∙ ap (λ (found : Option TagValue). Some (key_of found)) (sym there.numbered)
 
 keys-are : (tags : List TagValue) (numbers : List ℕ) → AllByRecursion (IsThere (start_with tags)) numbers → AllZip (IsPairOf tags) (map (key (start_with tags)) numbers) numbers
 keys-are tags [] there = tt
@@ -137,12 +137,12 @@ is-quiet-round tags spec legal ready quiet =
     (record {
       named = λ number tag at.
           ap (times number) listed ∙ complete.listed number tag at ∙ ap (λ (named : Bool). if named then 1 else 0) (matched number tag at);
-      left = zip-from (IsLeft spec) 0 tags one.past (λ number tag at.
+      left = zip-from (IsLeftByRound spec) 0 tags one.past (λ number tag at.
           let kept : Keeps tag (tag_behind (0 + number) tag one.past) = zip-at Keeps 0 tags one.past number tag one.kept at in
           let place : 0 + number ≡ number = omega arith in
           let is_ready = ready-at tags number tag ready at in
           let there : is_present tag.state ≡ true = ap is_present is_ready in
-          subst (λ (n : ℕ). IsLeft spec tag (tag_behind n tag one.past)) (sym place)
+          subst (λ (n : ℕ). IsLeftByRound spec tag (tag_behind n tag one.past)) (sym place)
           (record {
             state = complete.ready number tag at (subst (λ (n : ℕ). is_present (tag_behind n tag one.past).state ≡ true) place (kept.present there));
             flags =

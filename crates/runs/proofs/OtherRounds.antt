@@ -9,7 +9,7 @@ use Rattle.command_grammar.specs.declared.commands.Command.TheVariants as comman
 use Rattle.runs.specs.Listed.{sender_listed_by, tags_listed_where}
 use Rattle.runs.specs.Moments.{is_query, is_query_of, past_after_query, ending_of}
 use Rattle.runs.proofs.Turns.{round-holds}
-use Rattle.runs.specs.laws.Growth.{RoundsKeepLimit}
+use Rattle.runs.proofs.Growth.{RoundsKeepLimit}
 use Rattle.q_round.specs.SpecValue.{SpecValue, IsLegalSpec}
 use Rattle.scenario.specs.declared.values.Step.{Step}
 use Rattle.scenario.specs.declared.values.Step.TheVariants as steps

@@ -15,7 +15,7 @@ use Rattle.command_grammar.specs.declared.commands.Command.{Command}
 use Rattle.command_grammar.specs.declared.commands.Command.TheVariants as commands
 use Rattle.pie_line.specs.Link.{LinkValue}
 use Rattle.q_round.specs.SpecValue.{SpecValue, IsLegalSpec}
-use Rattle.q_round.specs.Rounds.{Turn, query, adjust, rep, quiet, limit, ends as over, AreOutcomes, answer_of, is_over, turn_of}
+use Rattle.q_round.specs.Rounds.{Turn, query, adjust, rep, quiet, limit, is_last_turn as over, AreOutcomes, next_of_turn, is_over, turn_of}
 use Rattle.q_round.specs.declared.frame.Outcome.{Outcome}
 use Rattle.q_round.specs.declared.round.Next.TheVariants as nexts
 use Rattle.q_round.specs.declared.round.RoundEnd.{RoundEnd}
@@ -33,8 +33,8 @@ use Rattle.runs.specs.Listed.{sender_listed_by, sender_where, tags_listed_where}
 use Rattle.runs.specs.Listing.{listed_by, listed_from, listing_of, reception_of_ack}
 use Rattle.scenario.specs.Limits.{no_operations}
 use Rattle.runs.specs.RoundsTold.{GoesByTags, IsBetweenRounds, IsPlain, first_round, pair_listed, pairs_listed_by, pairs_since, played_of, round_ended, rounds_told, senders_since, start_with}
-use Rattle.runs.specs.laws.Growth.{RoundsKeepLimit, few-outcomes}
-use Rattle.runs.specs.laws.Tags.{tags-ended, tags-exchanged}
+use Rattle.runs.proofs.Growth.{RoundsKeepLimit, few-outcomes}
+use Rattle.runs.proofs.Tags.{tags-ended, tags-exchanged}
 use Rattle.runs.specs.EveryTag.{pairs_listed}
 use Rattle.runs.proofs.Keeping.{Keeps, ack-keeps, keeps-on, query-keeps, query_adjust-keeps, query_rep-keeps}
 use Rattle.runs.proofs.Turns.{nothing-begun}
@@ -291,8 +291,8 @@ send-alike b left outcomes sent past past2 alike later =
 
 turn-alike : (b : Both) (left : ℕ) (outcomes : List Outcome) (past past2 : List Item) (turn : Turn) → turn_of b.spec outcomes ≡ turn → AreBoth b past past2
     → ((outcome : Outcome) (behind behind2 : List Item) → is_over b.spec outcomes ≡ false → AreBoth b behind behind2 → Goes b left (outcome ∷ outcomes) behind behind2)
-    → AreTold b (past_behind_turn (past_behind_turns left b.start b.operations b.round b.spec) b.start b.operations b.round outcomes past (answer_of b.spec b.start.link turn))
-    (past_behind_turn (past_behind_turns left b.start2 b.operations2 b.round2 b.spec) b.start2 b.operations2 b.round2 outcomes past2 (answer_of b.spec b.start2.link turn))
+    → AreTold b (past_behind_turn (past_behind_turns left b.start b.operations b.round b.spec) b.start b.operations b.round outcomes past (next_of_turn b.spec b.start.link turn))
+    (past_behind_turn (past_behind_turns left b.start2 b.operations2 b.round2 b.spec) b.start2 b.operations2 b.round2 outcomes past2 (next_of_turn b.spec b.start2.link turn))
 turn-alike b left outcomes past past2 query is alike later =
     send-alike b left outcomes (queries b.spec b.start.link b.start2.link) past past2 alike (λ outcome behind behind2 more. later outcome behind behind2 (ap over is) more)
 turn-alike b left outcomes past past2 (adjust updn) is alike later =

@@ -13,14 +13,14 @@ use Rattle.scenario.specs.declared.values.Step.{Step}
 use Rattle.scenario.specs.declared.values.Step.TheVariants as steps
 use Rattle.tag_machine.specs.TagValue.{TagValue}
 use Rattle.two_portals.specs.Played.{Played}
-use Rattle.two_portals.specs.PortalLines.{HaveTheSameSenders, IsNewTag, IsOfPortal, is_of, lines_of, lines_of_portal, portal_lines, rounds_of, rounds_played}
+use Rattle.two_portals.specs.PortalLines.{HaveTheSameSenders, IsNewTag, IsOfPortal, is_of_session, portal_lines_of, lines_of_portal, portal_lines, portal_rounds_of, rounds_played}
 use Rattle.two_portals.proofs.Independence.{new-tags-agree, new-tags-same}
 use Rattle.two_portals.specs.declared.portal_line.PortalLine.{PortalLine}
 use Rattle.runs.specs.Headline.{AreLegalSteps}
 use Rattle.runs.specs.History.{history_of, past_behind, past_behind_round}
 use Rattle.runs.specs.Portals.{AreTurns, ArePortalsIndependent, IsOfPortals, alone, is_round_of, lines_told, other_portal, portals_told, specs_of}
 use Rattle.runs.specs.RoundsTold.{IsBetweenRounds, IsPlain, played_of, rounds_told}
-use Rattle.runs.specs.ScenarioStart.{start_of, tag_of}
+use Rattle.runs.specs.ScenarioStart.{start_of, scenario_tag}
 use Rattle.runs.proofs.OneRound.{played-laws}
 use Rattle.runs.proofs.PlainRounds.{goes-by-tags, tags-from-none}
 
@@ -52,10 +52,10 @@ told-whole start plain taken each =
     ∙ ap (λ (tags : List TagValue). rounds_played played_of tags (specs_of taken)) (tags-from-none 0 start.tags)
 
 -- the steps of a session are the rounds of it
-specs-of-session : (session : ℕ) (taken : List Step) → AllByRecursion IsPlainStep taken → specs_of (filter (is_round_of session) taken) ≡ filter (is_of session) (specs_of taken)
+specs-of-session : (session : ℕ) (taken : List Step) → AllByRecursion IsPlainStep taken → specs_of (filter (is_round_of session) taken) ≡ filter (is_of_session session) (specs_of taken)
 specs-of-session session [] each = refl
 specs-of-session session (steps.Round spec operations ∷ taken) each =
-    kept (spec.session == session) (steps.Round spec operations) spec (filter (is_round_of session) taken) (filter (is_of session) (specs_of taken)) (λ later. refl) (specs-of-session session taken each.1)
+    kept (spec.session == session) (steps.Round spec operations) spec (filter (is_round_of session) taken) (filter (is_of_session session) (specs_of taken)) (λ later. refl) (specs-of-session session taken each.1)
   where
     kept : (passes : Bool) (step : Step) (spec : SpecValue) (later : List Step) (specs : List SpecValue) → ((later : List Step) → specs_of (step ∷ later) ≡ spec ∷ specs_of later)
         → specs_of later ≡ specs → specs_of (if passes then step ∷ later else later) ≡ (if passes then spec ∷ specs else specs)
@@ -81,7 +81,7 @@ lines-played scenario session plain each =
     let joint = told-whole start plain scenario.steps each in
     let own = told-whole start plain (filter (is_round_of session) scenario.steps) (plain-kept session scenario.steps each)
     ∙ ap (rounds_played played_of start.tags) (specs-of-session session scenario.steps each) in
-    (λ i. lines_of session 1 (rounds_of session (specs_of scenario.steps) (joint i)) (own i))
+    (λ i. portal_lines_of session 1 (portal_rounds_of session (specs_of scenario.steps) (joint i)) (own i))
 
 pub portals-played : (scenario : Scenario) → IsPlain (start_of scenario) → AllByRecursion IsPlainStep scenario.steps
     → portals_told scenario ≡ portal_lines played_of (start_of scenario).tags (specs_of scenario.steps)
@@ -102,9 +102,9 @@ plain-steps session (steps.Nak ∷ taken) legal turns = absurd turns.0
 plain-steps session (steps.Event event number ∷ taken) legal turns = absurd turns.0
 
 -- its tags are new at the start
-all-new : (tags : List TagSpec) → All IsNewTag (map tag_of tags)
+all-new : (tags : List TagSpec) → All IsNewTag (map scenario_tag tags)
 all-new [] = All-nil IsNewTag
-all-new (tag ∷ tags) = All-cons IsNewTag (tag_of tag) (map tag_of tags) (record { state = refl; flags = refl }) (all-new tags)
+all-new (tag ∷ tags) = All-cons IsNewTag (scenario_tag tag) (map scenario_tag tags) (record { state = refl; flags = refl }) (all-new tags)
 
 pub new-at-start : (scenario : Scenario) → All IsNewTag (start_of scenario).tags
 new-at-start scenario = all-new (tags_of scenario.groups)
@@ -150,15 +150,15 @@ portals-independent scenario portals each quiet =
     let quiet_played = subst (λ (lines : List PortalLine). All (λ line. line.quiet ≡ true) lines) told quiet in
     let agree = new-tags-agree played_of played-laws specs start.tags legal of fresh quiet_played in
     let joint = told-whole start plain scenario.steps each in
-    let own : (session : ℕ) → rounds_told start (alone scenario session) ≡ rounds_played played_of start.tags (filter (is_of session) specs) =
+    let own : (session : ℕ) → rounds_told start (alone scenario session) ≡ rounds_played played_of start.tags (filter (is_of_session session) specs) =
     λ session.
     told-whole start plain (filter (is_round_of session) scenario.steps) (plain-kept session scenario.steps each)
     ∙ ap (rounds_played played_of start.tags) (specs-of-session session scenario.steps each) in
     record {
-      second = (subst (λ (rounds : List Played). HaveTheSameSenders (rounds_of 2 specs rounds) (rounds_told start (alone scenario 2))) (sym joint)
-          (subst (HaveTheSameSenders (rounds_of 2 specs (rounds_played played_of start.tags specs))) (sym (own 2)) agree.0));
-      third = (subst (λ (rounds : List Played). HaveTheSameSenders (rounds_of 3 specs rounds) (rounds_told start (alone scenario 3))) (sym joint)
-          (subst (HaveTheSameSenders (rounds_of 3 specs (rounds_played played_of start.tags specs))) (sym (own 3)) agree.1));
+      second = (subst (λ (rounds : List Played). HaveTheSameSenders (portal_rounds_of 2 specs rounds) (rounds_told start (alone scenario 2))) (sym joint)
+          (subst (HaveTheSameSenders (portal_rounds_of 2 specs (rounds_played played_of start.tags specs))) (sym (own 2)) agree.0));
+      third = (subst (λ (rounds : List Played). HaveTheSameSenders (portal_rounds_of 3 specs rounds) (rounds_told start (alone scenario 3))) (sym joint)
+          (subst (HaveTheSameSenders (portal_rounds_of 3 specs (rounds_played played_of start.tags specs))) (sym (own 3)) agree.1));
       same = subst (λ (lines : List PortalLine). All (λ line. line.same ≡ true) lines) (sym told)
           (new-tags-same played_of played-laws specs start.tags legal of fresh quiet_played);
     }

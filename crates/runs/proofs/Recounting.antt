@@ -15,7 +15,7 @@ use Rattle.tag_machine.specs.TagValue.{TagValue}
 use Rattle.runs.specs.Complete.{HasNumber}
 use Rattle.runs.specs.Headline.{AreLegalSteps, rounds_of}
 use Rattle.runs.specs.Recounts.{AreInTurn, HoldsOfEach, IsFresh, IsListedBySound, IsRecount, IsSound, IsThere, MayTakePart, Recount, enough_from_any, enough_from_fresh, history_with, other_side, round_behind, steps_with, tag_where, unsound_from}
-use Rattle.runs.specs.laws.Growth.{RoundsKeepLimit}
+use Rattle.runs.proofs.Growth.{RoundsKeepLimit}
 use Rattle.runs.proofs.CompleteRound.{RoundAmong, RoundsHaveFacts}
 use Rattle.runs.proofs.SideBySide.{HasFlagWhere, IsListedIn, side-fresh, sound-leaves, sound-lists}
 

@@ -27,8 +27,8 @@ use Rattle.runs.specs.Listing.{Listed, listed_by}
 use Rattle.runs.specs.Moments.{Ending, ending_of, is_query_of, past_after_query, tag_after_query}
 use Rattle.runs.specs.Recounts.{AreInTurn, HoldsOfEach, IsSound, MayTakePart, Recount, history_with, is_inventoried_in, other_side, round_behind, steps_with, tag_where, unsound_from}
 use Rattle.runs.specs.TagInRound.{flags_behind_query, flags_closed, flags_in_round, is_matched}
-use Rattle.runs.specs.laws.Growth.{RoundsKeepLimit}
-use Rattle.runs.specs.laws.PlayedRounds.{number_of, past_behind_played}
+use Rattle.runs.proofs.Growth.{RoundsKeepLimit}
+use Rattle.runs.proofs.PlayedRounds.{number_of, past_behind_played}
 use Rattle.runs.proofs.CompleteRound.{IsFairRound, IsTold, RoundAmong, RoundsHaveFacts, at-quiet, counted-round, number-among, past_behind-append, legal-split, played, steps_around, taken-told}
 use Rattle.runs.proofs.Population.{tag-steps, tag_stepped}
 use Rattle.runs.proofs.TagQuery.{query-flags, query-matched}

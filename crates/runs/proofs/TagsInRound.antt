@@ -22,7 +22,7 @@ use Rattle.runs.proofs.TagEnds.{listed-once}
 use Rattle.runs.proofs.Members.{Frame, Member, StandsAfter, StandsBefore}
 use Rattle.runs.proofs.TagSteps.{Turn, slot-stands, slot-answer, slot-flags}
 use Rattle.runs.proofs.Times.{bit, times-append, times-one, bit-either, bit-test, lists-none, lists-elsewhere, lists-one}
-use Rattle.runs.specs.laws.PlayedRounds.{SlotOfRun, PlayedRound, number_of, slot_in, DoesNext}
+use Rattle.runs.proofs.PlayedRounds.{SlotOfRun, PlayedRound, number_of, slot_in, DoesNext}
 use Rattle.pie_line.specs.Link.{LinkValue}
 use Rattle.q_round.specs.laws.RoundFacts.{IsNextSlot, IsNextTurn, RoundFacts}
 use Rattle.q_round.specs.Rounds.{q_of, frame_of}

@@ -8,8 +8,8 @@ use Rattle.air_model.specs.Past.{Record, Item, operated, ended, next_record, pas
 use Rattle.reply_grammar.specs.Reception.{Reception, no_stream, whole_reply, no_such_reply}
 use Rattle.runs.specs.History.{outcome_of, past_behind_dialogue, dialogue_begun, ack_reception, slot_reception, past_behind_slot}
 use Rattle.runs.specs.NextItem.{rn_of}
-use Rattle.runs.specs.laws.Growth.{RoundsKeepLimit, KeptByOperations, dialogue-keeps, begun-awaits, next_at_end, outcome-cases, round-holds as behind-round}
-use Rattle.runs.specs.laws.PlayedRounds.{SlotOfRun, PlayedRound, number_of, slot_in, past_behind_played, DoesNext}
+use Rattle.runs.proofs.Growth.{RoundsKeepLimit, KeptByOperations, dialogue-keeps, begun-awaits, next_at_end, outcome-cases, round-holds as behind-round}
+use Rattle.runs.proofs.PlayedRounds.{SlotOfRun, PlayedRound, number_of, slot_in, past_behind_played, DoesNext}
 use Rattle.command_grammar.specs.declared.commands.Command.{Command}
 use Rattle.command_grammar.specs.declared.commands.Command.TheVariants as commands
 use Rattle.q_round.specs.SpecValue.{IsLegalSpec}

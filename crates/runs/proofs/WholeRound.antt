@@ -21,8 +21,8 @@ use Rattle.runs.proofs.TagsInRound.{query_command, past_at_query, StepsFlagsOf, 
 use Rattle.runs.proofs.TagQuery.{query-stands, query-answer, query-spoken}
 use Rattle.runs.proofs.Times.{lists-none}
 use Rattle.runs.proofs.Turns.{round-holds}
-use Rattle.runs.specs.laws.Growth.{RoundsKeepLimit, next_at_end}
-use Rattle.runs.specs.laws.PlayedRounds.{PlayedRound, number_of, past_behind_played, DoesNext}
+use Rattle.runs.proofs.Growth.{RoundsKeepLimit, next_at_end}
+use Rattle.runs.proofs.PlayedRounds.{PlayedRound, number_of, past_behind_played, DoesNext}
 use Rattle.pie_line.specs.Link.{LinkValue}
 use Rattle.q_round.specs.laws.RoundFacts.{IsNextTurn, RoundFacts}
 use Rattle.q_round.specs.laws.RoundLaws.{IsSilentFrame}

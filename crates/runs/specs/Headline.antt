@@ -54,8 +54,8 @@ abbrev pub Acknowledges : Record → ℕ → Type 0
 Acknowledges sent rn = sent.command ≡ commands.Ack rn
 
 -- the tag of a number in an exchange: as it stands behind what was past, after the events that are named for the exchange
-abbrev pub tag_in : Record → List Item → ℕ → TagValue → TagValue
-tag_in sent earlier number tag = tag_after_events number sent.entry.events (tag_behind number tag earlier)
+abbrev pub tag_in_exchange : Record → List Item → ℕ → TagValue → TagValue
+tag_in_exchange sent earlier number tag = tag_after_events number sent.entry.events (tag_behind number tag earlier)
 
 -- what a tag answers a command with, or nothing
 abbrev pub answer_to : Command → TagValue → Option Sent
@@ -66,9 +66,9 @@ answer_to command tag = (step command tag.state tag.body).answer
 pub record IsFromTag (start : Start) (sent : Record) (earlier : List Item) (replied : Replied) : Type 0 where
   pub tag : TagValue
   pub numbered : slice_get start.tags replied.number ≡ Some tag
-  pub present : is_present (tag_in sent earlier replied.number tag).state ≡ true
+  pub present : is_present (tag_in_exchange sent earlier replied.number tag).state ≡ true
   pub heard : Contains sent.hearers replied.number
-  pub answered : answer_to sent.command (tag_in sent earlier replied.number tag) ≡ Some replied.sent
+  pub answered : answer_to sent.command (tag_in_exchange sent earlier replied.number tag) ≡ Some replied.sent
   pub recorded : Contains sent.replies replied
 
 -- the channel gave a tag's PC and EPC whole

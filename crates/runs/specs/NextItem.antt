@@ -88,10 +88,10 @@ abbrev pub results_behind_exchange : Command → ℕ → ℕ
 results_behind_exchange (commands.Ack rn) before = 0
 results_behind_exchange command before = before
 
-abbrev pub results_told : List Item → ℕ
-results_told (exchanged sent ∷ past) = results_behind_exchange sent.command (results_told past)
-results_told (operated round slot index result ∷ past) = results_told past + 1
-results_told past = 0
+abbrev pub results_told_in : List Item → ℕ
+results_told_in (exchanged sent ∷ past) = results_behind_exchange sent.command (results_told_in past)
+results_told_in (operated round slot index result ∷ past) = results_told_in past + 1
+results_told_in past = 0
 
 -- in a round, where no operation is left: an ACK directly after a slot command whose RN16 was received whole, and else what the
 -- rounds' rule gives
@@ -102,7 +102,7 @@ item_of_slots start spec round outcomes past None = item_by_rule start round out
 -- in a round: what the dialogue with the tag that was listed last wants, while it goes on
 abbrev pub item_in_round : Start → SpecValue → ℕ → List Outcome → List Item → Dialogue → Item
 item_in_round start spec round outcomes past (sends command expect extended go_on) = exchanged (next_record start round (length outcomes) command past)
-item_in_round start spec round outcomes past (tells result later) = operated round (length outcomes) (results_told past + 1) result
+item_in_round start spec round outcomes past (tells result later) = operated round (length outcomes) (results_told_in past + 1) result
 item_in_round start spec round outcomes past done = item_of_slots start spec round outcomes past (rn_received past)
 
 -- what comes next in a step, or nothing where no step is left

@@ -6,7 +6,7 @@ use Rattle.q_round.specs.SpecValue.{SpecValue}
 use Rattle.scenario.specs.declared.values.Scenario.{Scenario}
 use Rattle.scenario.specs.declared.values.Step.{Step}
 use Rattle.scenario.specs.declared.values.Step.TheVariants as steps
-use Rattle.two_portals.specs.PortalLines.{HaveTheSameSenders, lines_of, rounds_of}
+use Rattle.two_portals.specs.PortalLines.{HaveTheSameSenders, portal_lines_of, portal_rounds_of}
 use Rattle.two_portals.specs.declared.portal_line.PortalLine.{PortalLine}
 use Rattle.runs.specs.History.{history_of}
 use Rattle.runs.specs.RoundsTold.{rounds_told}
@@ -31,7 +31,7 @@ alone scenario session = history_of (start_of scenario) (filter (is_round_of ses
 abbrev pub lines_told : ℕ → Scenario → List PortalLine
 lines_told session scenario =
     let start = start_of scenario in
-    lines_of session 1 (rounds_of session (specs_of scenario.steps) (rounds_told start (history scenario))) (rounds_told start (alone scenario session))
+    portal_lines_of session 1 (portal_rounds_of session (specs_of scenario.steps) (rounds_told start (history scenario))) (rounds_told start (alone scenario session))
 
 -- the lines of both portals, portal 2's first
 abbrev pub portals_told : Scenario → List PortalLine
@@ -61,6 +61,6 @@ pub record IsOfPortals (scenario : Scenario) : Type 0 where
 -- Each round of a portal has jointly the senders that it has alone, told apart by their numbers, and each line says that the same was
 -- listed.
 pub record ArePortalsIndependent (scenario : Scenario) : Type 0 where
-  pub second : HaveTheSameSenders (rounds_of 2 (specs_of scenario.steps) (rounds_told (start_of scenario) (history scenario))) (rounds_told (start_of scenario) (alone scenario 2))
-  pub third : HaveTheSameSenders (rounds_of 3 (specs_of scenario.steps) (rounds_told (start_of scenario) (history scenario))) (rounds_told (start_of scenario) (alone scenario 3))
+  pub second : HaveTheSameSenders (portal_rounds_of 2 (specs_of scenario.steps) (rounds_told (start_of scenario) (history scenario))) (rounds_told (start_of scenario) (alone scenario 2))
+  pub third : HaveTheSameSenders (portal_rounds_of 3 (specs_of scenario.steps) (rounds_told (start_of scenario) (history scenario))) (rounds_told (start_of scenario) (alone scenario 3))
   pub same : All (λ line. line.same ≡ true) (portals_told scenario)

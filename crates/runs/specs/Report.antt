@@ -11,7 +11,7 @@ use Rattle.report_lines.specs.Spelled.{text_in}
 use Rattle.report_lines.specs.declared.mode.Mode.{Mode}
 use Rattle.pie_line.specs.Link.{LinkValue, blf_of}
 use Rattle.report_lines.specs.ReportLine.{ReportLine, BlfLine, TxLine, RxLine, ListLine, OpLine, RoundLine, SeenLine, TagLine, DoneLine}
-use Rattle.report_lines.specs.SeenCounts.{seen_in}
+use Rattle.report_lines.specs.SeenCounts.{seen_counts}
 use Rattle.scenario.specs.declared.values.Scenario.{Scenario}
 use Rattle.scenario.specs.declared.values.Step.{Step}
 use Rattle.tag_machine.specs.TagValue.{TagValue}
@@ -47,7 +47,7 @@ past_lines link (item ∷ past) = past_lines link past ++ item_lines link item
 
 -- after the steps: how often each pair of PC and EPC was listed, in the order in which they came first
 abbrev pub seen_lines : List Listed → List ReportLine
-seen_lines listing = map (λ seen. SeenLine seen.count seen.pc seen.epc) (seen_in (map (λ listed. (listed.pc, listed.epc)) listing))
+seen_lines listing = map (λ seen. SeenLine seen.count seen.pc seen.epc) (seen_counts (map (λ listed. (listed.pc, listed.epc)) listing))
 
 -- then each tag, numbered from a number on
 abbrev pub tag_lines : ℕ → List TagValue → List ReportLine

@@ -9,15 +9,15 @@ use Rattle.tag_machine.specs.Events.{tag_of_image}
 use Rattle.runs.specs.History.{history_of}
 
 -- a tag as a scenario gives it: ready, with the flags of a new tag, no draw made, and StoredCRC computed
-abbrev pub tag_of : TagSpec → TagValue
-tag_of tag = tag_of_image tag.image tag.locks tag.words
+abbrev pub scenario_tag : TagSpec → TagValue
+scenario_tag tag = tag_of_image tag.image tag.locks tag.words
 
 -- The tags are those of the groups, spelled out in order; where several tags reply and nothing is chosen, the channel gives what the
 -- scenario says. The version has no part in it.
 abbrev pub start_of : Scenario → Start
 start_of scenario = record {
   link = scenario.link;
-  tags = map tag_of (tags_of scenario.groups);
+  tags = map scenario_tag (tags_of scenario.groups);
   entries = scenario.entries;
   several = scenario.several;
 }

@@ -10,12 +10,12 @@ use Rattle.report_lines.specs.SeenCounts.{distinct}
 use Rattle.scenario.specs.declared.values.Scenario.{Scenario}
 
 -- how many slot commands the rounds had that ended
-abbrev pub slots_in : List Item → ℕ
-slots_in [] = 0
-slots_in (befell event number ∷ past) = slots_in past
-slots_in (exchanged sent ∷ past) = slots_in past
-slots_in (operated round slot index result ∷ past) = slots_in past
-slots_in (ended round end slots ∷ past) = slots_in past + slots
+abbrev pub slots_past : List Item → ℕ
+slots_past [] = 0
+slots_past (befell event number ∷ past) = slots_past past
+slots_past (exchanged sent ∷ past) = slots_past past
+slots_past (operated round slot index result ∷ past) = slots_past past
+slots_past (ended round end slots ∷ past) = slots_past past + slots
 
 -- a round ended after a whole frame of silent slots, and not by its limit
 abbrev pub is_quiet : RoundEnd → Bool
@@ -41,7 +41,7 @@ summary_of_past start past = record {
   tags = length start.tags;
   listed = length (listing_of past);
   distinct = length (distinct (pairs_in past));
-  slots = slots_in past;
+  slots = slots_past past;
   quiet = all_quiet past;
 }
 

@@ -40,14 +40,21 @@ use q_round::{round_facts, round_laws};
 /// channel gives one of several replies whole, the round is to be apart: two tags with one RN16 would both
 /// answer its ACK.
 pub fn complete_inventory()
-    ensures run { (start : Start) (taken before after : List Step) (spec : SpecValue) (operations : OpList) → AreLegalSteps taken →
-        taken ≡ before ++ steps.Round spec operations ∷ after → IsHonest (history_of start taken) (rounds_of before + 1) operations →
-        (start.several ≡ severals.Capture → IsApart (history_of start taken) (rounds_of before + 1)) →
+    ensures run { (start : Start) (taken before after : List Step) (spec : SpecValue)
+        (operations : OpList) → AreLegalSteps taken →
+        taken ≡ before ++ steps.Round spec operations ∷ after
+        → IsHonest (history_of start taken) (rounds_of before + 1) operations →
+        (start.several ≡ severals.Capture
+        → IsApart (history_of start taken) (rounds_of before + 1)) →
         CompleteInventory start (history_of start taken) (rounds_of before + 1) spec.session }
-    ensures scenario { (scenario : Scenario) (before after : List Step) (spec : SpecValue) (operations : OpList) → IsScenario scenario →
-        scenario.steps ≡ before ++ steps.Round spec operations ∷ after → IsHonest (history scenario) (rounds_of before + 1) operations →
-        ((start_of scenario).several ≡ severals.Capture → IsApart (history scenario) (rounds_of before + 1)) →
-        CompleteInventory (start_of scenario) (history scenario) (rounds_of before + 1) spec.session }
+    ensures scenario { (scenario : Scenario) (before after : List Step) (spec : SpecValue)
+        (operations : OpList) → IsScenario scenario →
+        scenario.steps ≡ before ++ steps.Round spec operations ∷ after
+        → IsHonest (history scenario) (rounds_of before + 1) operations →
+        ((start_of scenario).several ≡ severals.Capture
+        → IsApart (history scenario) (rounds_of before + 1)) →
+        CompleteInventory (start_of scenario) (history scenario)
+        (rounds_of before + 1) spec.session }
 {
     scenario_steps_are_legal();
     round_laws();
@@ -60,13 +67,19 @@ pub fn complete_inventory()
 /// listed before the last slot, and no other flag, no memory and no lock of any tag has changed since
 /// the Query.
 pub fn honest_rounds_count_tags()
-    ensures run { (start : Start) (taken before after : List Step) (spec : SpecValue) (operations : OpList) → AreLegalSteps taken →
-        taken ≡ before ++ steps.Round spec operations ∷ after → IsHonest (history_of start taken) (rounds_of before + 1) operations →
-        (start.several ≡ severals.Capture → IsApart (history_of start taken) (rounds_of before + 1)) →
+    ensures run { (start : Start) (taken before after : List Step) (spec : SpecValue)
+        (operations : OpList) → AreLegalSteps taken →
+        taken ≡ before ++ steps.Round spec operations ∷ after
+        → IsHonest (history_of start taken) (rounds_of before + 1) operations →
+        (start.several ≡ severals.Capture
+        → IsApart (history_of start taken) (rounds_of before + 1)) →
         CountedRound start (history_of start taken) (rounds_of before + 1) spec }
-    ensures scenario { (scenario : Scenario) (before after : List Step) (spec : SpecValue) (operations : OpList) → IsScenario scenario →
-        scenario.steps ≡ before ++ steps.Round spec operations ∷ after → IsHonest (history scenario) (rounds_of before + 1) operations →
-        ((start_of scenario).several ≡ severals.Capture → IsApart (history scenario) (rounds_of before + 1)) →
+    ensures scenario { (scenario : Scenario) (before after : List Step) (spec : SpecValue)
+        (operations : OpList) → IsScenario scenario →
+        scenario.steps ≡ before ++ steps.Round spec operations ∷ after
+        → IsHonest (history scenario) (rounds_of before + 1) operations →
+        ((start_of scenario).several ≡ severals.Capture
+        → IsApart (history scenario) (rounds_of before + 1)) →
         CountedRound (start_of scenario) (history scenario) (rounds_of before + 1) spec }
 {
     scenario_steps_are_legal();
@@ -77,11 +90,14 @@ pub fn honest_rounds_count_tags()
 /// A round without operations is honest where nothing is said of the exchange of any of its records, and
 /// so where nothing is said of any exchange.
 pub fn rounds_are_honest_where_nothing_is_said()
-    ensures exchanges { (start : Start) (taken : List Step) (round : ℕ) (operations : OpList) → operations.ops ≡ [] →
-        ((sent : Record) (earlier : List Item) → IsRecordOf (history_of start taken) sent earlier → sent.round ≡ round →
+    ensures exchanges { (start : Start) (taken : List Step) (round : ℕ) (operations : OpList)
+        → operations.ops ≡ [] →
+        ((sent : Record) (earlier : List Item) → IsRecordOf (history_of start taken) sent earlier
+        → sent.round ≡ round →
         entry_at start.entries sent.exchange ≡ no_entry) →
         IsHonest (history_of start taken) round operations }
-    ensures run { (start : Start) (taken : List Step) (round : ℕ) (operations : OpList) → operations.ops ≡ [] → start.entries ≡ [] →
+    ensures run { (start : Start) (taken : List Step) (round : ℕ) (operations : OpList)
+        → operations.ops ≡ [] → start.entries ≡ [] →
         IsHonest (history_of start taken) round operations }
 {
     records_follow_from_the_past();
@@ -91,10 +107,13 @@ pub fn rounds_are_honest_where_nothing_is_said()
 /// that the Query speaks to, and no two with one EPC: where the round ends quiet, the run has as many
 /// list lines as tags, and as many different pairs of PC and EPC.
 pub fn quiet_runs_list_every_tag()
-    ensures { (start : Start) (spec : SpecValue) (operations : OpList) (slots : ℕ) (past : List Item) → IsLegalRound spec operations →
+    ensures { (start : Start) (spec : SpecValue) (operations : OpList) (slots : ℕ)
+        (past : List Item) → IsLegalRound spec operations →
         AllTakePart start spec → HaveOwnEpcs start → start.entries ≡ [] → operations.ops ≡ [] →
-        (start.several ≡ severals.Capture → IsApart (history_of start (steps.Round spec operations ∷ [])) 1) →
-        ending_of 1 (history_of start (steps.Round spec operations ∷ [])) ≡ Some (record { end = ends.Quiet; slots = slots; past = past }) →
+        (start.several ≡ severals.Capture
+        → IsApart (history_of start (steps.Round spec operations ∷ [])) 1) →
+        ending_of 1 (history_of start (steps.Round spec operations ∷ []))
+        ≡ Some (record { end = ends.Quiet; slots = slots; past = past }) →
         ListsEveryTag start (history_of start (steps.Round spec operations ∷ [])) }
 {
     round_laws();
@@ -114,10 +133,13 @@ pub fn list_lines_are_of_listed_tags()
 /// round, of whose exchanges nothing is said. A raw stream names no sender: what a record lists of one is
 /// no tag's.
 pub fn rounds_go_by_replies()
-    ensures run { (start : Start) (taken : List Step) (round : ℕ) → HasNoRawStream start.entries → IsOfRepliesIn round (history_of start taken) }
-    ensures honest { (start : Start) (taken : List Step) (round : ℕ) (operations : OpList) → IsHonest (history_of start taken) round operations →
+    ensures run { (start : Start) (taken : List Step) (round : ℕ) → HasNoRawStream start.entries
+        → IsOfRepliesIn round (history_of start taken) }
+    ensures honest { (start : Start) (taken : List Step) (round : ℕ) (operations : OpList)
+        → IsHonest (history_of start taken) round operations →
         IsOfRepliesIn round (history_of start taken) }
-    ensures sender { (sent : Record) (code : Code) (trext : Bool) (levels : List Bool) → sent.given ≡ raw code trext levels → sender_listed_by sent ≡ [] }
+    ensures sender { (sent : Record) (code : Code) (trext : Bool) (levels : List Bool)
+        → sent.given ≡ raw code trext levels → sender_listed_by sent ≡ [] }
 {
     records_follow_from_the_past();
 }

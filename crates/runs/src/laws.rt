@@ -39,9 +39,11 @@ pub fn headline()
     ensures run { (mode : Mode) (start : Start) (steps : List Step) → AreLegalSteps steps →
         Headline start steps (history_of start steps) (report_of mode start steps) }
     ensures scenario { (mode : Mode) (scenario : Scenario) → IsScenario scenario →
-        Headline (start_of scenario) scenario.steps (history scenario) (report_of mode (start_of scenario) scenario.steps) }
+        Headline (start_of scenario) scenario.steps (history scenario)
+        (report_of mode (start_of scenario) scenario.steps) }
     ensures heard_as_listed { (mode : Mode) (scenario : Scenario) → IsScenario scenario →
-        AreHeardAsListed (start_of scenario) (history scenario) (report_of mode (start_of scenario) scenario.steps) }
+        AreHeardAsListed (start_of scenario) (history scenario)
+        (report_of mode (start_of scenario) scenario.steps) }
 {
     scenario_steps_are_legal();
     round_laws();
@@ -53,7 +55,8 @@ pub fn headline()
 /// Written in version 2 of scenarios, a scenario has the same run and the same report, byte for byte.
 pub fn upgraded_scenarios_run_the_same()
     ensures run { (scenario : Scenario) → history (upgraded scenario) ≡ history scenario }
-    ensures report { (mode : Mode) (scenario : Scenario) → report_text_of mode (upgraded scenario) ≡ report_text_of mode scenario }
+    ensures report { (mode : Mode) (scenario : Scenario)
+        → report_text_of mode (upgraded scenario) ≡ report_text_of mode scenario }
 {}
 
 /// The limits of a scenario give what the laws of a run want of its steps.
@@ -65,12 +68,17 @@ pub fn scenario_steps_are_legal()
 /// item alone, and stops where there is none. What comes next goes by the start, the steps and what is
 /// past.
 pub fn histories_grow_by_the_next_item()
-    ensures grows { (start : Start) (steps : List Step) → AreLegalSteps steps → GrowsByNext start steps (history_of start steps) }
-    ensures item { (start : Start) (steps : List Step) (later : List Item) (item : Item) (earlier : List Item) → AreLegalSteps steps →
-        history_of start steps ≡ later ++ item ∷ earlier → next_item start steps earlier ≡ Some item }
-    ensures stops { (start : Start) (steps : List Step) → AreLegalSteps steps → next_item start steps (history_of start steps) ≡ None }
+    ensures grows { (start : Start) (steps : List Step) → AreLegalSteps steps
+        → GrowsByNext start steps (history_of start steps) }
+    ensures item { (start : Start) (steps : List Step) (later : List Item) (item : Item)
+        (earlier : List Item) → AreLegalSteps steps →
+        history_of start steps ≡ later ++ item ∷ earlier
+        → next_item start steps earlier ≡ Some item }
+    ensures stops { (start : Start) (steps : List Step) → AreLegalSteps steps
+        → next_item start steps (history_of start steps) ≡ None }
     ensures one { (start : Start) (steps : List Step) (past : List Item) → AreLegalSteps steps →
-        GrowsByNext start steps past → next_item start steps past ≡ None → past ≡ history_of start steps }
+        GrowsByNext start steps past → next_item start steps past ≡ None
+        → past ≡ history_of start steps }
 {
     round_laws();
 }
@@ -78,7 +86,8 @@ pub fn histories_grow_by_the_next_item()
 /// Each record of a history is what its command makes of the tags as they stood behind what was past:
 /// its number, what is said of it, who heard the command, what was replied and what the channel gave.
 pub fn records_follow_from_the_past()
-    ensures { (start : Start) (steps : List Step) (sent : Record) (earlier : List Item) → IsRecordOf (history_of start steps) sent earlier →
+    ensures { (start : Start) (steps : List Step) (sent : Record) (earlier : List Item)
+        → IsRecordOf (history_of start steps) sent earlier →
         sent ≡ next_record start sent.round sent.slot sent.command earlier }
 {}
 
@@ -103,7 +112,8 @@ pub fn exchanges_are_few()
 
 /// Behind each past of the history of a scenario every tag is legal.
 pub fn histories_keep_tags_legal()
-    ensures { (scenario : Scenario) (later earlier : List Item) → IsScenario scenario → history scenario ≡ later ++ earlier →
+    ensures { (scenario : Scenario) (later earlier : List Item) → IsScenario scenario
+        → history scenario ≡ later ++ earlier →
         AreLegalTags (tags_behind (start_of scenario) earlier) }
 {
     answers_are_replies();
@@ -128,13 +138,19 @@ pub fn histories_send_legal_commands()
 /// What a history makes of a record is what is received of the levels that come, where a reply to an
 /// inventory command or to a command of an operation is expected.
 pub fn histories_hear_what_is_received()
-    ensures inventory { (scenario : Scenario) (sent : Record) (earlier : List Item) (expect : Expect) (received : Received) → IsScenario scenario →
-        IsRecordOf (history scenario) sent earlier → expectation_of sent.command ≡ Some expect → got_of scenario.link sent.given ≢ Silence →
-        IsReceived (table_of scenario.link.code) scenario.link.trext expect (heard_levels scenario.link sent.given) received →
+    ensures inventory { (scenario : Scenario) (sent : Record) (earlier : List Item)
+        (expect : Expect) (received : Received) → IsScenario scenario →
+        IsRecordOf (history scenario) sent earlier → expectation_of sent.command ≡ Some expect
+        → got_of scenario.link sent.given ≢ Silence →
+        IsReceived (table_of scenario.link.code) scenario.link.trext expect
+        (heard_levels scenario.link sent.given) received →
         reception_of expect sent.given ≡ reception_from received }
-    ensures operations { (scenario : Scenario) (sent : Record) (earlier : List Item) (expect : Expect) (extended : Bool) (received : Received) → IsScenario scenario →
-        IsRecordOf (history scenario) sent earlier → Expects sent.command expect extended → got_of scenario.link sent.given ≢ Silence →
-        IsReceived (table_of scenario.link.code) (extended || scenario.link.trext) expect (heard_levels scenario.link sent.given) received →
+    ensures operations { (scenario : Scenario) (sent : Record) (earlier : List Item)
+        (expect : Expect) (extended : Bool) (received : Received) → IsScenario scenario →
+        IsRecordOf (history scenario) sent earlier → Expects sent.command expect extended
+        → got_of scenario.link sent.given ≢ Silence →
+        IsReceived (table_of scenario.link.code) (extended || scenario.link.trext) expect
+        (heard_levels scenario.link sent.given) received →
         reception_with scenario.link.trext extended expect sent.given ≡ reception_from received }
 {
     answers_are_replies();
@@ -148,6 +164,8 @@ pub fn histories_hear_what_is_received()
 /// pasts with the same events and records, which both grow by the next item alone, one is the other
 /// behind further results and ends.
 pub fn events_and_records_determine_a_past()
-    ensures { (start : Start) (steps : List Step) (one other : List Item) → GrowsByNext start steps one → GrowsByNext start steps other →
-        events_and_records_of one ≡ events_and_records_of other → IsConcluded one other ⊎ IsConcluded other one }
+    ensures { (start : Start) (steps : List Step) (one other : List Item)
+        → GrowsByNext start steps one → GrowsByNext start steps other →
+        events_and_records_of one ≡ events_and_records_of other → IsConcluded one other
+        ⊎ IsConcluded other one }
 {}

@@ -41,13 +41,17 @@ pub fn recounts_list_every_tag()
         → enough_from_any unsound ≤ length recount.rounds
         → HasNumber recount.start number tag → IsThere recount number tag
         → IsListedBySound recount number tag }
-    ensures scenario_fresh { (scenario : Scenario) (recount : Recount) (unsound number : ℕ) (tag : TagValue)
-        → IsScenario scenario → recount.start ≡ start_of scenario → scenario.steps ≡ steps_with recount
+    ensures scenario_fresh { (scenario : Scenario) (recount : Recount) (unsound number : ℕ)
+        (tag : TagValue)
+        → IsScenario scenario → recount.start ≡ start_of scenario
+        → scenario.steps ≡ steps_with recount
         → IsRecount recount unsound → enough_from_fresh unsound ≤ length recount.rounds
         → HasNumber recount.start number tag → IsThere recount number tag
         → IsFresh recount number tag → IsListedBySound recount number tag }
-    ensures scenario_any { (scenario : Scenario) (recount : Recount) (unsound number : ℕ) (tag : TagValue)
-        → IsScenario scenario → recount.start ≡ start_of scenario → scenario.steps ≡ steps_with recount
+    ensures scenario_any { (scenario : Scenario) (recount : Recount) (unsound number : ℕ)
+        (tag : TagValue)
+        → IsScenario scenario → recount.start ≡ start_of scenario
+        → scenario.steps ≡ steps_with recount
         → IsRecount recount unsound → enough_from_any unsound ≤ length recount.rounds
         → HasNumber recount.start number tag → IsThere recount number tag
         → IsListedBySound recount number tag }

@@ -20,7 +20,8 @@ use q_round::round_laws;
 /// tags alone: it lists, ends and leaves the tags as the round of a run that begins with them. The link has no part in
 /// it.
 pub fn rounds_go_by_tags()
-    ensures { (start : Start) (operations : OpList) (spec : SpecValue) (past : List Item) → IsPlain start → operations.ops ≡ [] → IsLegalSpec spec →
+    ensures { (start : Start) (operations : OpList) (spec : SpecValue) (past : List Item)
+        → IsPlain start → operations.ops ≡ [] → IsLegalSpec spec →
         IsBetweenRounds past → GoesByTags start operations spec past }
 {
     round_laws();
@@ -31,8 +32,10 @@ pub fn rounds_go_by_tags()
 /// then each tag is ready again, with the flag of the session inverted exactly where it was listed, and all else as
 /// before.
 pub fn rounds_list_their_tags()
-    ensures senders { (tags : List TagValue) (spec : SpecValue) → IsLegalSpec spec → ListsItsTags tags (played_of tags spec) }
-    ensures quiet { (tags : List TagValue) (spec : SpecValue) → IsLegalSpec spec → AreReady tags → (played_of tags spec).end ≡ ends.Quiet →
+    ensures senders { (tags : List TagValue) (spec : SpecValue) → IsLegalSpec spec
+        → ListsItsTags tags (played_of tags spec) }
+    ensures quiet { (tags : List TagValue) (spec : SpecValue) → IsLegalSpec spec → AreReady tags
+        → (played_of tags spec).end ≡ ends.Quiet →
         IsQuietRound tags spec (played_of tags spec) }
 {}
 
@@ -40,7 +43,8 @@ pub fn rounds_list_their_tags()
 /// one after the other: in the hall that both share, and in that of each portal alone.
 pub fn portal_rounds_are_played()
     ensures { (scenario : Scenario) → IsScenario scenario → IsOfPortals scenario →
-        portals_told scenario ≡ portal_lines played_of (start_of scenario).tags (specs_of scenario.steps) }
+        portals_told scenario
+        ≡ portal_lines played_of (start_of scenario).tags (specs_of scenario.steps) }
 {
     scenario_steps_are_legal();
 }
@@ -49,7 +53,8 @@ pub fn portal_rounds_are_played()
 /// of silent slots, each round of a portal has in the joint history the senders that it has in the history of that
 /// portal alone, and lists the same pairs of PC and EPC. Tags are told apart by their numbers.
 pub fn portals_are_independent()
-    ensures { (scenario : Scenario) → IsScenario scenario → IsOfPortals scenario → All (λ line. line.quiet ≡ true) (portals_told scenario) →
+    ensures { (scenario : Scenario) → IsScenario scenario → IsOfPortals scenario
+        → All (λ line. line.quiet ≡ true) (portals_told scenario) →
         ArePortalsIndependent scenario }
 {
     scenario_steps_are_legal();

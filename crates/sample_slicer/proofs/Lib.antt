@@ -3,3 +3,4 @@ pub mod PureGroups
 pub mod SlicedSoFar
 pub mod SomeAnswer
 pub mod OneAnswer
+pub mod Samples

@@ -2,7 +2,7 @@
 use Rattle.std.proofs.Common.{◌≡◌, ℕ, ◌≤◌, Bool, true, false, List, Result, Ok, Err, IsOk, OnOk, IfErr, refl, ap}
 use Rattle.std.specs.Prelude.{is_err}
 use Rattle.sample_slicer.specs.Samples.{AreLevels, RefusesSamples}
-use Rattle.sample_slicer.specs.laws.Samples.{same_answer}
+use Rattle.sample_slicer.proofs.Samples.{same_answer}
 use Rattle.sample_slicer.specs.declared.slicer.SliceRefusal.{SliceRefusal}
 
 -- levels are not refused

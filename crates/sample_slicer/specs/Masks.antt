@@ -3,5 +3,5 @@
 use Rattle.std.specs.Prelude.{ℕ, List, map, nat_le}
 use Rattle.std.specs.Simd.Lanes.{mask_l}
 
-abbrev pub mask_of : ℕ → List ℕ → ℕ
-mask_of threshold samples = mask_l (map (λ sample. nat_le threshold sample) samples)
+abbrev pub sample_mask_of : ℕ → List ℕ → ℕ
+sample_mask_of threshold samples = mask_l (map (λ sample. nat_le threshold sample) samples)

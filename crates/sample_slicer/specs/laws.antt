@@ -1,2 +1,1 @@
 -- The law of the definitions of samples.
-pub mod Samples

@@ -7,6 +7,8 @@ ghost use Rattle.sample_slicer.specs.declared.slicer.SliceRefusal.{SliceRefusal}
 pub fn one_answer()
     ensures some { (threshold per : ℕ) (samples : List ℕ) → 1 ≤ per
         → (answer : Result (List Bool) SliceRefusal) × IsSliceAnswer threshold per samples answer }
-    ensures one { (threshold per : ℕ) (samples : List ℕ) (left right : Result (List Bool) SliceRefusal) → 1 ≤ per
-        → IsSliceAnswer threshold per samples left → IsSliceAnswer threshold per samples right → left ≡ right }
+    ensures one { (threshold per : ℕ) (samples : List ℕ)
+        (left right : Result (List Bool) SliceRefusal) → 1 ≤ per
+        → IsSliceAnswer threshold per samples left → IsSliceAnswer threshold per samples right
+        → left ≡ right }
 {}

@@ -1,6 +1,6 @@
 //! The slicer.
 ghost use Rattle.std.specs.Prelude.{◌≡◌, ◌≤◌, ◌<◌, ◌+◌, ◌-◌, ◌^◌, ℕ, Bool, List, [], length, take, OnOk, OnErr, IfErr, IfSome, IfNone, IfOk, IsOk, Err};
-ghost use Rattle.sample_slicer.specs.Masks.{mask_of};
+ghost use Rattle.sample_slicer.specs.Masks.{sample_mask_of};
 ghost use Rattle.sample_slicer.specs.Samples.{AreLevels, IsPure, RefusesSamples, most_samples};
 ghost use Rattle.sample_slicer.specs.SlicedTo.{SlicedTo};
 ghost use Rattle.sample_slicer.specs.declared.slicer.SliceRefusal.{SliceRefusal};
@@ -27,7 +27,7 @@ const LANES: usize = 32;
 /// first sample.
 fn high_samples(samples: &[u8], threshold: u8) -> u64
     requires { 32 ≤ length samples.now }
-    ensures { result ≡ mask_of threshold (take 32 samples.now) }
+    ensures { result ≡ sample_mask_of threshold (take 32 samples.now) }
 {
     let lanes = u8x32::from_slice(samples);
     lanes.simd_ge(u8x32::splat(threshold)).to_bitmask()
@@ -36,9 +36,11 @@ fn high_samples(samples: &[u8], threshold: u8) -> u64
 /// The level of the group of samples that a mask stands for: 1 where the mask is that of samples which
 /// are all at or above the threshold, 0 where it is that of samples which are all below it.
 fn level_of_mask(mask: u64, all_high: u64) -> Option<bool>
-    ensures pure { IfSome result (λ level. (threshold : ℕ) (group : List ℕ) → mask ≡ mask_of threshold group
+    ensures pure { IfSome result
+        (λ level. (threshold : ℕ) (group : List ℕ) → mask ≡ sample_mask_of threshold group
         → all_high + 1 ≡ 2 ^ length group → IsPure threshold level group) }
-    ensures mixed { IfNone result ((threshold : ℕ) (group : List ℕ) → mask ≡ mask_of threshold group
+    ensures mixed { IfNone result
+        ((threshold : ℕ) (group : List ℕ) → mask ≡ sample_mask_of threshold group
         → all_high + 1 ≡ 2 ^ length group → (level : Bool) → ¬ IsPure threshold level group) }
 {
     // Only whether they are mixed is a jump, so that none depends on the level.
@@ -182,8 +184,10 @@ pub fn slice_levels(
     ensures refused { IfErr result (RefusesSamples threshold per_level samples.now) }
     ensures err { OnErr result (out.new.items ≡ []) }
     // What the samples are is answered.
-    ensures only { (levels : List Bool) → AreLevels threshold per_level samples.now levels → IsOk result × (out.new.items ≡ levels) }
-    ensures first { (refusal : SliceRefusal) → RefusesSamples threshold per_level samples.now refusal → result ≡ Err refusal }
+    ensures only { (levels : List Bool) → AreLevels threshold per_level samples.now levels
+        → IsOk result × (out.new.items ≡ levels) }
+    ensures first { (refusal : SliceRefusal)
+        → RefusesSamples threshold per_level samples.now refusal → result ≡ Err refusal }
     ensures capacity { out.new.capacity ≡ out.old.capacity }
 {
     out.clear();

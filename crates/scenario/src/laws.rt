@@ -10,7 +10,8 @@ ghost use Rattle.scenario_lines.specs.declared.version.Version.{Version};
 
 /// Each copy of a tag that may stand in a scenario may stand there too.
 pub fn copies_are_tags()
-    ensures { (version : Version) (groups : List TagGroup) → All (IsGroup version) groups → All IsTag (tags_of groups) }
+    ensures { (version : Version) (groups : List TagGroup) → All (IsGroup version) groups
+        → All IsTag (tags_of groups) }
 {}
 
 /// A scenario that keeps the limits of its version keeps those of version 2.

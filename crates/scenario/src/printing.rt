@@ -27,7 +27,8 @@ use std::alloc::Global;
 /// Writes the line of what the channel gives where several tags reply and nothing is chosen, which version 1
 /// doesn't have.
 fn push_several(text: &mut String, version: Version, several: Several) -> Result<(), OutOfMemory>
-    ensures { OnOk result (string_bytes text.new ≡ string_bytes text.old ++ text_with (map line_text (default_lines version several))) }
+    ensures { OnOk result (string_bytes text.new ≡ string_bytes text.old
+        ++ text_with (map line_text (default_lines version several))) }
 {
     match version {
         Version::One => Ok(()),
@@ -37,7 +38,8 @@ fn push_several(text: &mut String, version: Version, several: Several) -> Result
 
 /// Writes the line of a group of tags.
 fn push_group(text: &mut String, group: &TagGroup) -> Result<(), OutOfMemory>
-    ensures { OnOk result (string_bytes text.new ≡ string_bytes text.old ++ (line_text (group_line group.now) ++ line_feed ∷ [])) }
+    ensures { OnOk result (string_bytes text.new ≡ string_bytes text.old
+        ++ (line_text (group_line group.now) ++ line_feed ∷ [])) }
 {
     if group.count == 1 {
         push_tag(text, &group.spec)
@@ -48,7 +50,8 @@ fn push_group(text: &mut String, group: &TagGroup) -> Result<(), OutOfMemory>
 
 /// Writes the lines of tags.
 fn push_groups(text: &mut String, groups: &[TagGroup]) -> Result<(), OutOfMemory>
-    ensures { OnOk result (string_bytes text.new ≡ string_bytes text.old ++ text_with (map line_text (map group_line groups.now))) }
+    ensures { OnOk result (string_bytes text.new ≡ string_bytes text.old
+        ++ text_with (map line_text (map group_line groups.now))) }
 {
     for group in groups {
         push_group(text, group)?;
@@ -59,7 +62,8 @@ fn push_groups(text: &mut String, groups: &[TagGroup]) -> Result<(), OutOfMemory
 /// Writes the air lines of the events of one exchange.
 fn push_events(text: &mut String, exchange: u32, events: &[(Event, u32)]) -> Result<(), OutOfMemory>
     ensures { OnOk result (string_bytes text.new ≡ string_bytes text.old
-        ++ text_with (map line_text (map (λ event. lines.Air exchange (happenings.Event event.0 event.1)) events.now))) }
+        ++ text_with (map line_text
+        (map (λ event. lines.Air exchange (happenings.Event event.0 event.1)) events.now))) }
 {
     for (event, tag) in events {
         push_air_event(text, exchange, *event, *tag)?;
@@ -70,7 +74,8 @@ fn push_events(text: &mut String, exchange: u32, events: &[(Event, u32)]) -> Res
 /// Writes the air lines of the tags that miss one command.
 fn push_missed(text: &mut String, exchange: u32, missed: &[u32]) -> Result<(), OutOfMemory>
     ensures { OnOk result (string_bytes text.new ≡ string_bytes text.old
-        ++ text_with (map line_text (map (λ tag. lines.Air exchange (happenings.Miss tag)) missed.now))) }
+        ++ text_with (map line_text
+        (map (λ tag. lines.Air exchange (happenings.Miss tag)) missed.now))) }
 {
     for tag in missed {
         push_air_miss(text, exchange, *tag)?;
@@ -80,7 +85,8 @@ fn push_missed(text: &mut String, exchange: u32, missed: &[u32]) -> Result<(), O
 
 /// Writes the air line of what the channel gives in one exchange, where that is said.
 fn push_choice(text: &mut String, exchange: u32, choice: &Option<Choice>) -> Result<(), OutOfMemory>
-    ensures { OnOk result (string_bytes text.new ≡ string_bytes text.old ++ text_with (map line_text (choice_lines exchange choice.now))) }
+    ensures { OnOk result (string_bytes text.new ≡ string_bytes text.old
+        ++ text_with (map line_text (choice_lines exchange choice.now))) }
 {
     match choice {
         Some(choice) => push_air_choice(text, exchange, choice),
@@ -90,7 +96,8 @@ fn push_choice(text: &mut String, exchange: u32, choice: &Option<Choice>) -> Res
 
 /// Writes the air lines of one exchange: the events, the misses, and the choice.
 fn push_entry(text: &mut String, exchange: u32, entry: &Entry) -> Result<(), OutOfMemory>
-    ensures { OnOk result (string_bytes text.new ≡ string_bytes text.old ++ text_with (map line_text (entry_lines (exchange, entry.now)))) }
+    ensures { OnOk result (string_bytes text.new ≡ string_bytes text.old
+        ++ text_with (map line_text (entry_lines (exchange, entry.now)))) }
 {
     push_events(text, exchange, entry.events.as_slice())?;
     push_missed(text, exchange, entry.missed.as_slice())?;
@@ -100,7 +107,8 @@ fn push_entry(text: &mut String, exchange: u32, entry: &Entry) -> Result<(), Out
 /// Writes the air lines.
 fn push_entries(text: &mut String, entries: &[(u64, Entry)]) -> Result<(), OutOfMemory>
     requires { (tags : ℕ) × All (IsEntry tags) entries.now }
-    ensures { OnOk result (string_bytes text.new ≡ string_bytes text.old ++ text_with (map line_text (air_lines entries.now))) }
+    ensures { OnOk result (string_bytes text.new ≡ string_bytes text.old
+        ++ text_with (map line_text (air_lines entries.now))) }
 {
     for (exchange, entry) in entries {
         push_entry(text, *exchange as u32, entry)?;
@@ -110,7 +118,8 @@ fn push_entries(text: &mut String, entries: &[(u64, Entry)]) -> Result<(), OutOf
 
 /// Writes the lines of operations.
 fn push_ops(text: &mut String, ops: &[Op]) -> Result<(), OutOfMemory>
-    ensures { OnOk result (string_bytes text.new ≡ string_bytes text.old ++ text_with (map line_text (map lines.Op ops.now))) }
+    ensures { OnOk result (string_bytes text.new ≡ string_bytes text.old
+        ++ text_with (map line_text (map lines.Op ops.now))) }
 {
     for op in ops {
         push_op(text, op)?;
@@ -120,7 +129,8 @@ fn push_ops(text: &mut String, ops: &[Op]) -> Result<(), OutOfMemory>
 
 /// Writes the line of the one EPC that operations are for, where one is named.
 fn push_named(text: &mut String, only: &Option<EpcWords>) -> Result<(), OutOfMemory>
-    ensures { OnOk result (string_bytes text.new ≡ string_bytes text.old ++ text_with (map line_text (only_lines only.now))) }
+    ensures { OnOk result (string_bytes text.new ≡ string_bytes text.old
+        ++ text_with (map line_text (only_lines only.now))) }
 {
     match only {
         Some(epc) => push_only(text, epc),
@@ -146,7 +156,8 @@ fn push_operated(
 /// Writes the lines of a step, as this version spells them.
 fn push_step(text: &mut String, version: Version, step: &Step) -> Result<(), OutOfMemory>
     requires { (tags : ℕ) × IsStep version tags step.now }
-    ensures { OnOk result (string_bytes text.new ≡ string_bytes text.old ++ text_with (map line_text (step_lines version step.now))) }
+    ensures { OnOk result (string_bytes text.new ≡ string_bytes text.old
+        ++ text_with (map line_text (step_lines version step.now))) }
 {
     match step {
         Step::Select(command) => {
@@ -162,7 +173,8 @@ fn push_step(text: &mut String, version: Version, step: &Step) -> Result<(), Out
 /// Writes the lines of the steps, as this version spells them.
 fn push_steps(text: &mut String, version: Version, steps: &[Step]) -> Result<(), OutOfMemory>
     requires { (tags : ℕ) × All (IsStep version tags) steps.now }
-    ensures { OnOk result (string_bytes text.new ≡ string_bytes text.old ++ text_with (map line_text (flat_map (step_lines version) steps.now))) }
+    ensures { OnOk result (string_bytes text.new ≡ string_bytes text.old
+        ++ text_with (map line_text (flat_map (step_lines version) steps.now))) }
 {
     for step in steps {
         push_step(text, version, step)?;

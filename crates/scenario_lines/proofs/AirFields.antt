@@ -15,8 +15,8 @@ use Rattle.scenario_lines.specs.LineForm.{IsEvent, IsHappening}
 use Rattle.scenario_lines.specs.Spelling.{event_fields, happening_fields}
 use Rattle.scenario_lines.specs.LineFaults.{HasShape}
 use Rattle.text_fields.specs.NamedFields.{AreFilled}
-use Rattle.text_fields.specs.laws.FilledFields.{none_filled, one_more}
-use Rattle.command_text.specs.laws.FieldTexts.{flag_is}
+use Rattle.text_fields.proofs.FilledFields.{none_filled, one_more}
+use Rattle.command_text.proofs.FieldTexts.{flag_is}
 use Rattle.scenario_lines.specs.Reading.{IsHappeningText}
 use Rattle.scenario_lines.proofs.Filled.{bits_are, number_text}
 

@@ -1,7 +1,7 @@
 -- Fields by their places.
 use Rattle.std.proofs.Common.{◌≡◌, ℕ, List, [], ◌∷◌, length, get_or, ap}
 use Rattle.text_fields.specs.NamedFields.{AreFilled}
-use Rattle.text_fields.specs.laws.FilledFields.{Filled, none_filled, one_more}
+use Rattle.text_fields.proofs.FilledFields.{Filled, none_filled, one_more}
 
 -- each of the fields is filled
 abbrev pub EachFilled : List (List ℕ) → Type 0

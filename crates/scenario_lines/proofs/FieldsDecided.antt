@@ -9,7 +9,7 @@ use Rattle.bit_strings.specs.declared.code.Code.TheVariants as line_codes
 use Rattle.text_fields.specs.Binary.{binary, binary_digit, hyphen, or_hyphen}
 use Rattle.text_fields.specs.CodeNames.{code_word}
 use Rattle.text_fields.specs.Hexadecimal.{hex_word, hex_words}
-use Rattle.text_fields.specs.laws.ToldApart.{binary_told, hex_words_told}
+use Rattle.text_fields.proofs.ToldApart.{binary_told, hex_words_told}
 use Rattle.command_text.specs.CommandText.{bank_word, flag_word, mask_bank_word, payload_digits, side_word}
 use Rattle.command_fields.specs.declared.choices.Bank.{Bank}
 use Rattle.command_fields.specs.declared.choices.Bank.TheVariants as all_banks

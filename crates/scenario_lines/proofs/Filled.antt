@@ -5,7 +5,7 @@ use Rattle.std.specs.Fmt.{decimal}
 use Rattle.text_fields.specs.Lines.{IsFieldText, space}
 use Rattle.text_fields.specs.Binary.{binary, binary_digit}
 use Rattle.text_fields.specs.Hexadecimal.{hex_word, hex_words}
-use Rattle.text_fields.specs.laws.FieldTextLaws.{IsFieldText-append as joined, IsFieldText-binary, IsFieldText-cons as before, IsFieldText-decimal, IsFieldText-hex_word, IsFieldText-hex_words, IsFieldText-one}
+use Rattle.text_fields.proofs.FieldTextLaws.{IsFieldText-append as joined, IsFieldText-binary, IsFieldText-cons as before, IsFieldText-decimal, IsFieldText-hex_word, IsFieldText-hex_words, IsFieldText-one}
 use Rattle.command_fields.specs.declared.choices.Sel.{Sel}
 use Rattle.command_fields.specs.declared.choices.Sel.TheVariants as sels
 use Rattle.lock_rules.specs.declared.locks.Locks.{Locks}

@@ -18,3 +18,4 @@ pub mod Decisions
 pub mod FieldsDecided
 pub mod LinesDecided
 pub mod SomeReason
+pub mod TagLaws

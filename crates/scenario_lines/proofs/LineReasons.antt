@@ -13,7 +13,7 @@ use Rattle.scenario_lines.specs.declared.fault.LineFault.{LineFault}
 use Rattle.scenario_lines.specs.declared.fault.LineFault.TheVariants.{Word as WordFault, Shape, Number, Tari, RtCal, TrCal, Pw, Pc}
 use Rattle.scenario_lines.specs.Names.{keyword_text}
 use Rattle.scenario_lines.specs.LineForm.{HasForm, IsCoherent}
-use Rattle.scenario_lines.specs.LineFaults.{BeginsWith, BreaksLink, HasShape, IsFaultyLine, IsFaultyBehind, SpellsLine}
+use Rattle.scenario_lines.specs.LineFaults.{BeginsWithKeyword, BreaksLink, HasShape, IsFaultyLine, IsFaultyBehind, SpellsLine}
 use Rattle.scenario_lines.specs.Spelling.{line_fields, other_fields, keyword_of}
 use Rattle.scenario_lines.specs.Reading.{link_fault}
 use Rattle.scenario_lines.proofs.LineShapes.{line_shape, shaped_known}
@@ -22,7 +22,7 @@ use Rattle.scenario_lines.proofs.ToldNames.{keyword_told}
 
 -- a keyword of a scenario stands at the head, with a kind that is known where a kind is there
 abbrev Begins : List (List ℕ) → Type 0
-Begins fields = (keyword : Keyword) × BeginsWith fields keyword
+Begins fields = (keyword : Keyword) × BeginsWithKeyword fields keyword
 
 -- ... and behind it are the fields that it wants
 record Shaped (fields : List (List ℕ)) : Type 0 where

@@ -10,16 +10,16 @@ use Rattle.scenario_lines.specs.declared.first_fields.Keyword.{Keyword}
 use Rattle.scenario_lines.specs.declared.first_fields.Keyword.TheVariants as keywords
 use Rattle.scenario_lines.specs.Names.{air_kind, air_word, event_kind, op_kind, keyword_text}
 use Rattle.scenario_lines.specs.LineForm.{HasForm}
-use Rattle.scenario_lines.specs.LineFaults.{BeginsWith, HasKnownKind, HasShape}
+use Rattle.scenario_lines.specs.LineFaults.{BeginsWithKeyword, HasKnownKind, HasShape}
 use Rattle.scenario_lines.specs.Spelling.{happening_fields, other_fields, keyword_of}
-use Rattle.text_fields.specs.laws.FilledFields.{Filled}
+use Rattle.text_fields.proofs.FilledFields.{Filled}
 use Rattle.scenario_lines.proofs.AirFields.{event_filled, happening_filled}
 use Rattle.scenario_lines.proofs.OpFields.{op_filled}
 use Rattle.scenario_lines.proofs.LineTexts.{other_texts}
 use Rattle.scenario_lines.proofs.ToldLines.{same_fields}
 use Rattle.scenario_lines.proofs.ToldNames.{keyword_told}
 
-pub begins_once : (fields : List (List ℕ)) (one other : Keyword) → BeginsWith fields one → BeginsWith fields other → one ≡ other
+pub begins_once : (fields : List (List ℕ)) (one other : Keyword) → BeginsWithKeyword fields one → BeginsWithKeyword fields other → one ≡ other
 begins_once fields one other begins begins' =
     keyword_told one other (same_fields (keyword_text one) (keyword_text other) begins.others begins'.others (sym begins.first ∙ begins'.first)).0
 

@@ -20,9 +20,9 @@ use Rattle.scenario_lines.specs.declared.line.Line.{Line}
 use Rattle.scenario_lines.specs.declared.line.Line.TheVariants as lines
 use Rattle.scenario_lines.specs.Names.{air_kind, event_kind, op_kind}
 use Rattle.scenario_lines.specs.LineForm.{HasForm, IsEvent, IsHappening, IsLine, IsLinkForm, IsRound, IsSelection}
-use Rattle.scenario_lines.specs.Spelling.{event_fields, happening_fields, line_fields, link_fields, op_fields, other_fields, round_fields, select_fields, tag_fields, keyword_of}
+use Rattle.scenario_lines.specs.Spelling.{event_fields, happening_fields, line_fields, link_fields, op_fields, other_fields, round_fields, select_fields, tag_spec_fields, keyword_of}
 use Rattle.scenario_lines.proofs.Filled.{air_word_is, event_word_is, locks_is, bits_are, number_text, one_word_is, op_word_is, password_is, rule_text_is, sel_text_is, several_text_is, keyword_text_is, version_text_is, words_is}
-use Rattle.command_text.specs.laws.FieldTexts.{bank_is, bit_is, code_is, flag_is, mask_bank_is, payload_is, side_is}
+use Rattle.command_text.proofs.FieldTexts.{bank_is, bit_is, code_is, flag_is, mask_bank_is, payload_is, side_is}
 
 pub record Texts (fields : List (List ℕ)) : Type 0 where
   pub are : All IsFieldText fields
@@ -41,7 +41,7 @@ link_texts link form =
     with _ _ (number_text link.tari (omega arith)) (with _ _ (number_text link.rtcal (omega arith)) (with _ _ (number_text link.trcal (omega arith))
     (with _ _ (number_text link.pw (omega arith)) (with _ _ (bit_is link.dr) (with _ _ (code_is link.code) (only _ (bit_is link.trext)))))))
 
-tag_texts : (tag : TagSpec) → Texts (tag_fields tag)
+tag_texts : (tag : TagSpec) → Texts (tag_spec_fields tag)
 tag_texts tag =
     with _ _ (password_is tag.image.kill) (with _ _ (password_is tag.image.access) (with _ _ (locks_is tag.locks) (with _ _ (words_is tag.image.epc)
     (with _ _ (words_is tag.image.tid) (with _ _ (words_is tag.image.user) (only _ (words_is tag.words)))))))

@@ -33,15 +33,15 @@ use Rattle.scenario_lines.specs.Names.{air_word, event_kind, event_word, op_word
 use Rattle.text_fields.specs.NamedFields.{SpellBehind, Vocabulary, spelled_fields}
 use Rattle.text_fields.specs.WordLists.{IsWordList}
 use Rattle.value_text.specs.ValueText.{password_text}
-use Rattle.scenario_lines.specs.TagForm.{IsTagForm, tag_of}
+use Rattle.scenario_lines.specs.TagForm.{IsTagForm, tag_spec_of}
 use Rattle.scenario_lines.specs.LineForm.{HasForm, IsEvent, IsHappening, IsLinkForm, IsPlace, IsRound, IsSelection, most_level, most_nanoseconds}
-use Rattle.scenario_lines.specs.Spelling.{air_vocabulary, event_vocabulary, link_fields, op_vocabulary, other_fields, round_fields, select_fields, tag_fields, keyword_of}
+use Rattle.scenario_lines.specs.Spelling.{air_vocabulary, event_vocabulary, link_fields, op_vocabulary, other_fields, round_fields, select_fields, tag_spec_fields, keyword_of}
 use Rattle.scenario_lines.specs.Reading.{IsEventText, IsHappeningText, IsOpText}
 use Rattle.scenario_lines.proofs.Decisions.{Any, Decided, EachDecided, Spelled, behind_decided as then, nothing_decided, only_decided, same_answer, text_decided}
 use Rattle.scenario_lines.proofs.FieldsDecided.{IsLasting, IsWithin, any_bank_decided, bank_decided, bit_decided, bits_decided, code_decided, decimal_decided, flag_decided, lasting_decided, locks_decided, password_decided, payload_decided, rule_decided, sel_decided, several_decided, side_decided, tried, version_decided, word_decided, words_decided}
 use Rattle.scenario_lines.proofs.ToldLines.{same_fields}
 use Rattle.scenario_lines.proofs.ToldNames.{air_word_told, event_word_told, op_word_told}
-use Rattle.command_text.specs.laws.ToldApart.{block_of_list, list_of_block}
+use Rattle.command_text.proofs.ToldApart.{block_of_list, list_of_block}
 
 -- no more fields
 abbrev nothing : Unit {0} → List (List ℕ)
@@ -115,13 +115,13 @@ link_decided =
       back = λ link form. (((omega arith, form.tari), ((omega arith, form.rtcal), ((omega arith, form.trcal), ((omega arith, form.pw), (tt, (tt, (tt, tt))))))), refl);
     })
 
-tag_decided : FieldsDecided tag_fields IsTagForm
+tag_decided : FieldsDecided tag_spec_fields IsTagForm
 tag_decided =
     named
     (then password_decided (then password_decided (then locks_decided (then (words_decided 1 32) (then (words_decided 2 16)
     (then (words_decided 0 512) (then (words_decided 1 256) end)))))))
     (record {
-      to = λ v. tag_of v.0 v.1.0 v.1.1.0 v.1.1.1.0 v.1.1.1.1.0 v.1.1.1.1.1.0 v.1.1.1.1.1.1.0;
+      to = λ v. tag_spec_of v.0 v.1.0 v.1.1.0 v.1.1.1.0 v.1.1.1.1.0 v.1.1.1.1.1.0 v.1.1.1.1.1.1.0;
       there = λ v may. (
         record {
           kill = may.0;
@@ -148,7 +148,7 @@ select_decided =
     })
 
 -- how many tags, and the tag of which they are copies
-copies_decided : FieldsDecided (with decimal tag_fields) (Both (IsWithin 2 most_tags) IsTagForm)
+copies_decided : FieldsDecided (with decimal tag_spec_fields) (Both (IsWithin 2 most_tags) IsTagForm)
 copies_decided = then (number 2 most_tags) tag_decided
 
 -- the parameters of a round, and the version that spells its rule so
@@ -496,11 +496,11 @@ default_there others (lines.Default several, form, same, is) = ((several, tt), (
 default_there others (line, form, same, is) = cc
 
 copies_there : (others : List (List ℕ)) → FormedBehind keywords.Copies others
-    → Spelled (with decimal tag_fields) (Both (IsWithin 2 most_tags) IsTagForm) others
+    → Spelled (with decimal tag_spec_fields) (Both (IsWithin 2 most_tags) IsTagForm) others
 copies_there others (lines.Copies count tag, form, same, is) = ((count, tag), form, is)
 copies_there others (line, form, same, is) = cc
 
-tag_there : (others : List (List ℕ)) → FormedBehind keywords.Tag others → Spelled tag_fields IsTagForm others
+tag_there : (others : List (List ℕ)) → FormedBehind keywords.Tag others → Spelled tag_spec_fields IsTagForm others
 tag_there others (lines.Tag tag, form, same, is) = (tag, form, is)
 tag_there others (line, form, same, is) = cc
 

@@ -12,8 +12,8 @@ use Rattle.scenario_lines.specs.Names.{op_field_count, op_kind}
 use Rattle.value_text.specs.ValueText.{password_text}
 use Rattle.scenario_lines.specs.Spelling.{op_fields}
 use Rattle.text_fields.specs.NamedFields.{AreFilled}
-use Rattle.text_fields.specs.laws.FilledFields.{Filled, none_filled, one_more}
-use Rattle.command_text.specs.laws.FieldTexts.{bank_is, payload_is}
+use Rattle.text_fields.proofs.FilledFields.{Filled, none_filled, one_more}
+use Rattle.command_text.proofs.FieldTexts.{bank_is, payload_is}
 use Rattle.scenario_lines.proofs.Filled.{number_text, one_word_is, password_is, words_is}
 
 one_field_filled : (field : List ℕ) → Filled field → AreFilled 1 (field ∷ [])

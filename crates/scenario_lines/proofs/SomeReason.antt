@@ -18,11 +18,11 @@ use Rattle.scenario_lines.specs.declared.fault.LineFault.TheVariants.{Word as Wo
 use Rattle.scenario_lines.specs.Names.{air_field_count, air_word, event_field_count, op_field_count, keyword_text}
 use Rattle.scenario_lines.specs.LineForm.{HasForm, IsCoherent, IsLinkForm}
 use Rattle.scenario_lines.specs.TagForm.{IsTagForm}
-use Rattle.scenario_lines.specs.LineFaults.{BeginsWith, BreaksPc, BreaksPcOfCopies, HasKnownKind, HasShape, IsFaultyLine, SpellsLine}
+use Rattle.scenario_lines.specs.LineFaults.{BeginsWithKeyword, BreaksPc, BreaksPcOfCopies, HasKnownKind, HasShape, IsFaultyLine, SpellsLine}
 use Rattle.text_fields.specs.NamedFields.{AreFilled}
-use Rattle.text_fields.specs.laws.FilledFields.{Filled}
+use Rattle.text_fields.proofs.FilledFields.{Filled}
 use Rattle.scenario_lines.specs.Reading.{link_fault}
-use Rattle.scenario_lines.specs.Spelling.{copies_fields, line_fields, link_fields, tag_fields, keyword_of}
+use Rattle.scenario_lines.specs.Spelling.{copies_fields, line_fields, link_fields, tag_spec_fields, keyword_of}
 use Rattle.scenario_lines.proofs.Decisions.{Any, Decided, Spelled, both, le_decided, number_decided, same_answer}
 use Rattle.scenario_lines.proofs.FieldsDecided.{tried}
 use Rattle.scenario_lines.proofs.LinesDecided.{air_kind_decided, event_kind_decided, formed_behind, op_kind_decided}
@@ -158,7 +158,7 @@ shape_decided keywords.Op (kind ∷ others) = op_shape_decided kind others
 shape_decided keywords.End others = count_decided 0 others
 
 -- Some keyword of a scenario stands at the head of fields, with a kind that is known where a kind is there, or none does.
-pub some_keyword : (fields : List (List ℕ)) → ((keyword : Keyword) × BeginsWith fields keyword) ⊎ IsFaultyLine fields WordFault
+pub some_keyword : (fields : List (List ℕ)) → ((keyword : Keyword) × BeginsWithKeyword fields keyword) ⊎ IsFaultyLine fields WordFault
 some_keyword [] = inr (λ keyword begins. let first = begins.first in cc)
 some_keyword (field ∷ others) = elim (keyword_decided field) [
   | inr unknown ↦ inr (λ keyword begins. unknown (keyword, tt, (same_fields field (keyword_text keyword) others begins.others begins.first).0))
@@ -215,8 +215,8 @@ says fields line is form coherent = inl (line, record { spelling = is; is = reco
 pc_reason : (fields : List (List ℕ)) (tag : TagSpec) (fits : Bool) → pc_fits tag.image ≡ fits → fields ≡ line_fields (lines.Tag tag) → IsTagForm tag → SaysOrIsFaulty fields
 pc_reason fields tag true fits is form = says fields (lines.Tag tag) is form fits
 pc_reason fields tag false fits is form =
-    let faulty : BreaksPc (tag_fields tag) = record { tag = tag; spelling = refl; form = form; broken = fits } in
-    inr (Pc, record { keyword = keywords.Tag; others = tag_fields tag; first = is; faulty = faulty })
+    let faulty : BreaksPc (tag_spec_fields tag) = record { tag = tag; spelling = refl; form = form; broken = fits } in
+    inr (Pc, record { keyword = keywords.Tag; others = tag_spec_fields tag; first = is; faulty = faulty })
 
 copies_reason : (fields : List (List ℕ)) (count : ℕ) (tag : TagSpec) (fits : Bool) → pc_fits tag.image ≡ fits
     → fields ≡ line_fields (lines.Copies count tag) → HasForm (lines.Copies count tag) → SaysOrIsFaulty fields

@@ -3,8 +3,8 @@ use Rattle.std.proofs.Common.{◌≡◌, ℕ, List, [], get_or, Some, refl}
 use Rattle.text_fields.specs.Hexadecimal.{hex_words}
 use Rattle.scenario_lines.specs.declared.tag.TagSpec.{TagSpec}
 use Rattle.value_text.specs.ValueText.{locks_text, password_text}
-use Rattle.scenario_lines.specs.TagForm.{tag_of}
-use Rattle.scenario_lines.specs.Spelling.{tag_fields}
+use Rattle.scenario_lines.specs.TagForm.{tag_spec_of}
+use Rattle.scenario_lines.specs.Spelling.{tag_spec_fields}
 use Rattle.scenario_lines.proofs.Counted.{field_at}
 
 -- the fields of a tag, one by one
@@ -17,15 +17,15 @@ pub record AreTagFields (fields : List (List ℕ)) (tag : TagSpec) : Type 0 wher
   pub user_is : get_or fields 5 [] ≡ hex_words tag.image.user
   pub words_is : get_or fields 6 [] ≡ hex_words tag.words
 
-pub tag_fields_are : (fields : List (List ℕ)) (tag : TagSpec) → fields ≡ tag_fields tag → AreTagFields fields tag
+pub tag_fields_are : (fields : List (List ℕ)) (tag : TagSpec) → fields ≡ tag_spec_fields tag → AreTagFields fields tag
 tag_fields_are fields tag spells = record {
-  kill_is = field_at 0 fields (tag_fields tag) spells;
-  access_is = field_at 1 fields (tag_fields tag) spells;
-  locks_is = field_at 2 fields (tag_fields tag) spells;
-  epc_is = field_at 3 fields (tag_fields tag) spells;
-  tid_is = field_at 4 fields (tag_fields tag) spells;
-  user_is = field_at 5 fields (tag_fields tag) spells;
-  words_is = field_at 6 fields (tag_fields tag) spells;
+  kill_is = field_at 0 fields (tag_spec_fields tag) spells;
+  access_is = field_at 1 fields (tag_spec_fields tag) spells;
+  locks_is = field_at 2 fields (tag_spec_fields tag) spells;
+  epc_is = field_at 3 fields (tag_spec_fields tag) spells;
+  tid_is = field_at 4 fields (tag_spec_fields tag) spells;
+  user_is = field_at 5 fields (tag_spec_fields tag) spells;
+  words_is = field_at 6 fields (tag_spec_fields tag) spells;
 }
 
 pub some_same : {A : Type 0} {x y : A} → Some x ≡ Some y → x ≡ y
@@ -43,6 +43,6 @@ pub record HaveSameParts (one other : TagSpec) : Type 0 where
 
 pub same_tag : (one other : TagSpec) → HaveSameParts one other → one ≡ other
 same_tag one other same =
-    let whole : tag_of one.image.kill one.image.access one.locks one.image.epc one.image.tid one.image.user one.words ≡ other =
+    let whole : tag_spec_of one.image.kill one.image.access one.locks one.image.epc one.image.tid one.image.user one.words ≡ other =
     rw (same.kill, same.access, same.locks, same.epc, same.tid, same.user, same.words) refl in
     whole

@@ -1,7 +1,7 @@
 -- A list of fields spells at most one line.
 use Rattle.std.proofs.Common.{◌≡◌, ◌≤◌, ℕ, List, [], ◌∷◌, ap, arith, refl, sym, ◌∙◌}
 use Rattle.std.specs.Fmt.{decimal}
-use Rattle.text_fields.specs.laws.ToldApart.{binary_told, decimal_told, hex_word_told, hex_words_told}
+use Rattle.text_fields.proofs.ToldApart.{binary_told, decimal_told, hex_word_told, hex_words_told}
 use Rattle.text_fields.specs.Binary.{binary}
 use Rattle.text_fields.specs.Hexadecimal.{hex_words}
 use Rattle.command_text.specs.CommandText.{flag_word, payload_digits}
@@ -25,11 +25,11 @@ use Rattle.scenario_lines.specs.TagForm.{IsTagForm}
 use Rattle.scenario_lines.specs.LineForm.{HasForm, IsEvent, IsHappening, IsLinkForm, IsRound, IsSelection}
 use Rattle.scenario_lines.specs.LineFaults.{SpellsLine}
 use Rattle.value_text.specs.ValueText.{password_text}
-use Rattle.scenario_lines.specs.Spelling.{event_fields, happening_fields, line_fields, link_fields, op_fields, other_fields, round_fields, select_fields, tag_fields, keyword_of}
+use Rattle.scenario_lines.specs.Spelling.{event_fields, happening_fields, line_fields, link_fields, op_fields, other_fields, round_fields, select_fields, tag_spec_fields, keyword_of}
 use Rattle.scenario_lines.proofs.Counted.{field_at}
 use Rattle.scenario_lines.proofs.TagFields.{same_tag, tag_fields_are}
 use Rattle.scenario_lines.proofs.ToldNames.{air_word_told, event_word_told, op_word_told, rule_told, sel_told, several_told, keyword_told, version_told}
-use Rattle.command_text.specs.laws.ToldApart.{bank_told, bit_told, code_told, flag_told, list_of_block, mask_bank_told, payload_told, side_told}
+use Rattle.command_text.proofs.ToldApart.{bank_told, bit_told, code_told, flag_told, list_of_block, mask_bank_told, payload_told, side_told}
 use Rattle.scenario_lines.proofs.ToldFields.{locks_told, password_told}
 
 -- the first of two equal lists of fields, and those behind it
@@ -61,9 +61,9 @@ link_told one other form form' same =
     }) other = rw (tari, rtcal, trcal, pw, dr, code, trext) refl in
     whole
 
-tag_told : (one other : TagSpec) → IsTagForm one → IsTagForm other → tag_fields one ≡ tag_fields other → one ≡ other
+tag_told : (one other : TagSpec) → IsTagForm one → IsTagForm other → tag_spec_fields one ≡ tag_spec_fields other → one ≡ other
 tag_told one other form form' same =
-    let are = tag_fields_are (tag_fields one) other same in
+    let are = tag_fields_are (tag_spec_fields one) other same in
     same_tag one other (record {
       kill = password_told one.image.kill other.image.kill form.kill form'.kill are.kill_is;
       access = password_told one.image.access other.image.access form.access form'.access are.access_is;
@@ -184,7 +184,7 @@ behind_told (lines.Default several) (lines.Default several') form form' keyword 
     ap lines.Default (several_told several several' (same_fields (several_text several) (several_text several') [] [] same).0)
 behind_told (lines.Tag tag) (lines.Tag tag') form form' keyword same = ap lines.Tag (tag_told tag tag' form form' same)
 behind_told (lines.Copies count tag) (lines.Copies count' tag') form form' keyword same =
-    let fields = same_fields (decimal count) (decimal count') (tag_fields tag) (tag_fields tag') same in
+    let fields = same_fields (decimal count) (decimal count') (tag_spec_fields tag) (tag_spec_fields tag') same in
     let counts = decimal_told count count' (omega (arith, form.0.1)) (omega (arith, form'.0.1)) fields.0 in
     let tags = tag_told tag tag' form.1 form'.1 fields.1 in
     cc

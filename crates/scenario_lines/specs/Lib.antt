@@ -6,4 +6,3 @@ pub mod Spelling
 pub mod LineFaults
 pub mod LineBeginnings
 pub mod Reading
-pub mod laws

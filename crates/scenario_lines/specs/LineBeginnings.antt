@@ -3,7 +3,7 @@ use Rattle.std.proofs.Common.{List, ℕ, refl, subst, sym}
 use Rattle.scenario_lines.specs.declared.line.Line.{Line}
 use Rattle.scenario_lines.specs.declared.line.Line.TheVariants as lines
 use Rattle.scenario_lines.specs.Names.{air_kind, event_kind, op_kind}
-use Rattle.scenario_lines.specs.LineFaults.{BeginsWith, HasKnownKind, SpellsLine}
+use Rattle.scenario_lines.specs.LineFaults.{BeginsWithKeyword, HasKnownKind, SpellsLine}
 use Rattle.scenario_lines.specs.Spelling.{line_fields, other_fields, keyword_of}
 
 -- the kind of a line is one of its word's kinds
@@ -13,8 +13,8 @@ known_kind (lines.Event event tag) = (event_kind event, refl)
 known_kind (lines.Op op) = (op_kind op, refl)
 known_kind line = tt
 
-pub begins : (line : Line) → BeginsWith (line_fields line) (keyword_of line)
+pub begins : (line : Line) → BeginsWithKeyword (line_fields line) (keyword_of line)
 begins line = record { others = other_fields line; first = refl; kind = known_kind line }
 
-pub spelled_begins : (fields : List (List ℕ)) (line : Line) → SpellsLine fields line → BeginsWith fields (keyword_of line)
-spelled_begins fields line spells = subst (λ it. BeginsWith it (keyword_of line)) (sym spells.spelling) (begins line)
+pub spelled_begins : (fields : List (List ℕ)) (line : Line) → SpellsLine fields line → BeginsWithKeyword fields (keyword_of line)
+spelled_begins fields line spells = subst (λ it. BeginsWithKeyword it (keyword_of line)) (sym spells.spelling) (begins line)

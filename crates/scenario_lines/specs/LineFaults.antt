@@ -18,7 +18,7 @@ use Rattle.scenario_lines.specs.declared.fault.LineFault.TheVariants.{Word as Wo
 use Rattle.scenario_lines.specs.Names.{keyword_text, event_word, event_field_count, op_word, op_field_count, air_word, air_field_count}
 use Rattle.scenario_lines.specs.TagForm.{IsTagForm}
 use Rattle.scenario_lines.specs.LineForm.{IsLinkForm, IsCopyCount, HasForm, IsLine}
-use Rattle.scenario_lines.specs.Spelling.{link_fields, tag_fields, copies_fields, keyword_of, other_fields, line_fields}
+use Rattle.scenario_lines.specs.Spelling.{link_fields, tag_spec_fields, copies_fields, keyword_of, other_fields, line_fields}
 
 -- where a kind stands behind the first field, it is one of its kinds
 abbrev pub HasKnownKind : Keyword → List (List ℕ) → Type 0
@@ -28,7 +28,7 @@ HasKnownKind keywords.Op (kind ∷ others) = (known : OpKind) × (kind ≡ op_wo
 HasKnownKind keyword others = Unit {0}
 
 -- the line begins with this keyword, and with a kind of it where a kind is there
-pub record BeginsWith (fields : List (List ℕ)) (keyword : Keyword) : Type 0 where
+pub record BeginsWithKeyword (fields : List (List ℕ)) (keyword : Keyword) : Type 0 where
   pub others : List (List ℕ)
   pub first : fields ≡ keyword_text keyword ∷ others
   pub kind : HasKnownKind keyword others
@@ -63,7 +63,7 @@ pub record BreaksLink (refusal : LinkRefusal) (others : List (List ℕ)) : Type 
 -- the fields spell a tag whose fields are in their ranges, and the EPC that its PC announces passes the bank
 pub record BreaksPc (others : List (List ℕ)) : Type 0 where
   pub tag : TagSpec
-  pub spelling : others ≡ tag_fields tag
+  pub spelling : others ≡ tag_spec_fields tag
   pub form : IsTagForm tag
   pub broken : pc_fits tag.image ≡ false
 
@@ -104,7 +104,7 @@ pub record Misspells (fields : List (List ℕ)) (fault : LineFault) : Type 0 whe
 -- the first reason for which the fields of a line say nothing, whatever the lines before it say
 abbrev pub IsFaultyLine : List (List ℕ) → LineFault → Type 0
 -- no keyword of a scenario stands at their head, with a kind that is known where a kind is there
-IsFaultyLine fields WordFault = (keyword : Keyword) → ¬ BeginsWith fields keyword
+IsFaultyLine fields WordFault = (keyword : Keyword) → ¬ BeginsWithKeyword fields keyword
 IsFaultyLine fields fault = Misspells fields fault
 
 -- behind this first field, these fields spell the line, which may stand in a scenario

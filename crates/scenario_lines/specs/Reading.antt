@@ -14,9 +14,9 @@ use Rattle.scenario_lines.specs.declared.reading.tag.Parts.{Parts}
 use Rattle.scenario_lines.specs.declared.fault.LineFault.{LineFault}
 use Rattle.scenario_lines.specs.declared.fault.LineFault.TheVariants.{Word as WordFault, Shape, Number, Tari, RtCal, TrCal, Pw, Pc}
 use Rattle.scenario_lines.specs.declared.tag.TagSpec.{TagSpec}
-use Rattle.scenario_lines.specs.TagForm.{IsTagForm, tag_of}
+use Rattle.scenario_lines.specs.TagForm.{IsTagForm, tag_spec_of}
 use Rattle.scenario_lines.specs.LineForm.{IsLinkForm, IsCopyCount, IsEvent, IsHappening, IsExchange, IsRound}
-use Rattle.scenario_lines.specs.Spelling.{link_fields, tag_fields, copies_fields, round_fields, event_fields, event_vocabulary, happening_fields, air_vocabulary, op_fields, op_vocabulary}
+use Rattle.scenario_lines.specs.Spelling.{link_fields, tag_spec_fields, copies_fields, round_fields, event_fields, event_vocabulary, happening_fields, air_vocabulary, op_fields, op_vocabulary}
 use Rattle.scenario_lines.specs.Names.{event_kind, event_word, event_field_count, op_kind, op_word, op_field_count, air_kind, air_word, air_field_count}
 use Rattle.scenario_lines.specs.LineFaults.{HasKnownKind, HasShape, BreaksLink, BreaksPc, BreaksPcOfCopies}
 use Rattle.text_fields.specs.NamedFields.{AreFilled, SpellBehind}
@@ -46,7 +46,7 @@ link_value of = record {
 
 -- the tag of these parts
 abbrev pub tag_value : Parts → TagSpec
-tag_value of = tag_of of.kill of.access of.locks of.lists.epc of.lists.tid of.lists.user of.lists.words
+tag_value of = tag_spec_of of.kill of.access of.locks of.lists.epc of.lists.tid of.lists.user of.lists.words
 
 -- the fault of a line whose link is refused so
 abbrev pub link_fault : LinkRefusal → LineFault
@@ -66,7 +66,7 @@ MisreadsLink others fault = Misreads (AreFilled 7) link_fields IsLinkForm others
 -- the first reason for which fields are no tag
 abbrev pub MisreadsTag : List (List ℕ) → LineFault → Type 0
 MisreadsTag others Pc = BreaksPc others
-MisreadsTag others fault = Misreads (AreFilled 7) tag_fields IsTagForm others fault
+MisreadsTag others fault = Misreads (AreFilled 7) tag_spec_fields IsTagForm others fault
 
 -- the first reason for which fields are no copies of a tag
 abbrev pub MisreadsCopies : List (List ℕ) → LineFault → Type 0

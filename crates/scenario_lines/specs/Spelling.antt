@@ -38,14 +38,14 @@ link_fields link =
     decimal link.tari ∷ decimal link.rtcal ∷ decimal link.trcal ∷ decimal link.pw ∷ flag_text link.dr ∷ code_word link.code
     ∷ flag_text link.trext ∷ []
 
-abbrev pub tag_fields : TagSpec → List (List ℕ)
-tag_fields tag =
+abbrev pub tag_spec_fields : TagSpec → List (List ℕ)
+tag_spec_fields tag =
     password_text tag.image.kill ∷ password_text tag.image.access ∷ locks_text tag.locks ∷ hex_words tag.image.epc
     ∷ hex_words tag.image.tid ∷ hex_words tag.image.user ∷ hex_words tag.words ∷ []
 
 -- how many tags, and the tag of which they are copies
 abbrev pub copies_fields : ℕ → TagSpec → List (List ℕ)
-copies_fields count tag = decimal count ∷ tag_fields tag
+copies_fields count tag = decimal count ∷ tag_spec_fields tag
 
 -- the fields behind the kind of an event
 abbrev pub event_fields : Event → ℕ → List (List ℕ)
@@ -111,7 +111,7 @@ abbrev pub other_fields : Line → List (List ℕ)
 other_fields (lines.Version version) = version_text version ∷ []
 other_fields (lines.Link link) = link_fields link
 other_fields (lines.Default several) = several_text several ∷ []
-other_fields (lines.Tag tag) = tag_fields tag
+other_fields (lines.Tag tag) = tag_spec_fields tag
 other_fields (lines.Copies count tag) = copies_fields count tag
 other_fields (lines.Air exchange happening) = decimal exchange ∷ air_word (air_kind happening) ∷ happening_fields happening
 other_fields (lines.Select selection) = select_fields selection

@@ -7,8 +7,8 @@ use Rattle.text_fields.specs.WordLists.{IsWordList}
 use Rattle.scenario_lines.specs.declared.tag.TagSpec.{TagSpec}
 
 -- the tag of these fields
-abbrev pub tag_of : (kill access : ℕ) → Locks → (epc tid user words : List ℕ) → TagSpec
-tag_of kill access locks epc tid user words = record {
+abbrev pub tag_spec_of : (kill access : ℕ) → Locks → (epc tid user words : List ℕ) → TagSpec
+tag_spec_of kill access locks epc tid user words = record {
   image = record { kill = kill; access = access; epc = epc; tid = tid; user = user };
   locks = locks;
   words = words;

@@ -10,7 +10,7 @@ ghost use Rattle.scenario_lines.specs.declared.first_fields.Keyword.{Keyword};
 ghost use Rattle.scenario_lines.specs.declared.line.Line.{Line};
 ghost use Rattle.scenario_lines.specs.declared.fault.LineFault.{LineFault};
 ghost use Rattle.scenario_lines.specs.LineForm.{IsLine};
-ghost use Rattle.scenario_lines.specs.LineFaults.{BeginsWith, IsFaultyLine, SpellsLine};
+ghost use Rattle.scenario_lines.specs.LineFaults.{BeginsWithKeyword, IsFaultyLine, SpellsLine};
 ghost use Rattle.scenario_lines.specs.Spelling.{line_fields, keyword_of};
 
 /// Each field of a line may stand as a field.
@@ -21,38 +21,44 @@ pub fn lines_are_field_texts()
 
 /// A list of fields spells at most one line.
 pub fn lines_are_told_apart()
-    ensures { (fields : List (List ℕ)) (one other : Line) → SpellsLine fields one → SpellsLine fields other → one ≡ other }
+    ensures { (fields : List (List ℕ)) (one other : Line) → SpellsLine fields one
+        → SpellsLine fields other → one ≡ other }
 {}
 
 /// The fields of a line begin with its keyword.
 #[tactic(auto, using(crate::specs::LineBeginnings::begins))]
 pub fn lines_begin_with_their_keyword()
-    ensures { (line : Line) → BeginsWith (line_fields line) (keyword_of line) }
+    ensures { (line : Line) → BeginsWithKeyword (line_fields line) (keyword_of line) }
 {}
 
 /// Fields begin with at most one keyword.
 pub fn lines_begin_with_one_keyword()
-    ensures { (fields : List (List ℕ)) (one other : Keyword) → BeginsWith fields one → BeginsWith fields other → one ≡ other }
+    ensures { (fields : List (List ℕ)) (one other : Keyword) → BeginsWithKeyword fields one
+        → BeginsWithKeyword fields other → one ≡ other }
 {}
 
 /// Fields that spell a line are not faulty.
 pub fn spelled_lines_are_not_faulty()
-    ensures { (fields : List (List ℕ)) (line : Line) (fault : LineFault) → SpellsLine fields line → IsFaultyLine fields fault → ⊥ }
+    ensures { (fields : List (List ℕ)) (line : Line) (fault : LineFault) → SpellsLine fields line
+        → IsFaultyLine fields fault → ⊥ }
 {}
 
 /// Fields are faulty for at most one reason.
 pub fn lines_have_one_fault()
-    ensures { (fields : List (List ℕ)) (one other : LineFault) → IsFaultyLine fields one → IsFaultyLine fields other → one ≡ other }
+    ensures { (fields : List (List ℕ)) (one other : LineFault) → IsFaultyLine fields one
+        → IsFaultyLine fields other → one ≡ other }
 {}
 
 /// Fields begin with a keyword, or are faulty since they begin with none.
 pub fn lines_begin_or_are_faulty()
-    ensures { (fields : List (List ℕ)) → ((keyword : Keyword) × BeginsWith fields keyword) ⊎ IsFaultyLine fields LineFault.Word }
+    ensures { (fields : List (List ℕ)) → ((keyword : Keyword) × BeginsWithKeyword fields keyword)
+        ⊎ IsFaultyLine fields LineFault.Word }
 {}
 
 /// Fields spell a line, or are faulty for some reason.
 pub fn lines_say_something_or_are_faulty()
-    ensures { (fields : List (List ℕ)) → ((line : Line) × SpellsLine fields line) ⊎ ((fault : LineFault) × IsFaultyLine fields fault) }
+    ensures { (fields : List (List ℕ)) → ((line : Line) × SpellsLine fields line)
+        ⊎ ((fault : LineFault) × IsFaultyLine fields fault) }
 {}
 
 /// A memory can be made of the image of each tag line (6.3.2.1 Tag memory), and its banks have the sizes

@@ -124,7 +124,8 @@ pub(crate) fn op_kind_named(field: &[u8]) -> Option<OpKind>
 /// The flag of this name whose persistence ends: each but S0.
 pub fn expiring_flag_named(field: &[u8]) -> Option<FlagName>
     ensures value { IfSome result (λ flag. (field.now ≡ flag_word flag) × (flag ≢ FlagName.S0)) }
-    ensures only { (flag : FlagName) → flag ≢ FlagName.S0 → field.now ≡ flag_word flag → result ≡ Some flag }
+    ensures only { (flag : FlagName) → flag ≢ FlagName.S0 → field.now ≡ flag_word flag
+        → result ≡ Some flag }
 {
     match flag_named(field) {
         Some(FlagName::S0) => None,

@@ -24,7 +24,8 @@ use text_fields::push_next_name;
 
 /// Writes `gen2 1` or `gen2 2`, the first line of a scenario.
 pub fn push_version(text: &mut String, version: Version) -> Result<(), OutOfMemory>
-    ensures { OnOk result (string_bytes text.new ≡ string_bytes text.old ++ (line_text (lines.Version version) ++ line_feed ∷ [])) }
+    ensures { OnOk result (string_bytes text.new ≡ string_bytes text.old
+        ++ (line_text (lines.Version version) ++ line_feed ∷ [])) }
 {
     text.push_str("gen2")?;
     push_next_name(text, version_name(version))?;
@@ -33,7 +34,8 @@ pub fn push_version(text: &mut String, version: Version) -> Result<(), OutOfMemo
 
 /// Writes `default break` or `default capture`: what the channel gives where several tags reply and nothing is chosen.
 pub fn push_default(text: &mut String, several: Several) -> Result<(), OutOfMemory>
-    ensures { OnOk result (string_bytes text.new ≡ string_bytes text.old ++ (line_text (lines.Default several) ++ line_feed ∷ [])) }
+    ensures { OnOk result (string_bytes text.new ≡ string_bytes text.old
+        ++ (line_text (lines.Default several) ++ line_feed ∷ [])) }
 {
     text.push_str("default")?;
     push_next_name(text, several_name(several))?;
@@ -42,14 +44,16 @@ pub fn push_default(text: &mut String, several: Several) -> Result<(), OutOfMemo
 
 /// Writes `nak`.
 pub fn push_nak(text: &mut String) -> Result<(), OutOfMemory>
-    ensures { OnOk result (string_bytes text.new ≡ string_bytes text.old ++ (line_text lines.Nak ++ line_feed ∷ [])) }
+    ensures { OnOk result (string_bytes text.new ≡ string_bytes text.old
+        ++ (line_text lines.Nak ++ line_feed ∷ [])) }
 {
     text.push_str("nak\n")
 }
 
 /// Writes `end`, the last line of a scenario.
 pub fn push_end(text: &mut String) -> Result<(), OutOfMemory>
-    ensures { OnOk result (string_bytes text.new ≡ string_bytes text.old ++ (line_text lines.End ++ line_feed ∷ [])) }
+    ensures { OnOk result (string_bytes text.new ≡ string_bytes text.old
+        ++ (line_text lines.End ++ line_feed ∷ [])) }
 {
     text.push_str("end\n")
 }

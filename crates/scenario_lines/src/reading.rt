@@ -3,7 +3,7 @@ ghost use Rattle.std.specs.Prelude.{◌≡◌, ◌↔◌, [], IfOk, IfErr, IfSom
 ghost use Rattle.text_fields.specs.Lines.{fields_of};
 ghost use Rattle.scenario_lines.specs.declared.line.Line.{Line};
 ghost use Rattle.scenario_lines.specs.declared.first_fields.Keyword.{Keyword};
-ghost use Rattle.scenario_lines.specs.LineFaults.{BeginsWith, HasKnownKind, IsFaultyLine, IsFaultyBehind, SpellsLine, SpellsBehind};
+ghost use Rattle.scenario_lines.specs.LineFaults.{BeginsWithKeyword, HasKnownKind, IsFaultyLine, IsFaultyBehind, SpellsLine, SpellsBehind};
 
 mod air;
 mod event;
@@ -88,7 +88,8 @@ fn read_bare(others: Fields) -> Result<(), LineFault>
 /// What a line with this keyword says, by its other fields.
 fn read_behind<'a>(keyword: Keyword, others: Fields<'a>) -> Result<Line<'a>, LineFault>
     ensures ok { IfOk result (SpellsBehind keyword others.entry) }
-    ensures only { (said : Line) → SpellsBehind keyword others.entry said → IsOkAnd result (λ it. it ≡ said) }
+    ensures only { (said : Line) → SpellsBehind keyword others.entry said
+        → IsOkAnd result (λ it. it ≡ said) }
     ensures refused { IfErr result (IsFaultyBehind keyword others.entry) }
 {
     match keyword {
@@ -140,13 +141,13 @@ pub struct BegunLine<'a> {
 impl<'a> Model for BegunLine<'a> {
     ghost use Rattle.std.specs.Prelude.{List, ℕ};
     ghost use Rattle.text_fields.specs.Lines.{fields_of};
-    ghost use Rattle.scenario_lines.specs.LineFaults.{BeginsWith};
+    ghost use Rattle.scenario_lines.specs.LineFaults.{BeginsWithKeyword};
 
     ghost Value = { List (List ℕ) };
 
     ghost view = { λ a. fields_of a.line.now };
 
-    ghost invariant = { λ a. BeginsWith (fields_of a.line.now) a.keyword };
+    ghost invariant = { λ a. BeginsWithKeyword (fields_of a.line.now) a.keyword };
 }
 
 impl<'a> BegunLine<'a> {
@@ -167,8 +168,8 @@ impl<'a> BegunLine<'a> {
 
     /// The keyword that the line begins with.
     pub fn keyword(&self) -> Keyword
-        ensures value { BeginsWith self.now result }
-        ensures only { (keyword : Keyword) → BeginsWith self.now keyword → keyword ≡ result }
+        ensures value { BeginsWithKeyword self.now result }
+        ensures only { (keyword : Keyword) → BeginsWithKeyword self.now keyword → keyword ≡ result }
     {
         self.keyword
     }
@@ -182,7 +183,8 @@ impl<'a> BegunLine<'a> {
         // What is read is spelled so.
         ensures ok { IfOk result (SpellsLine self.entry) }
         // What is spelled so is read.
-        ensures only { (said : Line) → SpellsLine self.entry said → IsOkAnd result (λ it. it ≡ said) }
+        ensures only { (said : Line) → SpellsLine self.entry said
+            → IsOkAnd result (λ it. it ≡ said) }
         ensures refused { IfErr result (IsFaultyLine self.entry) }
     {
         let mut others = Fields::new(self.line);
@@ -201,7 +203,8 @@ pub fn read_line(line: &[u8]) -> Result<Line<'_>, LineFault>
     // What is read is spelled so.
     ensures ok { IfOk result (SpellsLine (fields_of line.now)) }
     // What is spelled so is read.
-    ensures only { (said : Line) → SpellsLine (fields_of line.now) said → IsOkAnd result (λ it. it ≡ said) }
+    ensures only { (said : Line) → SpellsLine (fields_of line.now) said
+        → IsOkAnd result (λ it. it ≡ said) }
     ensures refused { IfErr result (IsFaultyLine (fields_of line.now)) }
 {
     match BegunLine::new(line) {

@@ -36,17 +36,18 @@ pub struct TagText<'a> {
 impl<'a> Model for TagText<'a> {
     ghost use Rattle.std.specs.Prelude.{◌≡◌};
     ghost use Rattle.scenario_lines.specs.declared.tag.TagSpec.{TagSpec};
-    ghost use Rattle.scenario_lines.specs.TagForm.{IsTag, tag_of};
+    ghost use Rattle.scenario_lines.specs.TagForm.{IsTag, tag_spec_of};
 
     ghost Value = { TagSpec };
 
-    ghost view = { λ a. tag_of a.kill a.access a.locks a.epc a.tid a.user a.words };
+    ghost view = { λ a. tag_spec_of a.kill a.access a.locks a.epc a.tid a.user a.words };
 
-    ghost invariant = { λ a. IsTag (tag_of a.kill a.access a.locks a.epc a.tid a.user a.words) };
+    ghost invariant = { λ a. IsTag
+        (tag_spec_of a.kill a.access a.locks a.epc a.tid a.user a.words) };
 }
 
 impl<'a> TagText<'a> {
-    ghost use Rattle.scenario_lines.specs.TagForm.{IsTag, IsTagForm, epc_length, tag_of};
+    ghost use Rattle.scenario_lines.specs.TagForm.{IsTag, IsTagForm, epc_length, tag_spec_of};
     ghost use Rattle.tag_memory.specs.Image.{pc_fits};
 
     /// The tag of these fields, each of which is in its range. None exactly where the EPC that PC
@@ -60,10 +61,14 @@ impl<'a> TagText<'a> {
         user: Words<'a>,
         words: Words<'a>,
     ) -> Option<TagText<'a>>
-        requires { IsTagForm (tag_of kill access locks epc tid user words) }
-        ensures value { IfSome result (λ tag. tag ≡ tag_of kill access locks epc.entry tid.entry user.entry words.entry) }
+        requires { IsTagForm (tag_spec_of kill access locks epc tid user words) }
+        ensures value { IfSome result
+            (λ tag. tag ≡ tag_spec_of kill access locks epc.entry tid.entry user.entry
+            words.entry) }
         ensures legal { IfSome result IsTag }
-        ensures none { IfNone result (pc_fits (tag_of kill access locks epc.entry tid.entry user.entry words.entry).image ≡ false) }
+        ensures none { IfNone result
+            (pc_fits (tag_spec_of kill access locks epc.entry tid.entry user.entry
+            words.entry).image ≡ false) }
     {
         let pc = epc.first()?;
         if !epc_fits(pc, 1 + epc.len() as usize) {

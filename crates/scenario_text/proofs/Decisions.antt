@@ -14,7 +14,7 @@ use Rattle.scenario_lines.specs.declared.line.Line.TheVariants as lines
 use Rattle.scenario.specs.Limits.{most_air_lines, most_ops, most_steps, most_tags_of}
 use Rattle.scenario_text.specs.AirLines.{ChoosesOnce, KeepsOrder, MayFollow}
 use Rattle.scenario_text.specs.Draft.{DraftValue, tag_count}
-use Rattle.scenario_text.specs.Standing.{HasRoom, IsOfVersion, MayCopy, MayStand, NamesTag, Standing, begun, linked, start, within}
+use Rattle.scenario_text.specs.Standing.{HasRoomForLine, IsOfVersion, MayCopy, MayStand, NamesTag, ScenarioStanding, begun, linked, start, within}
 use Rattle.scenario_text.specs.StepLines.{IsBareRound, steps_of}
 
 -- a fact holds, or it doesn't
@@ -74,7 +74,7 @@ copies_stand_decided draft =
     ]
 
 -- a line with this keyword may follow, or may not
-pub may_stand_decided : (standing : Standing) (keyword : Keyword) → Decided (MayStand standing keyword)
+pub may_stand_decided : (standing : ScenarioStanding) (keyword : Keyword) → Decided (MayStand standing keyword)
 may_stand_decided start keywords.Version = inl tt
 may_stand_decided (begun version) keywords.Link = inl tt
 may_stand_decided (linked link) keywords.Default = inl tt
@@ -91,7 +91,7 @@ may_stand_decided (within draft) keywords.End = inl tt
 may_stand_decided standing keyword = inr (λ stands. stands)
 
 -- ... and there is room for it, or there is none
-pub has_room_decided : (standing : Standing) (keyword : Keyword) → Decided (HasRoom standing keyword)
+pub has_room_decided : (standing : ScenarioStanding) (keyword : Keyword) → Decided (HasRoomForLine standing keyword)
 has_room_decided (within draft) keywords.Tag = lt_decided (tag_count draft) (most_tags_of draft.head.version)
 has_room_decided (within draft) keywords.Copies = lt_decided (tag_count draft) (most_tags_of draft.head.version)
 has_room_decided (within draft) keywords.Air = lt_decided draft.air.count most_air_lines

@@ -8,7 +8,7 @@ use Rattle.scenario_lines.specs.declared.line.Line.{Line}
 use Rattle.scenario_lines.specs.declared.line.Line.TheVariants as lines
 use Rattle.scenario_lines.specs.LineForm.{IsLine}
 use Rattle.scenario_text.specs.Draft.{DraftValue, new_draft}
-use Rattle.scenario_text.specs.Standing.{Follows, Leads, Standing, begun, ended, first_head, linked, second_head, start, within}
+use Rattle.scenario_text.specs.Standing.{MayStandNext, LinesLead, ScenarioStanding, begun, ended, first_head, linked, second_head, start, within}
 
 -- some link
 some_link : LinkValue
@@ -30,27 +30,27 @@ some_link_is_line = record {
   coherent = some_link_is_legal;
 }
 
-end_follows : (draft : DraftValue) → Follows (within draft) lines.End
+end_follows : (draft : DraftValue) → MayStandNext (within draft) lines.End
 end_follows draft =
     record { is = record { form = tt; coherent = tt }; stands = tt; room = tt; agrees = record { version = tt; copies = tt; names = tt; order = tt; once = tt } }
 
-link_ends : Leads (begun One) (lines.Link some_link ∷ lines.End ∷ []) (ended (new_draft (first_head some_link)))
+link_ends : LinesLead (begun One) (lines.Link some_link ∷ lines.End ∷ []) (ended (new_draft (first_head some_link)))
 link_ends =
     (record { is = some_link_is_line; stands = tt; room = tt; agrees = tt }, (end_follows (new_draft (first_head some_link)), refl))
 
-default_ends : (link : LinkValue) → Leads (linked link) (lines.Default Break ∷ lines.End ∷ []) (ended (new_draft (second_head link Break)))
+default_ends : (link : LinkValue) → LinesLead (linked link) (lines.Default Break ∷ lines.End ∷ []) (ended (new_draft (second_head link Break)))
 default_ends link = (
   record { is = record { form = tt; coherent = tt }; stands = tt; room = tt; agrees = tt },
   (end_follows (new_draft (second_head link Break)), refl),
 )
 
 -- some lines lead from here to the end
-pub record CanEnd (standing : Standing) : Type 0 where
+pub record CanEnd (standing : ScenarioStanding) : Type 0 where
   pub more : List Line
   pub draft : DraftValue
-  pub leads : Leads standing more (ended draft)
+  pub leads : LinesLead standing more (ended draft)
 
-pub can_end : (standing : Standing) → CanEnd standing
+pub can_end : (standing : ScenarioStanding) → CanEnd standing
 can_end start = record {
   more = lines.Version One ∷ lines.Link some_link ∷ lines.End ∷ [];
   draft = new_draft (first_head some_link);

@@ -6,7 +6,7 @@ use Rattle.scenario_lines.specs.declared.line.Line.{Line}
 use Rattle.scenario_lines.specs.Spelling.{line_text}
 use Rattle.scenario_text.specs.declared.fault.Fault.{Fault}
 use Rattle.scenario.specs.ScenarioText.{scenario_lines}
-use Rattle.scenario_text.specs.Standing.{Leads, Standing, ended, start}
+use Rattle.scenario_text.specs.Standing.{LinesLead, ScenarioStanding, ended, start}
 use Rattle.scenario_text.specs.Draft.{scenario_of}
 use Rattle.scenario_text.specs.Faults.{IsFirstFault, Settles}
 use Rattle.scenario_text.specs.laws.LineLaws.{LineLaws}
@@ -19,14 +19,14 @@ use Rattle.scenario_text.proofs.Settled.{said_scenario}
 use Rattle.scenario_text.proofs.Spoken.{scenario_is_said}
 
 -- lines that follow one another from the start begin a scenario
-pub said_begins : (said : List Line) (standing : Standing) → Leads start said standing → BeginsScenario said
+pub said_begins : (said : List Line) (standing : ScenarioStanding) → LinesLead start said standing → BeginsScenario said
 said_begins said standing leads =
     let end = can_end standing in
     let whole = said_scenario end.draft (said ++ end.more) (leads_on start standing (ended end.draft) said end.more leads end.leads) in
     record { scenario = scenario_of end.draft; is = whole.1; more = end.more; lines = sym whole.0 }
 
 -- ... and so do the texts of the first ones among them
-settled_begins : (before : List (List ℕ)) (standing : Standing) (number : ℕ) → Settles before standing → BeginsText (take number before)
+settled_begins : (before : List (List ℕ)) (standing : ScenarioStanding) (number : ℕ) → Settles before standing → BeginsText (take number before)
 settled_begins before standing number settles =
     let begins = said_begins settles.said standing settles.leads in
     let behind = map line_text begins.more in

@@ -1,14 +1,14 @@
 -- Lines that follow one another.
 use Rattle.std.proofs.Common.{◌≡◌, List, [], ◌∷◌, ◌++◌, sym, subst}
 use Rattle.scenario_lines.specs.declared.line.Line.{Line}
-use Rattle.scenario_text.specs.Standing.{Standing, Follows, Leads, after}
+use Rattle.scenario_text.specs.Standing.{ScenarioStanding, MayStandNext, LinesLead, standing_after}
 
 -- some lines and then some more
-pub leads_on : (from middle to : Standing) (first second : List Line) → Leads from first middle → Leads middle second to → Leads from (first ++ second) to
-leads_on from middle to [] second leads leads' = subst (λ (s : Standing). Leads s second to) (sym leads) leads'
-leads_on from middle to (line ∷ first) second leads leads' = (leads.0, leads_on (after from line) middle to first second leads.1 leads')
+pub leads_on : (from middle to : ScenarioStanding) (first second : List Line) → LinesLead from first middle → LinesLead middle second to → LinesLead from (first ++ second) to
+leads_on from middle to [] second leads leads' = subst (λ (s : ScenarioStanding). LinesLead s second to) (sym leads) leads'
+leads_on from middle to (line ∷ first) second leads leads' = (leads.0, leads_on (standing_after from line) middle to first second leads.1 leads')
 
 -- one line more
-pub leads_one : (from middle to : Standing) (first : List Line) (line : Line) → Leads from first middle → Follows middle line → after middle line ≡ to
-    → Leads from (first ++ line ∷ []) to
+pub leads_one : (from middle to : ScenarioStanding) (first : List Line) (line : Line) → LinesLead from first middle → MayStandNext middle line → standing_after middle line ≡ to
+    → LinesLead from (first ++ line ∷ []) to
 leads_one from middle to first line leads follows is = leads_on from middle to first (line ∷ []) leads (follows, is)

@@ -24,12 +24,12 @@ use Rattle.scenario.specs.declared.values.Step.{Step}
 use Rattle.scenario.specs.declared.values.Step.TheVariants as steps
 use Rattle.scenario.specs.Limits.{most_tags_of, most_air_lines, most_ops, most_steps}
 use Rattle.scenario_text.specs.Draft.{DraftValue, HeadValue, new_draft, draft_after, tag_count}
-use Rattle.scenario_text.specs.Standing.{Standing, start, begun, first_head, head_size, linked, second_head, within, ended, after, Follows, Leads, HasRoom, MayStand, IsOfVersion, MayCopy, NamesTag}
+use Rattle.scenario_text.specs.Standing.{ScenarioStanding, start, begun, first_head, head_size, linked, second_head, within, ended, standing_after, MayStandNext, LinesLead, HasRoomForLine, MayStand, IsOfVersion, MayCopy, NamesTag}
 use Rattle.scenario_text.specs.AirLines.{AirLinesValue, at_exchange, with_said, with_happening, MayFollow, KeepsOrder, ChoosesOnce}
 use Rattle.scenario_text.specs.StepLines.{IsBareRound, StepLinesValue, steps_of, with_last, with_step}
 use Rattle.scenario_text.specs.Faults.{DisagreesBy}
 use Rattle.scenario_text.proofs.Counts.{tags_more}
-use Rattle.scenario_text.specs.LinesBefore.{is_air, is_step, tags_by, tags_in, version_in, airs_in, steps_in, ops_behind, EndsInRound, IsFullBefore, IsNoEnd, IsRoundLine, MayStandBehind, turn_of, ComesBefore, ChoosesOther, KeepsOrderBehind, ChoosesFirst, DisagreesWith}
+use Rattle.scenario_text.specs.LinesBefore.{is_air, is_step, tags_by, tags_in, version_in, airs_in, steps_in, ops_behind, EndsInRound, IsFullBefore, IsNoEnd, IsRoundLine, MayStandBehind, happening_turn, ComesBefore, ChoosesOther, KeepsOrderBehind, ChoosesFirst, DisagreesWith}
 
 -- lists with one more
 
@@ -86,7 +86,7 @@ ops-push count (lines.End ∷ before) line = ops-push count before line
 -- what is said of one exchange
 
 -- one thing more leaves its turn to what comes no earlier
-may-still : (entry : Entry) (said happening : Happening) → MayFollow entry happening → turn_of said ≤ turn_of happening → MayFollow (with_happening entry said) happening
+may-still : (entry : Entry) (said happening : Happening) → MayFollow entry happening → happening_turn said ≤ happening_turn happening → MayFollow (with_happening entry said) happening
 may-still entry (happenings.Event event tag) (happenings.Event event' tag') may turn = may
 may-still entry (happenings.Event event tag) (happenings.Miss tag') may turn = may
 may-still entry (happenings.Event event tag) (happenings.Choice choice') may turn = tt
@@ -106,7 +106,7 @@ some-none : (choice : Choice) → Some choice ≡ None → ⊥
 some-none choice same = cc
 
 -- ... and what may follow it comes no earlier
-turn-kept : (entry : Entry) (said happening : Happening) → MayFollow (with_happening entry said) happening → turn_of said ≤ turn_of happening
+turn-kept : (entry : Entry) (said happening : Happening) → MayFollow (with_happening entry said) happening → happening_turn said ≤ happening_turn happening
 turn-kept entry (happenings.Event event tag) happening may = omega arith
 turn-kept entry (happenings.Miss tag) (happenings.Event event' tag') may = absurd (not-none entry.missed tag may.0)
 turn-kept entry (happenings.Miss tag) (happenings.Miss tag') may = omega arith
@@ -360,7 +360,7 @@ air-draft_after before draft exchange said false is above no_steps told =
     (airs-next before draft.air.exchange exchange draft.air.latest said (above-not draft.air.exchange exchange above differs) told.exchanges)
 
 -- the same of any place in a scenario
-abbrev Stands : List Line → Standing → Type 0
+abbrev Stands : List Line → ScenarioStanding → Type 0
 Stands before start = before ≡ []
 Stands before (begun version) = before ≡ lines.Version version ∷ []
 Stands before (linked link) = before ≡ lines.Version Two ∷ lines.Link link ∷ []
@@ -368,7 +368,7 @@ Stands before (within draft) = Tells before draft
 Stands before (ended draft) = ¬ AllByRecursion IsNoEnd before
 
 -- one line more
-tells-one : (before : List Line) (draft : DraftValue) (line : Line) → Follows (within draft) line → Tells before draft → Stands (before ++ line ∷ []) (after (within draft) line)
+tells-one : (before : List Line) (draft : DraftValue) (line : Line) → MayStandNext (within draft) line → Tells before draft → Stands (before ++ line ∷ []) (standing_after (within draft) line)
 tells-one before draft (lines.Version version) follows told = absurd follows.stands
 tells-one before draft (lines.Link link) follows told = absurd follows.stands
 tells-one before draft (lines.Default several) follows told = absurd follows.stands
@@ -434,7 +434,7 @@ tells-one before draft (lines.Op op) follows told =
     (airs-kept before draft.air.exchange draft.air.latest line (λ exchange happening. tt) (λ exchange. tt) told.exchanges)
 tells-one before draft lines.End follows told = λ all. all-last IsNoEnd before lines.End all
 
-stands-first : (before : List Line) (line : Line) → Follows start line → before ≡ [] → Stands (before ++ line ∷ []) (after start line)
+stands-first : (before : List Line) (line : Line) → MayStandNext start line → before ≡ [] → Stands (before ++ line ∷ []) (standing_after start line)
 stands-first before (lines.Version version) follows none = ap (λ (b : List Line). b ++ lines.Version version ∷ []) none
 stands-first before line follows none = absurd follows.stands
 
@@ -506,35 +506,35 @@ second-head-lines link several = record {
   no_last = λ ends. ends;
 }
 
-stands-second : (before : List Line) (version : Version) (line : Line) → Follows (begun version) line → before ≡ lines.Version version ∷ []
-    → Stands (before ++ line ∷ []) (after (begun version) line)
+stands-second : (before : List Line) (version : Version) (line : Line) → MayStandNext (begun version) line → before ≡ lines.Version version ∷ []
+    → Stands (before ++ line ∷ []) (standing_after (begun version) line)
 stands-second before One (lines.Link link) follows is =
     subst (λ (b : List Line). Tells (b ++ lines.Link link ∷ []) (new_draft (first_head link))) (sym is)
     (tells-none _ (first_head link) (first-head-lines link))
 stands-second before Two (lines.Link link) follows is = ap (λ (b : List Line). b ++ lines.Link link ∷ []) is
 stands-second before version line follows is = absurd follows.stands
 
-stands-third : (before : List Line) (link : _) (line : Line) → Follows (linked link) line → before ≡ lines.Version Two ∷ lines.Link link ∷ []
-    → Stands (before ++ line ∷ []) (after (linked link) line)
+stands-third : (before : List Line) (link : _) (line : Line) → MayStandNext (linked link) line → before ≡ lines.Version Two ∷ lines.Link link ∷ []
+    → Stands (before ++ line ∷ []) (standing_after (linked link) line)
 stands-third before link (lines.Default several) follows is =
     subst (λ (b : List Line). Tells (b ++ lines.Default several ∷ []) (new_draft (second_head link several))) (sym is)
     (tells-none _ (second_head link several) (second-head-lines link several))
 stands-third before link line follows is = absurd follows.stands
 
-stands-one : (before : List Line) (from : Standing) (line : Line) → Follows from line → Stands before from → Stands (before ++ line ∷ []) (after from line)
+stands-one : (before : List Line) (from : ScenarioStanding) (line : Line) → MayStandNext from line → Stands before from → Stands (before ++ line ∷ []) (standing_after from line)
 stands-one before start line follows stands = stands-first before line follows stands
 stands-one before (begun version) line follows stands = stands-second before version line follows stands
 stands-one before (linked link) line follows stands = stands-third before link line follows stands
 stands-one before (within draft) line follows stands = tells-one before draft line follows stands
 stands-one before (ended draft) line follows stands = absurd follows.stands
 
-stands-behind : (before said : List Line) (from to : Standing) → Leads from said to → Stands before from → Stands (before ++ said) to
+stands-behind : (before said : List Line) (from to : ScenarioStanding) → LinesLead from said to → Stands before from → Stands (before ++ said) to
 stands-behind before [] from to leads stands = subst (λ (b : List Line). Stands b to) (sym (append-nil before)) (subst (Stands before) leads stands)
 stands-behind before (line ∷ said) from to leads stands =
     subst (λ (b : List Line). Stands b to) (append_assoc before (line ∷ []) said)
-    (stands-behind (before ++ line ∷ []) said (after from line) to leads.1 (stands-one before from line leads.0 stands))
+    (stands-behind (before ++ line ∷ []) said (standing_after from line) to leads.1 (stands-one before from line leads.0 stands))
 
-tells : (said : List Line) (draft : DraftValue) → Leads start said (within draft) → Tells said draft
+tells : (said : List Line) (draft : DraftValue) → LinesLead start said (within draft) → Tells said draft
 tells said draft leads = stands-behind [] said start (within draft) leads refl
 
 -- a head has two lines at least
@@ -617,7 +617,7 @@ stand-within said draft keywords.Op told =
     (λ may. record { goes_on = told.goes_on; place = rw (version-told said draft told) told.long; order = told.round.0 may }, λ may. told.round.1 may.order)
 stand-within said draft keyword told = (λ may. record { goes_on = told.goes_on; place = rw (version-told said draft told) told.long; order = tt }, λ may. tt)
 
-may-stand-here : (said : List Line) (standing : Standing) (keyword : Keyword) → Stands said standing → MayStand standing keyword ↔ MayStandBehind said keyword
+may-stand-here : (said : List Line) (standing : ScenarioStanding) (keyword : Keyword) → Stands said standing → MayStand standing keyword ↔ MayStandBehind said keyword
 may-stand-here said start keyword stands = subst (λ (list : List Line). MayStand start keyword ↔ MayStandBehind list keyword) (sym stands) (stand-first keyword)
 may-stand-here said (begun version) keyword stands =
     subst (λ (list : List Line). MayStand (begun version) keyword ↔ MayStandBehind list keyword) (sym stands) (stand-second version keyword)
@@ -626,7 +626,7 @@ may-stand-here said (linked link) keyword stands =
 may-stand-here said (within draft) keyword stands = stand-within said draft keyword stands
 may-stand-here said (ended draft) keyword stands = (λ may. absurd may, λ may. absurd (stands may.goes_on))
 
-pub may-stand : (said : List Line) (standing : Standing) (keyword : Keyword) → Leads start said standing → MayStand standing keyword ↔ MayStandBehind said keyword
+pub may-stand : (said : List Line) (standing : ScenarioStanding) (keyword : Keyword) → LinesLead start said standing → MayStand standing keyword ↔ MayStandBehind said keyword
 may-stand said standing keyword leads = may-stand-here said standing keyword (stands-behind [] said start standing leads refl)
 
 room-for-tags : (said : List Line) (draft : DraftValue) → Tells said draft
@@ -634,7 +634,7 @@ room-for-tags : (said : List Line) (draft : DraftValue) → Tells said draft
 room-for-tags said draft told =
     rw (version-told said draft told) (room-or-full (tag_count draft) (tags_in said) (most_tags_of draft.head.version) told.tags)
 
-pub has-room : (said : List Line) (draft : DraftValue) (keyword : Keyword) → Leads start said (within draft) → HasRoom (within draft) keyword ↔ (¬ IsFullBefore said keyword)
+pub has-room : (said : List Line) (draft : DraftValue) (keyword : Keyword) → LinesLead start said (within draft) → HasRoomForLine (within draft) keyword ↔ (¬ IsFullBefore said keyword)
 has-room said draft keywords.Version leads = always tt
 has-room said draft keywords.Link leads = always tt
 has-room said draft keywords.Default leads = always tt
@@ -713,7 +713,7 @@ by-choice said draft line told =
           (names.1 with_lines.0, keeps, (neither (chooses-once said draft line told keeps)).1 with_lines.2),
     )
 
-pub disagrees-with : (said : List Line) (draft : DraftValue) (line : Line) (fault : Fault) → Leads start said (within draft) → DisagreesBy draft line fault ↔ DisagreesWith said line fault
+pub disagrees-with : (said : List Line) (draft : DraftValue) (line : Line) (fault : Fault) → LinesLead start said (within draft) → DisagreesBy draft line fault ↔ DisagreesWith said line fault
 disagrees-with said draft line (faults.Line line_faults.Number) leads = neither (of-version said draft line (tells said draft leads))
 disagrees-with said draft line faults.Copies leads = neither (may-copy said draft line (tells said draft leads))
 disagrees-with said draft line faults.Tag leads = neither (names-tag said draft line (tells said draft leads))

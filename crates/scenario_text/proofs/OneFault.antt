@@ -11,7 +11,7 @@ use Rattle.scenario.specs.ScenarioText.{scenario_lines, scenario_text}
 use Rattle.scenario.specs.Limits.{IsScenario}
 use Rattle.scenario_text.specs.laws.LineLaws.{LineLaws}
 use Rattle.scenario_text.specs.Draft.{DraftValue}
-use Rattle.scenario_text.specs.Standing.{Standing, ended, start}
+use Rattle.scenario_text.specs.Standing.{ScenarioStanding, ended, start}
 use Rattle.scenario_text.specs.Faults.{IsFaultyBefore, IsFirstFault, IsRefused}
 use Rattle.scenario_text.proofs.Places.{IsOnePlace, LineBehind, compare}
 use Rattle.scenario_text.proofs.Reasons.{not_faulty, one_reason}
@@ -34,11 +34,11 @@ faulty_line bytes number fault first = record {
 }
 
 -- at one place
-faulty_there : {from : Standing} {said said' : List Line} (one : LineBehind from said) (other : LineBehind from said') (fault : Fault)
+faulty_there : {from : ScenarioStanding} {said said' : List Line} (one : LineBehind from said) (other : LineBehind from said') (fault : Fault)
     → IsOnePlace one other → IsFaultyBefore one.behind one.to one.line fault → IsFaultyBefore other.behind other.to other.line fault
 faulty_there one other fault place faulty =
     subst (λ (list : List (List ℕ)). IsFaultyBefore list other.to other.line fault) place.behind_is
-    (subst (λ (s : Standing). IsFaultyBefore one.behind s other.line fault) place.standing
+    (subst (λ (s : ScenarioStanding). IsFaultyBefore one.behind s other.line fault) place.standing
     (subst (λ (l : List ℕ). IsFaultyBefore one.behind one.to l fault) place.line_is faulty))
 
 same_number : (bytes : List ℕ) (one other : ℕ) (fault reason : Fault) (first : IsFirstFault bytes one fault) (second : IsFirstFault bytes other reason)

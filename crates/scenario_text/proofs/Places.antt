@@ -3,25 +3,25 @@ use Rattle.std.proofs.Common.{◌≡◌, ◌≢◌, ℕ, List, [], ◌∷◌, �
 use Rattle.scenario_lines.specs.declared.line.Line.{Line}
 use Rattle.scenario_lines.specs.Spelling.{line_text}
 use Rattle.scenario_text.specs.laws.LineLaws.{LineLaws}
-use Rattle.scenario_text.specs.Standing.{Follows, Leads, Standing, after}
+use Rattle.scenario_text.specs.Standing.{MayStandNext, LinesLead, ScenarioStanding, standing_after}
 use Rattle.scenario_text.proofs.ToldApart.{line_told}
 
 -- what stands here is a line that may follow, and something stands behind it
-pub record GoesOn (standing : Standing) (line : List ℕ) (behind : List (List ℕ)) : Type 0 where
+pub record GoesOn (standing : ScenarioStanding) (line : List ℕ) (behind : List (List ℕ)) : Type 0 where
   pub next : Line
   pub text : line ≡ line_text next
-  pub follows : Follows standing next
+  pub follows : MayStandNext standing next
   pub more : behind ≢ []
 
 -- a line of a text behind these lines, and what stands behind it
-pub record LineBehind (from : Standing) (said : List Line) : Type 0 where
+pub record LineBehind (from : ScenarioStanding) (said : List Line) : Type 0 where
   pub line : List ℕ
   pub behind : List (List ℕ)
-  pub to : Standing
-  pub leads : Leads from said to
+  pub to : ScenarioStanding
+  pub leads : LinesLead from said to
 
 -- the two places are one
-pub record IsOnePlace {from : Standing} {said said' : List Line} (one : LineBehind from said) (other : LineBehind from said') : Type 0 where
+pub record IsOnePlace {from : ScenarioStanding} {said said' : List Line} (one : LineBehind from said) (other : LineBehind from said') : Type 0 where
   pub lines : said ≡ said'
   pub line_is : one.line ≡ other.line
   pub behind_is : one.behind ≡ other.behind
@@ -32,7 +32,7 @@ some_behind [] behind line none = cc
 some_behind (first ∷ front) behind line none = cc
 
 -- where one place comes before the other, the text goes on there
-goes_on : {from : Standing} (one : LineBehind from []) (next : Line) (others : List (List ℕ)) → Follows from next
+goes_on : {from : ScenarioStanding} (one : LineBehind from []) (next : Line) (others : List (List ℕ)) → MayStandNext from next
     → one.line ∷ one.behind ≡ line_text next ∷ others → others ≢ [] → GoesOn one.to one.line one.behind
 goes_on one next others follows same some =
     let text : one.line ≡ line_text next = cc in
@@ -40,12 +40,12 @@ goes_on one next others follows same some =
     record {
       next = next;
       text = text;
-      follows = subst (λ (s : Standing). Follows s next) one.leads follows;
+      follows = subst (λ (s : ScenarioStanding). MayStandNext s next) one.leads follows;
       more = λ none. some (sym rest ∙ none);
     }
 
 -- two places are one, or the text goes on at one of them
-pub compare : LineLaws → (from : Standing) (said said' : List Line) (one : LineBehind from said) (other : LineBehind from said')
+pub compare : LineLaws → (from : ScenarioStanding) (said said' : List Line) (one : LineBehind from said) (other : LineBehind from said')
     → map line_text said ++ one.line ∷ one.behind ≡ map line_text said' ++ other.line ∷ other.behind
     → IsOnePlace one other ⊎ GoesOn one.to one.line one.behind ⊎ GoesOn other.to other.line other.behind
 compare laws from [] [] one other same =
@@ -60,10 +60,10 @@ compare laws from (next ∷ said) (next' ∷ said') one other same =
     let text : line_text next ≡ line_text next' = cc in
     let texts : map line_text said ++ one.line ∷ one.behind ≡ map line_text said' ++ other.line ∷ other.behind = cc in
     let first = line_told laws next next' one.leads.0.is other.leads.0.is text in
-    let rest : Leads (after from next) said' other.to = subst (λ (l : Line). Leads (after from l) said' other.to) (sym first) other.leads.1 in
-    let one_rest : LineBehind (after from next) said = record { line = one.line; behind = one.behind; to = one.to; leads = one.leads.1 } in
-    let other_rest : LineBehind (after from next) said' = record { line = other.line; behind = other.behind; to = other.to; leads = rest } in
-    elim (compare laws (after from next) said said' one_rest other_rest texts) [
+    let rest : LinesLead (standing_after from next) said' other.to = subst (λ (l : Line). LinesLead (standing_after from l) said' other.to) (sym first) other.leads.1 in
+    let one_rest : LineBehind (standing_after from next) said = record { line = one.line; behind = one.behind; to = one.to; leads = one.leads.1 } in
+    let other_rest : LineBehind (standing_after from next) said' = record { line = other.line; behind = other.behind; to = other.to; leads = rest } in
+    elim (compare laws (standing_after from next) said said' one_rest other_rest texts) [
       | inl place ↦ inl (record { lines = cc; line_is = place.line_is; behind_is = place.behind_is; standing = place.standing })
       | inr goes ↦ inr goes
     ]

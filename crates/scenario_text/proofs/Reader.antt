@@ -19,8 +19,8 @@ use Rattle.scenario_text.specs.declared.fault.Fault.{Fault}
 use Rattle.scenario_text.specs.declared.fault.Fault.TheVariants.{Extra, End}
 use Rattle.scenario.specs.ScenarioText.{operation_lines, scenario_lines, scenario_text, step_lines}
 use Rattle.scenario_text.specs.Draft.{DraftValue, draft_after, draft_with_group, draft_with_step, scenario_of, size}
-use Rattle.scenario_text.specs.Standing.{Follows, Leads, Standing, after, begun, ended, lines_before, linked, start, within}
-use Rattle.scenario_text.specs.StepLines.{IsBareRound, line_count, steps_of, with_last}
+use Rattle.scenario_text.specs.Standing.{MayStandNext, LinesLead, ScenarioStanding, standing_after, begun, ended, lines_before, linked, start, within}
+use Rattle.scenario_text.specs.StepLines.{IsBareRound, step_line_count, steps_of, with_last}
 use Rattle.scenario_text.specs.Faults.{IsFaultyBefore, IsFaultyHere, IsFirstFault, IsRefused}
 use Rattle.scenario.specs.Limits.{IsScenario, no_operations}
 use Rattle.scenario_text.specs.laws.LineLaws.{LineLaws}
@@ -42,16 +42,16 @@ use Rattle.scenario_text.proofs.Counts.{one_step_more}
 use Rattle.scenario_text.proofs.Settled.{more_operations, only_first, op_more, said_scenario}
 use Rattle.scenario_text.proofs.Spoken.{scenario_is_said}
 use Rattle.scenario_text.proofs.Texts.{lines_said, nothing_left, spells_text, text_of_lines, text_spelled}
-use Rattle.text_fields.specs.laws.LineLaws.{some_line}
+use Rattle.text_fields.proofs.LineLaws.{some_line}
 
 -- the lines before what is left lead there
-pub record SoFar (text rest : List ℕ) (standing : Standing) : Type 0 where
+pub record SoFar (text rest : List ℕ) (standing : ScenarioStanding) : Type 0 where
   pub said : List Line
   pub cut : lines_of text ≡ map line_text said ++ lines_of rest
-  pub leads : Leads start said standing
+  pub leads : LinesLead start said standing
 
 -- where the whole text says something, what is left says the rest of it
-abbrev pub StillSays : List ℕ → List ℕ → Standing → Type 0
+abbrev pub StillSays : List ℕ → List ℕ → ScenarioStanding → Type 0
 StillSays text rest standing =
     (whole : List Line) (last : DraftValue) → AreLeft text start whole last
     → (todo : List Line) × AreLeft rest standing todo last
@@ -75,7 +75,7 @@ size_round draft version spec = omega (arith, one_step_more (steps_of draft.step
 -- the lines of the operations of the last round, with one line more
 operations_count : (draft : DraftValue) (operations : OpList) (line : Line) → draft.steps.round ≢ None
     → operation_lines operations ≡ operation_lines draft.steps.operations ++ line ∷ []
-    → line_count (with_last draft.steps.closed draft.steps.round operations) ≡ line_count (steps_of draft.steps) + 1
+    → step_line_count (with_last draft.steps.closed draft.steps.round operations) ≡ step_line_count (steps_of draft.steps) + 1
 operations_count draft operations line some more =
     ap length (more_operations Two draft.steps.closed draft.steps.round draft.steps.operations operations line some more)
     ∙ length-append (flat_map (step_lines Two) (steps_of draft.steps)) (line ∷ [])
@@ -97,7 +97,7 @@ size_op draft op some =
     )
 
 -- each line is one more
-after_count : (from : Standing) (line : Line) → Follows from line → lines_before (after from line) ≡ lines_before from + 1
+after_count : (from : ScenarioStanding) (line : Line) → MayStandNext from line → lines_before (standing_after from line) ≡ lines_before from + 1
 after_count start (lines.Version version) follows = refl
 after_count start line follows = absurd follows.stands
 after_count (begun One) (lines.Link link) follows = refl
@@ -121,9 +121,9 @@ after_count (within draft) (lines.Op op) follows = omega (arith, size_op draft o
 after_count (within draft) lines.End follows = omega arith
 after_count (ended draft) line follows = absurd follows.stands
 
-leads_count : (from to : Standing) (said : List Line) → Leads from said to → lines_before to ≡ lines_before from + length said
+leads_count : (from to : ScenarioStanding) (said : List Line) → LinesLead from said to → lines_before to ≡ lines_before from + length said
 leads_count from to [] leads = ap lines_before (sym leads) ∙ omega arith
-leads_count from to (line ∷ said) leads = omega (arith, leads_count (after from line) to said leads.1, after_count from line leads.0)
+leads_count from to (line ∷ said) leads = omega (arith, leads_count (standing_after from line) to said leads.1, after_count from line leads.0)
 
 said_more : (text rest line behind : List ℕ) (said : List Line) (next : Line) → lines_of text ≡ map line_text said ++ lines_of rest
     → lines_of rest ≡ line ∷ lines_of behind → line ≡ line_text next → lines_of text ≡ map line_text (said ++ next ∷ []) ++ lines_of behind
@@ -133,7 +133,7 @@ said_more text rest line behind said next cut first same =
     ∙ ap (λ (list : List (List ℕ)). list ++ lines_of behind) (sym (map-append line_text said (next ∷ [])))
 
 -- a text is read up to what is left, and says the rest of it there where it says something
-pub record IsRead (text rest : List ℕ) (standing : Standing) : Type 0 where
+pub record IsRead (text rest : List ℕ) (standing : ScenarioStanding) : Type 0 where
   pub so_far : SoFar text rest standing
   pub still_says : StillSays text rest standing
 
@@ -142,7 +142,7 @@ pub read_none : (text : List ℕ) → IsRead text text start
 read_none text = record { so_far = record { said = []; cut = refl; leads = refl }; still_says = λ whole last left. (whole, left) }
 
 -- the next line of a text that is read up to there, and what stands behind it
-pub record NextLine (text : List ℕ) (from : Standing) : Type 0 where
+pub record NextLine (text : List ℕ) (from : ScenarioStanding) : Type 0 where
   pub rest : List ℕ
   pub line : List ℕ
   pub behind : List ℕ
@@ -150,7 +150,7 @@ pub record NextLine (text : List ℕ) (from : Standing) : Type 0 where
   pub read : IsRead text rest from
 
 -- one line more is read
-pub read_more : (text : List ℕ) (from to : Standing) (next : NextLine text from) → LeadsBy next.line from to → SoFar text next.behind to
+pub read_more : (text : List ℕ) (from to : ScenarioStanding) (next : NextLine text from) → LeadsBy next.line from to → SoFar text next.behind to
 read_more text from to next by = record {
   said = next.read.so_far.said ++ by.said ∷ [];
   cut = said_more text next.rest next.line next.behind next.read.so_far.said by.said next.read.so_far.cut next.first (text_spelled next.line by.said by.spelling);
@@ -158,15 +158,15 @@ read_more text from to next by = record {
 }
 
 -- the first of the lines that are left
-pub record NextLeft (line behind : List ℕ) (from : Standing) (last : DraftValue) : Type 0 where
+pub record NextLeft (line behind : List ℕ) (from : ScenarioStanding) (last : DraftValue) : Type 0 where
   pub next : Line
   pub todo : List Line
   pub spells : SpellsLine (fields_of line) next
-  pub follows : Follows from next
-  pub leads : Leads (after from next) todo (ended last)
+  pub follows : MayStandNext from next
+  pub leads : LinesLead (standing_after from next) todo (ended last)
   pub cut : lines_of behind ≡ map line_text todo ++ [] ∷ []
 
-next_left : LineLaws → (rest line behind : List ℕ) (from : Standing) (last : DraftValue) (todo : List Line) → lines_of rest ≡ line ∷ lines_of behind
+next_left : LineLaws → (rest line behind : List ℕ) (from : ScenarioStanding) (last : DraftValue) (todo : List Line) → lines_of rest ≡ line ∷ lines_of behind
     → AreLeft rest from todo last → NextLeft line behind from last
 next_left laws rest line behind from last [] first left =
     let none : lines_of behind ≡ [] = let same = sym first ∙ left.cut in cc in
@@ -185,22 +185,22 @@ next_left laws rest line behind from last (next ∷ todo) first left =
     }
 
 -- behind the end nothing is left to say
-ended_left : (draft last : DraftValue) (todo : List Line) → Leads (ended draft) todo (ended last) → (draft ≡ last) × (todo ≡ [])
+ended_left : (draft last : DraftValue) (todo : List Line) → LinesLead (ended draft) todo (ended last) → (draft ≡ last) × (todo ≡ [])
 ended_left draft last [] leads = (cc, refl)
 ended_left draft last (next ∷ todo) leads = absurd leads.0.stands
 
 -- ... where the whole text says something
-left_here : LineLaws → (text : List ℕ) (from : Standing) (next : NextLine text from) (last : DraftValue) (whole : List Line)
+left_here : LineLaws → (text : List ℕ) (from : ScenarioStanding) (next : NextLine text from) (last : DraftValue) (whole : List Line)
     → AreLeft text start whole last → NextLeft next.line next.behind from last
 left_here laws text from next last whole left =
     let here = next.read.still_says whole last left in
     next_left laws next.rest next.line next.behind from last here.0 next.first here.1
 
-pub says_more : LineLaws → (text : List ℕ) (from to : Standing) (next : NextLine text from)
-    → ((said : Line) → SpellsLine (fields_of next.line) said → Follows from said → after from said ≡ to) → StillSays text next.behind to
+pub says_more : LineLaws → (text : List ℕ) (from to : ScenarioStanding) (next : NextLine text from)
+    → ((said : Line) → SpellsLine (fields_of next.line) said → MayStandNext from said → standing_after from said ≡ to) → StillSays text next.behind to
 says_more laws text from to next only = λ whole last left.
     let here = left_here laws text from next last whole left in
-    let leads = subst (λ (s : Standing). Leads s here.todo (ended last)) (only here.next here.spells here.follows) here.leads in
+    let leads = subst (λ (s : ScenarioStanding). LinesLead s here.todo (ended last)) (only here.next here.spells here.follows) here.leads in
     (here.todo, record { cut = here.cut; leads = leads })
 
 faulty_before : (behind : List (List ℕ)) (progress : Progress) (line : List ℕ) (fault : Fault) → 1 ≤ length behind
@@ -217,7 +217,7 @@ needs_line (Begun version) line = refl
 needs_line (Linked link) line = refl
 needs_line (Within draft) line = refl
 
-place_here : (text rest : List ℕ) (standing : Standing) (so_far : SoFar text rest standing)
+place_here : (text rest : List ℕ) (standing : ScenarioStanding) (so_far : SoFar text rest standing)
     → 1 + lines_before standing ≡ length (map line_text so_far.said) + 1
 place_here text rest standing so_far =
     omega (arith, leads_count start standing so_far.said so_far.leads, length-map so_far.said line_text)
@@ -251,19 +251,19 @@ fault_last text rest progress number so_far one count = record {
 }
 
 -- what is known of a line by what it did
-pub takes_as : (line : List ℕ) (old : Standing) (taken as_this : Taken) (new : Progress) → taken ≡ as_this → Takes old line taken new → Takes old line as_this new
+pub takes_as : (line : List ℕ) (old : ScenarioStanding) (taken as_this : Taken) (new : Progress) → taken ≡ as_this → Takes old line taken new → Takes old line as_this new
 takes_as line old taken as_this new same takes = subst (λ (t : Taken). Takes old line t new) same takes
 
-pub leads_as : (standing : Standing) (taken as_this : Taken) (new : Progress) → taken ≡ as_this → LeadsTo standing taken new → LeadsTo standing as_this new
+pub leads_as : (standing : ScenarioStanding) (taken as_this : Taken) (new : Progress) → taken ≡ as_this → LeadsTo standing taken new → LeadsTo standing as_this new
 leads_as standing taken as_this new same leads = subst (λ (t : Taken). LeadsTo standing t new) same leads
 
 -- ... where it is the end of a draft: all up to there is read
-pub end_read : (text : List ℕ) (from : Standing) (next : NextLine text from) (taken : Taken) (new : Progress) (draft : DraftValue) → taken ≡ TakenEnd
+pub end_read : (text : List ℕ) (from : ScenarioStanding) (next : NextLine text from) (taken : Taken) (new : Progress) (draft : DraftValue) → taken ≡ TakenEnd
     → new ≡ Within draft → Takes from next.line taken new → SoFar text next.behind (ended draft)
 end_read text from next taken new draft end is takes =
     read_more text from (ended draft) next (subst (λ (p : Progress). Takes from next.line TakenEnd p) is (takes_as next.line from taken TakenEnd new end takes))
 
-pub leads_end : (standing : Standing) (taken : Taken) (new : Progress) (draft : DraftValue) → taken ≡ TakenEnd → new ≡ Within draft
+pub leads_end : (standing : ScenarioStanding) (taken : Taken) (new : Progress) (draft : DraftValue) → taken ≡ TakenEnd → new ≡ Within draft
     → LeadsTo standing taken new → standing ≡ ended draft
 leads_end standing taken new draft end is leads =
     subst (λ (p : Progress). LeadsTo standing TakenEnd p) is (leads_as standing taken TakenEnd new end leads)
@@ -282,7 +282,7 @@ end_finishes text behind draft scenario read says nothing = record {
 record EndsBefore (text : List ℕ) (draft : DraftValue) (pieces : List (List ℕ)) : Type 0 where
   said : List Line
   cut : lines_of text ≡ map line_text said ++ pieces
-  leads : Leads start said (ended draft)
+  leads : LinesLead start said (ended draft)
 
 extra_at : (text : List ℕ) (number : ℕ) (draft : DraftValue) (pieces : List (List ℕ)) (ends : EndsBefore text draft pieces)
     → number ≡ length (map line_text ends.said) + 1 → pieces ≢ [] ∷ [] → 1 ≤ length pieces → IsFirstFault text number Extra
@@ -315,18 +315,18 @@ no_extra behind draft (scenario_faults.Line number fault) nothing extra = absurd
 no_extra behind draft scenario_faults.OutOfMemory nothing extra = refl
 
 -- where what is left ends here, it says this draft, and nothing stands behind
-pub end_said : LineLaws → (text : List ℕ) (from : Standing) (next : NextLine text from) (draft last : DraftValue) (whole : List Line)
-    → AreLeft text start whole last → ((said : Line) → SpellsLine (fields_of next.line) said → Follows from said → after from said ≡ ended draft)
+pub end_said : LineLaws → (text : List ℕ) (from : ScenarioStanding) (next : NextLine text from) (draft last : DraftValue) (whole : List Line)
+    → AreLeft text start whole last → ((said : Line) → SpellsLine (fields_of next.line) said → MayStandNext from said → standing_after from said ≡ ended draft)
     → (draft ≡ last) × (next.behind ≡ [])
 end_said laws text from next draft last whole left only =
     let here = left_here laws text from next last whole left in
-    let leads = subst (λ (s : Standing). Leads s here.todo (ended last)) (only here.next here.spells here.follows) here.leads in
+    let leads = subst (λ (s : ScenarioStanding). LinesLead s here.todo (ended last)) (only here.next here.spells here.follows) here.leads in
     let both = ended_left draft last here.todo leads in
     (both.0, nothing_left next.behind (here.cut ∙ ap (λ (list : List Line). map line_text list ++ [] ∷ []) both.1))
 
 -- where what is left says something, the next line is not faulty
-pub not_faulty : LineLaws → (text : List ℕ) (from : Standing) (next : NextLine text from) (last : DraftValue) (whole : List Line)
-    → AreLeft text start whole last → ((said : Line) → SpellsLine (fields_of next.line) said → Follows from said → ⊥) → ⊥
+pub not_faulty : LineLaws → (text : List ℕ) (from : ScenarioStanding) (next : NextLine text from) (last : DraftValue) (whole : List Line)
+    → AreLeft text start whole last → ((said : Line) → SpellsLine (fields_of next.line) said → MayStandNext from said → ⊥) → ⊥
 not_faulty laws text from next last whole left none =
     let here = left_here laws text from next last whole left in
     none here.next here.spells here.follows

@@ -7,10 +7,10 @@ use Rattle.scenario_lines.specs.declared.line.Line.TheVariants as lines
 use Rattle.scenario_lines.specs.declared.fault.LineFault.{LineFault}
 use Rattle.scenario_lines.specs.declared.fault.LineFault.TheVariants as line_faults
 use Rattle.scenario_lines.specs.Spelling.{line_text, keyword_of}
-use Rattle.scenario_lines.specs.LineFaults.{BeginsWith, SpellsLine}
+use Rattle.scenario_lines.specs.LineFaults.{BeginsWithKeyword, SpellsLine}
 use Rattle.scenario_text.specs.declared.fault.Fault.{Fault}
 use Rattle.scenario_text.specs.declared.fault.Fault.TheVariants.{Line as LineReason, Limit, Copies, Tag, Order, Twice}
-use Rattle.scenario_text.specs.Standing.{AgreesWith, Follows, HasRoom, IsOfVersion, MayCopy, MayStand, NamesTag, Standing, begun, ended, linked, start, within}
+use Rattle.scenario_text.specs.Standing.{AgreesWith, MayStandNext, HasRoomForLine, IsOfVersion, MayCopy, MayStand, NamesTag, ScenarioStanding, begun, ended, linked, start, within}
 use Rattle.scenario_text.specs.Draft.{DraftValue, tag_count}
 use Rattle.scenario_text.specs.AirLines.{ChoosesOnce, KeepsOrder}
 use Rattle.scenario_text.specs.laws.LineLaws.{LineLaws}
@@ -88,7 +88,7 @@ one_disagreement (twice is names keeps chosen) (no_tag is' none) = absurd (none 
 one_disagreement (twice is names keeps chosen) (no_order is' names' falls) = absurd (falls keeps)
 one_disagreement (twice is names keeps chosen) (twice is' names' keeps' chosen') = is ∙ sym is'
 
-one_disagreement_here : (standing : Standing) (line : Line) (fault reason : Fault) → DisagreesAt standing line fault → DisagreesAt standing line reason
+one_disagreement_here : (standing : ScenarioStanding) (line : Line) (fault reason : Fault) → DisagreesAt standing line fault → DisagreesAt standing line reason
     → fault ≡ reason
 one_disagreement_here start line fault reason one other = absurd one
 one_disagreement_here (begun version) line fault reason one other = absurd one
@@ -97,25 +97,25 @@ one_disagreement_here (within draft) line fault reason one other =
     one_disagreement (disagreement_of draft line fault one) (disagreement_of draft line reason other)
 one_disagreement_here (ended draft) line fault reason one other = absurd one
 
-one_disagreement_at : LineLaws → (standing : Standing) (fields : List (List ℕ)) (fault reason : Fault) → Disagrees standing fields fault
+one_disagreement_at : LineLaws → (standing : ScenarioStanding) (fields : List (List ℕ)) (fault reason : Fault) → Disagrees standing fields fault
     → Disagrees standing fields reason → fault ≡ reason
 one_disagreement_at laws standing fields fault reason one other =
     let line = laws.lines_are_told_apart fields one.line other.line one.spells other.spells in
     one_disagreement_here standing other.line fault reason (subst (λ (l : Line). DisagreesAt standing l fault) line one.disagrees) other.disagrees
 
 -- a line that disagrees has its place
-disagreement_place : (standing : Standing) (fields : List (List ℕ)) (fault : Fault) → Disagrees standing fields fault → HasPlace standing fields
+disagreement_place : (standing : ScenarioStanding) (fields : List (List ℕ)) (fault : Fault) → Disagrees standing fields fault → HasPlace standing fields
 disagreement_place standing fields fault disagrees =
     record { keyword = keyword_of disagrees.line; begins = spelled_begins fields disagrees.line disagrees.spells; stands = disagrees.stands; room = disagrees.room }
 
 -- the stage at which a line is refused
-data Stage (standing : Standing) (fields : List (List ℕ)) (fault : Fault) : Type 0 where
-  no_place : fault ≡ LineReason line_faults.Word → ((keyword : Keyword) → BeginsWith fields keyword → ¬ MayStand standing keyword) → Stage standing fields fault
+data Stage (standing : ScenarioStanding) (fields : List (List ℕ)) (fault : Fault) : Type 0 where
+  no_place : fault ≡ LineReason line_faults.Word → ((keyword : Keyword) → BeginsWithKeyword fields keyword → ¬ MayStand standing keyword) → Stage standing fields fault
   too_much : fault ≡ Limit → IsTooMuch standing fields → Stage standing fields fault
   nothing : (line_fault : LineFault) → fault ≡ LineReason line_fault → SaysNothing standing fields line_fault → Stage standing fields fault
   disagreeing : Disagrees standing fields fault → Stage standing fields fault
 
-stage_of : (standing : Standing) (fields : List (List ℕ)) (fault : Fault) → IsFaultyAt standing fields fault → Stage standing fields fault
+stage_of : (standing : ScenarioStanding) (fields : List (List ℕ)) (fault : Fault) → IsFaultyAt standing fields fault → Stage standing fields fault
 stage_of standing fields (LineReason line_faults.Word) faulty = no_place refl faulty
 stage_of standing fields (LineReason line_faults.Shape) faulty = nothing line_faults.Shape refl faulty
 stage_of standing fields (LineReason line_faults.Number) (inl says) = nothing line_faults.Number refl says
@@ -128,11 +128,11 @@ stage_of standing fields (LineReason line_faults.Pc) faulty = nothing line_fault
 stage_of standing fields Limit faulty = too_much refl faulty
 stage_of standing fields fault faulty = disagreeing faulty
 
-too_much_or_place : LineLaws → (standing : Standing) (fields : List (List ℕ)) → IsTooMuch standing fields → HasPlace standing fields → ⊥
+too_much_or_place : LineLaws → (standing : ScenarioStanding) (fields : List (List ℕ)) → IsTooMuch standing fields → HasPlace standing fields → ⊥
 too_much_or_place laws standing fields much place =
-    much.no_room (subst (HasRoom standing) (laws.lines_begin_with_one_keyword fields place.keyword much.keyword place.begins much.begins) place.room)
+    much.no_room (subst (HasRoomForLine standing) (laws.lines_begin_with_one_keyword fields place.keyword much.keyword place.begins much.begins) place.room)
 
-one_stage : LineLaws → (standing : Standing) (fields : List (List ℕ)) (fault reason : Fault) → Stage standing fields fault → Stage standing fields reason
+one_stage : LineLaws → (standing : ScenarioStanding) (fields : List (List ℕ)) (fault reason : Fault) → Stage standing fields fault → Stage standing fields reason
     → fault ≡ reason
 one_stage laws standing fields fault reason (no_place is none) (no_place is' none') = is ∙ sym is'
 one_stage laws standing fields fault reason (no_place is none) (too_much is' much) = absurd (none much.keyword much.begins much.stands)
@@ -159,13 +159,13 @@ one_stage laws standing fields fault reason (disagreeing disagrees) (nothing lin
 one_stage laws standing fields fault reason (disagreeing disagrees) (disagreeing disagrees') =
     one_disagreement_at laws standing fields fault reason disagrees disagrees'
 
-one_reason_at : LineLaws → (standing : Standing) (fields : List (List ℕ)) (fault reason : Fault) → IsFaultyAt standing fields fault
+one_reason_at : LineLaws → (standing : ScenarioStanding) (fields : List (List ℕ)) (fault reason : Fault) → IsFaultyAt standing fields fault
     → IsFaultyAt standing fields reason → fault ≡ reason
 one_reason_at laws standing fields fault reason faulty faulty' =
     one_stage laws standing fields fault reason (stage_of standing fields fault faulty) (stage_of standing fields reason faulty')
 
 -- the first reason is one
-pub one_reason : LineLaws → (behind : List (List ℕ)) (standing : Standing) (line : List ℕ) (fault reason : Fault) → IsFaultyBefore behind standing line fault
+pub one_reason : LineLaws → (behind : List (List ℕ)) (standing : ScenarioStanding) (line : List ℕ) (fault reason : Fault) → IsFaultyBefore behind standing line fault
     → IsFaultyBefore behind standing line reason → fault ≡ reason
 one_reason laws behind (ended draft) line fault reason faulty faulty' = faulty.0 ∙ sym faulty'.0
 one_reason laws [] start line fault reason faulty faulty' = faulty ∙ sym faulty'
@@ -177,13 +177,13 @@ one_reason laws (next ∷ more) (begun version) line fault reason faulty faulty'
 one_reason laws (next ∷ more) (linked link) line fault reason faulty faulty' = one_reason_at laws (linked link) (fields_of line) fault reason faulty faulty'
 one_reason laws (next ∷ more) (within draft) line fault reason faulty faulty' = one_reason_at laws (within draft) (fields_of line) fault reason faulty faulty'
 
-no_disagreement_at : LineLaws → (standing : Standing) (fields : List (List ℕ)) (line : Line) (fault : Fault) → Follows standing line → SpellsLine fields line
+no_disagreement_at : LineLaws → (standing : ScenarioStanding) (fields : List (List ℕ)) (line : Line) (fault : Fault) → MayStandNext standing line → SpellsLine fields line
     → Disagrees standing fields fault → ⊥
 no_disagreement_at laws standing fields line fault follows spells disagrees =
     let same = laws.lines_are_told_apart fields line disagrees.line spells disagrees.spells in
     no_disagreement_here standing disagrees.line fault (subst (λ (l : Line). AgreesWith standing l) same follows.agrees) disagrees.disagrees
 
-follows_at_no_stage : LineLaws → (standing : Standing) (fields : List (List ℕ)) (line : Line) (fault : Fault) → Follows standing line → SpellsLine fields line
+follows_at_no_stage : LineLaws → (standing : ScenarioStanding) (fields : List (List ℕ)) (line : Line) (fault : Fault) → MayStandNext standing line → SpellsLine fields line
     → Stage standing fields fault → ⊥
 follows_at_no_stage laws standing fields line fault follows spells (no_place is none) =
     none (keyword_of line) (spelled_begins fields line spells) follows.stands
@@ -196,7 +196,7 @@ follows_at_no_stage laws standing fields line fault follows spells (disagreeing 
     no_disagreement_at laws standing fields line fault follows spells disagrees
 
 -- where the text goes on, the line is not faulty
-pub not_faulty : LineLaws → (behind : List (List ℕ)) (standing : Standing) (line : List ℕ) (fault : Fault) → GoesOn standing line behind
+pub not_faulty : LineLaws → (behind : List (List ℕ)) (standing : ScenarioStanding) (line : List ℕ) (fault : Fault) → GoesOn standing line behind
     → IsFaultyBefore behind standing line fault → ⊥
 not_faulty laws behind (ended draft) line fault goes faulty = goes.follows.stands
 not_faulty laws [] start line fault goes faulty = goes.more refl

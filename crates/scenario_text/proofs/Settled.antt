@@ -33,7 +33,7 @@ use Rattle.scenario.specs.ScenarioText.{group_line, head_lines, only_lines, oper
 use Rattle.air_events.specs.Entries.{Rises, no_entry}
 use Rattle.scenario_text.specs.Draft.{draft_after, DraftValue, HeadValue, draft_with_group, draft_with_step, new_draft, scenario_of, tag_count}
 use Rattle.scenario_text.specs.AirLines.{ChoosesOnce, MayFollow, entries_of, last_entry, at_exchange, with_happening, with_said}
-use Rattle.scenario_text.specs.Standing.{Follows, Leads, NamesTag, Standing, after, begun, ended, first_head, linked, second_head, start, within}
+use Rattle.scenario_text.specs.Standing.{MayStandNext, LinesLead, NamesTag, ScenarioStanding, standing_after, begun, ended, first_head, linked, second_head, start, within}
 use Rattle.scenario_text.specs.StepLines.{steps_of, with_last}
 use Rattle.scenario_text.proofs.Counts.{tags_more}
 
@@ -44,7 +44,7 @@ draft_lines draft =
     ++ flat_map (step_lines draft.head.version) (steps_of draft.steps)
 
 -- the lines of what stands
-abbrev pub standing_lines : Standing → List Line
+abbrev pub standing_lines : ScenarioStanding → List Line
 standing_lines start = []
 standing_lines (begun version) = lines.Version version ∷ []
 standing_lines (linked link) = lines.Version Two ∷ lines.Link link ∷ []
@@ -77,7 +77,7 @@ pub record Keeps (draft : DraftValue) : Type 0 where
   pub count : length (air_lines (entries_of draft.air)) ≡ draft.air.count
   pub none : draft.air.count ≡ 0 → entries_of draft.air ≡ []
 
-abbrev pub StandingKeeps : Standing → Type 0
+abbrev pub StandingKeeps : ScenarioStanding → Type 0
 StandingKeeps start = Unit {0}
 StandingKeeps (begun version) = Unit {0}
 StandingKeeps (linked link) = IsLegalLink link
@@ -589,7 +589,7 @@ chooses_once draft number (happenings.Event event tag) once is = tt
 chooses_once draft number (happenings.Miss tag) once is = tt
 chooses_once draft number (happenings.Choice choice) once is = once is
 
-air_follows : (draft : DraftValue) (number : ℕ) (happening : Happening) → Follows (within draft) (lines.Air number happening) → AirFollows draft number happening
+air_follows : (draft : DraftValue) (number : ℕ) (happening : Happening) → MayStandNext (within draft) (lines.Air number happening) → AirFollows draft number happening
 air_follows draft number happening follows = record {
   no_steps = follows.stands;
   room = follows.room;
@@ -602,8 +602,8 @@ air_follows draft number happening follows = record {
 }
 
 -- what one line settles
-settles_one : (from : Standing) (line : Line) → StandingKeeps from → Follows from line
-    → (standing_lines (after from line) ≡ standing_lines from ++ line ∷ []) × StandingKeeps (after from line)
+settles_one : (from : ScenarioStanding) (line : Line) → StandingKeeps from → MayStandNext from line
+    → (standing_lines (standing_after from line) ≡ standing_lines from ++ line ∷ []) × StandingKeeps (standing_after from line)
 settles_one start (lines.Version version) keeps follows = (refl, tt)
 settles_one start line keeps follows = absurd follows.stands
 settles_one (begun One) (lines.Link link) keeps follows = (refl, new_draft_keeps (first_head link) follows.is.coherent refl)
@@ -654,13 +654,13 @@ settles_one (within draft) lines.End keeps follows = (refl, keeps)
 settles_one (ended draft) line keeps follows = absurd follows.stands
 
 -- what lines settle that follow one another
-pub settle : (from to : Standing) (said : List Line) → StandingKeeps from → Leads from said to
+pub settle : (from to : ScenarioStanding) (said : List Line) → StandingKeeps from → LinesLead from said to
     → (standing_lines to ≡ standing_lines from ++ said) × StandingKeeps to
 settle from to [] keeps leads =
     (ap standing_lines (sym leads) ∙ sym (append-nil (standing_lines from)), subst StandingKeeps leads keeps)
 settle from to (line ∷ said) keeps leads =
     let one = settles_one from line keeps leads.0 in
-    let others = settle (after from line) to said one.1 leads.1 in
+    let others = settle (standing_after from line) to said one.1 leads.1 in
     (others.0 ∙ ap (λ (list : List Line). list ++ said) one.0 ∙ append_assoc (standing_lines from) (line ∷ []) said, others.1)
 
 draft_is_scenario : (draft : DraftValue) → Keeps draft → IsScenario (scenario_of draft)
@@ -681,7 +681,7 @@ draft_is_scenario draft keeps =
     }
 
 -- lines that lead from the start to the end are those of a scenario that keeps the limits
-pub said_scenario : (draft : DraftValue) (said : List Line) → Leads start said (ended draft)
+pub said_scenario : (draft : DraftValue) (said : List Line) → LinesLead start said (ended draft)
     → (said ≡ scenario_lines (scenario_of draft)) × IsScenario (scenario_of draft)
 said_scenario draft said leads =
     let both = settle start (ended draft) said tt leads in

@@ -13,7 +13,7 @@ use Rattle.scenario_text.specs.declared.fault.Fault.{Fault}
 use Rattle.scenario_text.specs.declared.fault.Fault.TheVariants.{Extra, End, Version, Line as LineReason, Limit, Copies, Tag, Order, Twice}
 use Rattle.scenario.specs.ScenarioText.{IsText}
 use Rattle.scenario_text.specs.laws.LineLaws.{LineLaws}
-use Rattle.scenario_text.specs.Standing.{Agrees, Follows, HasRoom, Leads, MayStand, Standing, after, begun, ended, linked, start, within}
+use Rattle.scenario_text.specs.Standing.{Agrees, MayStandNext, HasRoomForLine, LinesLead, MayStand, ScenarioStanding, standing_after, begun, ended, linked, start, within}
 use Rattle.scenario_text.specs.Draft.{DraftValue, scenario_of, tag_count}
 use Rattle.scenario_text.specs.Faults.{DisagreesBy, HasPlace, IsFaultyAt, IsFaultyBefore, IsFirstFault, Settles}
 use Rattle.scenario_text.proofs.Decisions.{chooses_once_decided, has_room_decided, is_of_version_decided, keeps_order_decided, may_copy_decided, may_stand_decided, names_tag_decided, text_decided}
@@ -22,16 +22,16 @@ use Rattle.scenario_text.proofs.Settled.{said_scenario}
 use Rattle.scenario_text.proofs.Taken.{no_line, unfit, version_follows}
 use Rattle.scenario_lines.specs.LineBeginnings.{spelled_begins}
 use Rattle.scenario_text.proofs.Texts.{text_of_lines, text_spelled}
-use Rattle.text_fields.specs.laws.LineLaws.{some_line}
+use Rattle.text_fields.proofs.LineLaws.{some_line}
 
 -- the fields spell a line that may follow
-record GoesBy (standing : Standing) (fields : List (List ℕ)) : Type 0 where
+record GoesBy (standing : ScenarioStanding) (fields : List (List ℕ)) : Type 0 where
   line : Line
   spells : SpellsLine fields line
-  follows : Follows standing line
+  follows : MayStandNext standing line
 
 -- a line is one that may follow, or is faulty
-abbrev IsOneOf : Standing → List (List ℕ) → Type 0
+abbrev IsOneOf : ScenarioStanding → List (List ℕ) → Type 0
 IsOneOf standing fields = GoesBy standing fields ⊎ ((fault : Fault) × IsFaultyAt standing fields fault)
 
 -- what a line says that has its place agrees with the lines before it, or doesn't
@@ -53,8 +53,8 @@ agrees_or_not draft line = elim (is_of_version_decided draft.head.version line) 
   ]
 ]
 
-said_line : (standing : Standing) (fields : List (List ℕ)) (line : Line) → SpellsLine fields line → MayStand standing (keyword_of line)
-    → HasRoom standing (keyword_of line) → IsOneOf standing fields
+said_line : (standing : ScenarioStanding) (fields : List (List ℕ)) (line : Line) → SpellsLine fields line → MayStand standing (keyword_of line)
+    → HasRoomForLine standing (keyword_of line) → IsOneOf standing fields
 said_line start fields line spells stands room =
     inl (record { line = line; spells = spells; follows = record { is = spells.is; stands = stands; room = room; agrees = tt } })
 said_line (begun version) fields line spells stands room =
@@ -69,16 +69,16 @@ said_line (within draft) fields line spells stands room = elim (agrees_or_not dr
 ]
 
 -- a line that has its place
-placed : LineLaws → (standing : Standing) (fields : List (List ℕ)) → HasPlace standing fields → IsOneOf standing fields
+placed : LineLaws → (standing : ScenarioStanding) (fields : List (List ℕ)) → HasPlace standing fields → IsOneOf standing fields
 placed laws standing fields place = elim (laws.lines_say_something_or_are_faulty fields) [
   | inl said ↦
       let keyword = laws.lines_begin_with_one_keyword fields place.keyword (keyword_of said.0) place.begins (spelled_begins fields said.0 said.1) in
-      said_line standing fields said.0 said.1 (subst (MayStand standing) keyword place.stands) (subst (HasRoom standing) keyword place.room)
+      said_line standing fields said.0 said.1 (subst (MayStand standing) keyword place.stands) (subst (HasRoomForLine standing) keyword place.room)
   | inr faulty ↦ inr (LineReason faulty.0, no_line standing fields place faulty.0 faulty.1)
 ]
 
 -- a line is one that may follow, or is faulty for some reason
-one_of : LineLaws → (standing : Standing) (fields : List (List ℕ)) → IsOneOf standing fields
+one_of : LineLaws → (standing : ScenarioStanding) (fields : List (List ℕ)) → IsOneOf standing fields
 one_of laws standing fields = elim (laws.lines_begin_or_are_faulty fields) [
   | inr none ↦ inr (LineReason line_faults.Word, λ keyword begins. absurd (none keyword begins))
   | inl found ↦ elim (may_stand_decided standing found.0) [
@@ -96,13 +96,13 @@ one_of laws standing fields = elim (laws.lines_begin_or_are_faulty fields) [
 
 -- the lines are those of a scenario, or one of them is the first faulty one
 data Ends (texts : List (List ℕ)) : Type 0 where
-  whole : (said : List Line) (draft : DraftValue) → Leads start said (ended draft) → texts ≡ map line_text said ++ [] ∷ [] → Ends texts
-  faulty : (before : List (List ℕ)) (line : List ℕ) (behind : List (List ℕ)) (standing : Standing) (fault : Fault) → texts ≡ before ++ line ∷ behind
+  whole : (said : List Line) (draft : DraftValue) → LinesLead start said (ended draft) → texts ≡ map line_text said ++ [] ∷ [] → Ends texts
+  faulty : (before : List (List ℕ)) (line : List ℕ) (behind : List (List ℕ)) (standing : ScenarioStanding) (fault : Fault) → texts ≡ before ++ line ∷ behind
       → Settles before standing → IsFaultyBefore behind standing line fault → Ends texts
 
 -- the first faulty line is this one
-stops : (texts : List (List ℕ)) (said : List Line) (standing : Standing) (line : List ℕ) (behind : List (List ℕ)) (fault : Fault)
-    → texts ≡ map line_text said ++ line ∷ behind → Leads start said standing → IsFaultyBefore behind standing line fault → Ends texts
+stops : (texts : List (List ℕ)) (said : List Line) (standing : ScenarioStanding) (line : List ℕ) (behind : List (List ℕ)) (fault : Fault)
+    → texts ≡ map line_text said ++ line ∷ behind → LinesLead start said standing → IsFaultyBefore behind standing line fault → Ends texts
 stops texts said standing line behind fault cut leads is =
     faulty (map line_text said) line behind standing fault cut (record { said = said; spelling = refl; leads = leads }) is
 
@@ -115,7 +115,7 @@ further texts said next line behind cut is =
 
 -- behind the end
 at_end : (texts : List (List ℕ)) (said : List Line) (draft : DraftValue) (line : List ℕ) (behind : List (List ℕ))
-    → texts ≡ map line_text said ++ line ∷ behind → Leads start said (ended draft) → Ends texts
+    → texts ≡ map line_text said ++ line ∷ behind → LinesLead start said (ended draft) → Ends texts
 at_end texts said draft [] [] cut leads = whole said draft leads cut
 at_end texts said draft (byte ∷ line) behind cut leads = stops texts said (ended draft) (byte ∷ line) behind Extra cut leads (refl, λ same. cc)
 at_end texts said draft [] (next ∷ behind) cut leads = stops texts said (ended draft) [] (next ∷ behind) Extra cut leads (refl, λ same. cc)
@@ -136,8 +136,8 @@ version_or_not line = elim (text_decided line (line_text (lines.Version One))) [
   ]
 ]
 
-ends : LineLaws → (texts : List (List ℕ)) (said : List Line) (standing : Standing) (line : List ℕ) (behind : List (List ℕ))
-    → texts ≡ map line_text said ++ line ∷ behind → Leads start said standing → Ends texts
+ends : LineLaws → (texts : List (List ℕ)) (said : List Line) (standing : ScenarioStanding) (line : List ℕ) (behind : List (List ℕ))
+    → texts ≡ map line_text said ++ line ∷ behind → LinesLead start said standing → Ends texts
 ends laws texts said (ended draft) line behind cut leads = at_end texts said draft line behind cut leads
 ends laws texts said start line [] cut leads = stops texts said start line [] End cut leads refl
 ends laws texts said (begun version) line [] cut leads = stops texts said (begun version) line [] End cut leads refl
@@ -152,21 +152,21 @@ ends laws texts said start line (next ∷ behind) cut leads = elim (version_or_n
 ]
 ends laws texts said (begun version) line (next ∷ behind) cut leads = elim (one_of laws (begun version) (fields_of line)) [
   | inr reason ↦ stops texts said (begun version) line (next ∷ behind) reason.0 cut leads reason.1
-  | inl goes ↦ ends laws texts (said ++ goes.line ∷ []) (after (begun version) goes.line) next behind
+  | inl goes ↦ ends laws texts (said ++ goes.line ∷ []) (standing_after (begun version) goes.line) next behind
       (further texts said goes.line line (next ∷ behind) cut (text_spelled line goes.line goes.spells))
-      (leads_one start (begun version) (after (begun version) goes.line) said goes.line leads goes.follows refl)
+      (leads_one start (begun version) (standing_after (begun version) goes.line) said goes.line leads goes.follows refl)
 ]
 ends laws texts said (linked link) line (next ∷ behind) cut leads = elim (one_of laws (linked link) (fields_of line)) [
   | inr reason ↦ stops texts said (linked link) line (next ∷ behind) reason.0 cut leads reason.1
-  | inl goes ↦ ends laws texts (said ++ goes.line ∷ []) (after (linked link) goes.line) next behind
+  | inl goes ↦ ends laws texts (said ++ goes.line ∷ []) (standing_after (linked link) goes.line) next behind
       (further texts said goes.line line (next ∷ behind) cut (text_spelled line goes.line goes.spells))
-      (leads_one start (linked link) (after (linked link) goes.line) said goes.line leads goes.follows refl)
+      (leads_one start (linked link) (standing_after (linked link) goes.line) said goes.line leads goes.follows refl)
 ]
 ends laws texts said (within draft) line (next ∷ behind) cut leads = elim (one_of laws (within draft) (fields_of line)) [
   | inr reason ↦ stops texts said (within draft) line (next ∷ behind) reason.0 cut leads reason.1
-  | inl goes ↦ ends laws texts (said ++ goes.line ∷ []) (after (within draft) goes.line) next behind
+  | inl goes ↦ ends laws texts (said ++ goes.line ∷ []) (standing_after (within draft) goes.line) next behind
       (further texts said goes.line line (next ∷ behind) cut (text_spelled line goes.line goes.spells))
-      (leads_one start (within draft) (after (within draft) goes.line) said goes.line leads goes.follows refl)
+      (leads_one start (within draft) (standing_after (within draft) goes.line) said goes.line leads goes.follows refl)
 ]
 
 -- what the lines of a text say of it

@@ -35,7 +35,7 @@ use Rattle.scenario.specs.Limits.{IsDefault, IsEntry, IsGroup, IsOpList, IsScena
 use Rattle.air_events.specs.Entries.{Rises, no_entry}
 use Rattle.scenario_text.specs.AirLines.{ChoosesOnce, entries_of, last_entry, with_said}
 use Rattle.scenario_text.specs.Draft.{DraftValue, HeadValue, draft_with_step, new_draft, scenario_of, tag_count}
-use Rattle.scenario_text.specs.Standing.{Follows, IsSaid, Leads, Standing, after, begun, ended, linked, start, within}
+use Rattle.scenario_text.specs.Standing.{MayStandNext, IsSaid, LinesLead, ScenarioStanding, standing_after, begun, ended, linked, start, within}
 use Rattle.scenario_text.specs.StepLines.{steps_of}
 use Rattle.scenario_text.proofs.Counts.{tags_more}
 use Rattle.scenario_text.proofs.Leading.{leads_on}
@@ -61,8 +61,8 @@ record Fits (head : HeadValue) (before : List TagGroup) (group : TagGroup) : Typ
 -- the line of a group follows, and adds it
 abbrev Joins : HeadValue → List TagGroup → TagGroup → Type 0
 Joins head before group =
-    Follows (within (tags_draft head before)) (group_line group)
-    × (after (within (tags_draft head before)) (group_line group) ≡ within (tags_draft head (before ++ group ∷ [])))
+    MayStandNext (within (tags_draft head before)) (group_line group)
+    × (standing_after (within (tags_draft head before)) (group_line group) ≡ within (tags_draft head (before ++ group ∷ [])))
 
 -- the line of one tag
 join_one : (head : HeadValue) (before : List TagGroup) (tag : TagSpec) → Fits head before (record { count = 1; spec = tag })
@@ -85,7 +85,7 @@ join_several One link several before count tag some fits = absurd (omega (arith,
 join_several Two link several before count tag some fits =
     let head : HeadValue = record { version = Two; link = link; several = several } in
     let group : TagGroup = record { count = count; spec = tag } in
-    let follows : Follows (within (tags_draft head before)) (lines.Copies count tag) = record {
+    let follows : MayStandNext (within (tags_draft head before)) (lines.Copies count tag) = record {
       is = record { form = ((some, omega (arith, fits.few)), fits.is.tag.form); coherent = fits.is.tag.pc };
       stands = (refl, refl, refl);
       room = omega (arith, some, fits.few);
@@ -109,7 +109,7 @@ tags_first group todo = length-append (copies_of group) (tags_of todo) ∙ ap (�
 
 speak_groups : (head : HeadValue) (before todo : List TagGroup) → All (IsGroup head.version) todo
     → length (tags_of before) + length (tags_of todo) ≤ most_tags_of head.version
-    → Leads (within (tags_draft head before)) (map group_line todo) (within (tags_draft head (before ++ todo)))
+    → LinesLead (within (tags_draft head before)) (map group_line todo) (within (tags_draft head (before ++ todo)))
 speak_groups head before [] are few = ap (λ (groups : List TagGroup). within (tags_draft head groups)) (sym (append-nil before))
 speak_groups head before (group ∷ todo) are few =
     let is = All-head (IsGroup head.version) group todo are in
@@ -117,10 +117,10 @@ speak_groups head before (group ∷ todo) are few =
     let joins = join head before group.count group.spec (record { is = is; few = omega (arith, few, count) }) in
     let added = tags_more before (before ++ group ∷ []) group refl in
     let others = speak_groups head (before ++ group ∷ []) todo (All-tail (IsGroup head.version) group todo are) (omega (arith, few, count, added)) in
-    let rest : Leads (within (tags_draft head (before ++ group ∷ []))) (map group_line todo) (within (tags_draft head (before ++ group ∷ todo))) =
-    subst (λ (groups : List TagGroup). Leads (within (tags_draft head (before ++ group ∷ []))) (map group_line todo) (within (tags_draft head groups)))
+    let rest : LinesLead (within (tags_draft head (before ++ group ∷ []))) (map group_line todo) (within (tags_draft head (before ++ group ∷ todo))) =
+    subst (λ (groups : List TagGroup). LinesLead (within (tags_draft head (before ++ group ∷ []))) (map group_line todo) (within (tags_draft head groups)))
     (append_assoc before (group ∷ []) todo) others in
-    (joins.0, subst (λ (s : Standing). Leads s (map group_line todo) (within (tags_draft head (before ++ group ∷ todo)))) (sym joins.1) rest)
+    (joins.0, subst (λ (s : ScenarioStanding). LinesLead s (map group_line todo) (within (tags_draft head (before ++ group ∷ todo)))) (sym joins.1) rest)
 
 -- a draft to which so many lines on another exchange were added
 abbrev with_airs : DraftValue → ℕ → ℕ → Entry → DraftValue
@@ -140,23 +140,23 @@ same_exchange number = eq-eqb number number refl
 
 -- one line more on the exchange
 air_again : (draft : DraftValue) (number : ℕ) (entry : Entry) (added : ℕ) (happening : Happening)
-    → after (within (with_airs draft (draft.air.count + added) number entry)) (lines.Air number happening)
+    → standing_after (within (with_airs draft (draft.air.count + added) number entry)) (lines.Air number happening)
     ≡ within (saying (with_airs draft (draft.air.count + (added + 1)) number entry) happening)
 air_again draft number entry added happening =
     let count : draft.air.count + added + 1 ≡ draft.air.count + (added + 1) = omega arith in
     rw (same_exchange number) (ap (λ (airs : ℕ). within (saying (with_airs draft airs number entry) happening)) count)
 
 -- where lines lead, by another name
-leads_to : (from to to' : Standing) (said : List Line) → to ≡ to' → Leads from said to → Leads from said to'
-leads_to from to to' said same leads = subst (λ (s : Standing). Leads from said s) same leads
+leads_to : (from to to' : ScenarioStanding) (said : List Line) → to ≡ to' → LinesLead from said to → LinesLead from said to'
+leads_to from to to' said same leads = subst (λ (s : ScenarioStanding). LinesLead from said s) same leads
 
 -- one line on the exchange, and then others
-air_then : (draft : DraftValue) (number : ℕ) (entry : Entry) (added : ℕ) (happening : Happening) (said : List Line) (to : Standing)
-    → Follows (within (with_airs draft (draft.air.count + added) number entry)) (lines.Air number happening)
-    → Leads (within (saying (with_airs draft (draft.air.count + (added + 1)) number entry) happening)) said to
-    → Leads (within (with_airs draft (draft.air.count + added) number entry)) (lines.Air number happening ∷ said) to
+air_then : (draft : DraftValue) (number : ℕ) (entry : Entry) (added : ℕ) (happening : Happening) (said : List Line) (to : ScenarioStanding)
+    → MayStandNext (within (with_airs draft (draft.air.count + added) number entry)) (lines.Air number happening)
+    → LinesLead (within (saying (with_airs draft (draft.air.count + (added + 1)) number entry) happening)) said to
+    → LinesLead (within (with_airs draft (draft.air.count + added) number entry)) (lines.Air number happening ∷ said) to
 air_then draft number entry added happening said to follows leads =
-    (follows, subst (λ (s : Standing). Leads s said to) (sym (air_again draft number entry added happening)) leads)
+    (follows, subst (λ (s : ScenarioStanding). LinesLead s said to) (sym (air_again draft number entry added happening)) leads)
 
 -- lines on this exchange may stand behind the draft
 abbrev TakesAir : DraftValue → ℕ → Type 0
@@ -164,13 +164,13 @@ TakesAir draft number = (steps_of draft.steps ≡ []) × IsExchange number
 
 speak_events : (draft : DraftValue) (number : ℕ) (before todo : List (Event × ℕ)) (added : ℕ) → TakesAir draft number
     → All (λ (event : Event × ℕ). IsEvent event.0 event.1 × (event.1 < tag_count draft)) todo → draft.air.count + added + length todo ≤ most_air_lines
-    → Leads (within (on_exchange draft number before [] None added)) (map (λ (event : Event × ℕ). lines.Air number (happenings.Event event.0 event.1)) todo)
+    → LinesLead (within (on_exchange draft number before [] None added)) (map (λ (event : Event × ℕ). lines.Air number (happenings.Event event.0 event.1)) todo)
     (within (on_exchange draft number (before ++ todo) [] None (added + length todo)))
 speak_events draft number before [] added takes are few = rw (append-nil, add-zero) refl
 speak_events draft number before (event ∷ todo) added takes are few =
     let IsIt : Event × ℕ → Type 0 = λ event. IsEvent event.0 event.1 × (event.1 < tag_count draft) in
     let head = All-head IsIt event todo are in
-    let follows : Follows (within (on_exchange draft number before [] None added)) (lines.Air number (happenings.Event event.0 event.1)) = record {
+    let follows : MayStandNext (within (on_exchange draft number before [] None added)) (lines.Air number (happenings.Event event.0 event.1)) = record {
       is = record { form = (takes.1, head.0); coherent = tt };
       stands = takes.0;
       room = omega arith;
@@ -185,13 +185,13 @@ speak_events draft number before (event ∷ todo) added takes are few =
 
 speak_misses : (draft : DraftValue) (number : ℕ) (events : List (Event × ℕ)) (before todo : List ℕ) (added : ℕ) → TakesAir draft number
     → All (λ tag. IsPlace tag × (tag < tag_count draft)) todo → draft.air.count + added + length todo ≤ most_air_lines
-    → Leads (within (on_exchange draft number events before None added)) (map (λ tag. lines.Air number (happenings.Miss tag)) todo)
+    → LinesLead (within (on_exchange draft number events before None added)) (map (λ tag. lines.Air number (happenings.Miss tag)) todo)
     (within (on_exchange draft number events (before ++ todo) None (added + length todo)))
 speak_misses draft number events before [] added takes are few = rw (append-nil, add-zero) refl
 speak_misses draft number events before (tag ∷ todo) added takes are few =
     let IsIt : ℕ → Type 0 = λ tag. IsPlace tag × (tag < tag_count draft) in
     let head = All-head IsIt tag todo are in
-    let follows : Follows (within (on_exchange draft number events before None added)) (lines.Air number (happenings.Miss tag)) = record {
+    let follows : MayStandNext (within (on_exchange draft number events before None added)) (lines.Air number (happenings.Miss tag)) = record {
       is = record { form = (takes.1, head.0); coherent = tt };
       stands = takes.0;
       room = omega arith;
@@ -206,11 +206,11 @@ speak_misses draft number events before (tag ∷ todo) added takes are few =
 
 speak_choice : (draft : DraftValue) (number : ℕ) (events : List (Event × ℕ)) (missed : List ℕ) (choice : Option Choice) (added : ℕ) → TakesAir draft number
     → IfSome choice IsChoice → draft.air.count + added + length (choice_lines number choice) ≤ most_air_lines
-    → Leads (within (on_exchange draft number events missed None added)) (choice_lines number choice)
+    → LinesLead (within (on_exchange draft number events missed None added)) (choice_lines number choice)
     (within (on_exchange draft number events missed choice (added + length (choice_lines number choice))))
 speak_choice draft number events missed None added takes chosen few = rw add-zero refl
 speak_choice draft number events missed (Some choice) added takes chosen few =
-    let follows : Follows (within (on_exchange draft number events missed None added)) (lines.Air number (happenings.Choice choice)) = record {
+    let follows : MayStandNext (within (on_exchange draft number events missed None added)) (lines.Air number (happenings.Choice choice)) = record {
       is = record { form = (takes.1, chosen); coherent = tt };
       stands = takes.0;
       room = omega arith;
@@ -221,7 +221,7 @@ speak_choice draft number events missed (Some choice) added takes chosen few =
 -- what is said of one exchange
 speak_on_exchange : (draft : DraftValue) (entry : ℕ × Entry) → steps_of draft.steps ≡ [] → IsEntry (tag_count draft) entry
     → draft.air.count + length (entry_lines entry) ≤ most_air_lines
-    → Leads (within (on_exchange draft entry.0 [] [] None 0)) (entry_lines entry)
+    → LinesLead (within (on_exchange draft entry.0 [] [] None 0)) (entry_lines entry)
     (within (on_exchange draft entry.0 entry.1.events entry.1.missed entry.1.choice (length (entry_lines entry))))
 speak_on_exchange draft entry no_steps is few =
     let events = entry.1.events in
@@ -246,23 +246,23 @@ chooses_other draft number (happenings.Miss tag) differs = tt
 chooses_other draft number (happenings.Choice choice) differs = λ same. absurd (differs same)
 
 -- the first line on another exchange than the last one
-air_turns : (draft : DraftValue) (number : ℕ) (happening : Happening) (said : List Line) (to : Standing) → draft.air.exchange < number
-    → Leads (within (on_exchange draft number [] [] None 0)) (lines.Air number happening ∷ said) to → Leads (within draft) (lines.Air number happening ∷ said) to
+air_turns : (draft : DraftValue) (number : ℕ) (happening : Happening) (said : List Line) (to : ScenarioStanding) → draft.air.exchange < number
+    → LinesLead (within (on_exchange draft number [] [] None 0)) (lines.Air number happening ∷ said) to → LinesLead (within draft) (lines.Air number happening ∷ said) to
 air_turns draft number happening said to above leads =
     let old = leads.0 in
     let differs : number ≢ draft.air.exchange = λ same. omega (arith, same) in
     let other : (number == draft.air.exchange) ≡ false = ne_eqb number draft.air.exchange differs in
-    let follows : Follows (within draft) (lines.Air number happening) = record {
+    let follows : MayStandNext (within draft) (lines.Air number happening) = record {
       is = old.is;
       stands = old.stands;
       room = omega (arith, old.room);
       agrees = record { version = old.agrees.version; copies = old.agrees.copies; names = old.agrees.names; order = (omega arith, λ same. absurd (differs same)); once = chooses_other draft number happening differs };
     } in
     let counted : draft.air.count + 1 ≡ draft.air.count + (0 + 1) = omega arith in
-    let same : after (within draft) (lines.Air number happening) ≡ after (within (on_exchange draft number [] [] None 0)) (lines.Air number happening) =
+    let same : standing_after (within draft) (lines.Air number happening) ≡ standing_after (within (on_exchange draft number [] [] None 0)) (lines.Air number happening) =
     rw other (ap (λ (airs : ℕ). within (saying (with_airs draft airs number no_entry) happening)) counted)
     ∙ sym (air_again draft number no_entry 0 happening) in
-    (follows, subst (λ (s : Standing). Leads s said to) (sym same) leads.1)
+    (follows, subst (λ (s : ScenarioStanding). LinesLead s said to) (sym same) leads.1)
 
 -- what is said of an exchange begins with some line on it
 first_line : (number : ℕ) (events : List (Event × ℕ)) (missed : List ℕ) (choice : Option Choice)
@@ -278,15 +278,15 @@ first_line number [] [] None (inr (inr some)) = absurd (some refl)
 
 speak_entry : (draft : DraftValue) (entry : ℕ × Entry) → steps_of draft.steps ≡ [] → IsEntry (tag_count draft) entry → draft.air.exchange < entry.0
     → draft.air.count + length (entry_lines entry) ≤ most_air_lines
-    → Leads (within draft) (entry_lines entry)
+    → LinesLead (within draft) (entry_lines entry)
     (within (on_exchange draft entry.0 entry.1.events entry.1.missed entry.1.choice (length (entry_lines entry))))
 speak_entry draft entry no_steps is above few =
     let to = within (on_exchange draft entry.0 entry.1.events entry.1.missed entry.1.choice (length (entry_lines entry))) in
     let first = first_line entry.0 entry.1.events entry.1.missed entry.1.choice is.something in
-    let leads : Leads (within (on_exchange draft entry.0 [] [] None 0)) (lines.Air entry.0 first.0 ∷ first.1) to =
-    subst (λ (said : List Line). Leads (within (on_exchange draft entry.0 [] [] None 0)) said to) first.2
+    let leads : LinesLead (within (on_exchange draft entry.0 [] [] None 0)) (lines.Air entry.0 first.0 ∷ first.1) to =
+    subst (λ (said : List Line). LinesLead (within (on_exchange draft entry.0 [] [] None 0)) said to) first.2
     (speak_on_exchange draft entry no_steps is few) in
-    subst (λ (said : List Line). Leads (within draft) said to) (sym first.2) (air_turns draft entry.0 first.0 first.1 to above leads)
+    subst (λ (said : List Line). LinesLead (within draft) said to) (sym first.2) (air_turns draft entry.0 first.0 first.1 to above leads)
 
 last_entry_one : (number : ℕ) (entry : Entry) → 0 < number → last_entry number entry ≡ (number, entry) ∷ []
 last_entry_one zero entry some = absurd (omega arith)
@@ -295,7 +295,7 @@ last_entry_one (suc before) entry some = refl
 -- a draft to which these entries were added
 record SpokenEntries (draft : DraftValue) (todo : List (ℕ × Entry)) : Type 0 where
   to : DraftValue
-  leads : Leads (within draft) (air_lines todo) (within to)
+  leads : LinesLead (within draft) (air_lines todo) (within to)
   head : to.head ≡ draft.head
   groups : to.groups ≡ draft.groups
   no_steps : steps_of to.steps ≡ []
@@ -332,7 +332,7 @@ speak_entries draft (entry ∷ todo) no_steps are rising few =
 -- a draft to which these steps were added
 record SpokenSteps (draft : DraftValue) (todo : List Step) : Type 0 where
   to : DraftValue
-  leads : Leads (within draft) (flat_map (step_lines draft.head.version) todo) (within to)
+  leads : LinesLead (within draft) (flat_map (step_lines draft.head.version) todo) (within to)
   head : to.head ≡ draft.head
   groups : to.groups ≡ draft.groups
   entries : entries_of to.air ≡ entries_of draft.air
@@ -344,10 +344,10 @@ on_round draft spec only ops =
     record draft { steps = record { closed = steps_of draft.steps; round = Some spec; operations = record { only = only; ops = ops } } }
 
 speak_only : (draft : DraftValue) (spec : SpecValue) (only : Option (List ℕ)) → IfSome only IsEpc
-    → Leads (within (on_round draft spec None [])) (only_lines only) (within (on_round draft spec only []))
+    → LinesLead (within (on_round draft spec None [])) (only_lines only) (within (on_round draft spec only []))
 speak_only draft spec None is = refl
 speak_only draft spec (Some epc) is =
-    let follows : Follows (within (on_round draft spec None [])) (lines.Only epc) = record {
+    let follows : MayStandNext (within (on_round draft spec None [])) (lines.Only epc) = record {
       is = record { form = is; coherent = tt };
       stands = record { round = λ none. cc; only = refl; ops = refl };
       room = tt;
@@ -357,10 +357,10 @@ speak_only draft spec (Some epc) is =
 
 speak_ops : (draft : DraftValue) (spec : SpecValue) (only : Option (List ℕ)) (before todo : List Op) → All IsLegalOp todo
     → length before + length todo ≤ most_ops
-    → Leads (within (on_round draft spec only before)) (map lines.Op todo) (within (on_round draft spec only (before ++ todo)))
+    → LinesLead (within (on_round draft spec only before)) (map lines.Op todo) (within (on_round draft spec only (before ++ todo)))
 speak_ops draft spec only before [] are few = rw append-nil refl
 speak_ops draft spec only before (op ∷ todo) are few =
-    let follows : Follows (within (on_round draft spec only before)) (lines.Op op) = record {
+    let follows : MayStandNext (within (on_round draft spec only before)) (lines.Op op) = record {
       is = record { form = All-head IsLegalOp op todo are; coherent = tt };
       stands = λ none. cc;
       room = omega (arith, few);
@@ -368,7 +368,7 @@ speak_ops draft spec only before (op ∷ todo) are few =
     } in
     let others = speak_ops draft spec only (before ++ op ∷ []) todo (All-tail IsLegalOp op todo are) (omega (arith, few, length-append before (op ∷ []))) in (
       follows,
-      subst (λ (ops : List Op). Leads (within (on_round draft spec only (before ++ op ∷ []))) (map lines.Op todo) (within (on_round draft spec only ops)))
+      subst (λ (ops : List Op). LinesLead (within (on_round draft spec only (before ++ op ∷ []))) (map lines.Op todo) (within (on_round draft spec only ops)))
           (append_assoc before (op ∷ []) todo) others,
     )
 
@@ -380,7 +380,7 @@ speak_round draft spec operations is are room =
     let ops = operations.ops in
     let to = on_round draft spec only ops in
     let version = draft.head.version in
-    let follows : Follows (within draft) (lines.Round version spec) = record {
+    let follows : MayStandNext (within draft) (lines.Round version spec) = record {
       is = record { form = is; coherent = tt };
       stands = tt;
       room = room;
@@ -388,10 +388,10 @@ speak_round draft spec operations is are room =
     } in
     let body = leads_on (within (on_round draft spec None [])) (within (on_round draft spec only [])) (within to) (only_lines only) (map lines.Op ops)
     (speak_only draft spec only are.only) (speak_ops draft spec only [] ops are.ops (omega (arith, are.few))) in
-    let leads : Leads (within draft) (lines.Round version spec ∷ operation_lines operations) (within to) = (follows, body) in
+    let leads : LinesLead (within draft) (lines.Round version spec ∷ operation_lines operations) (within to) = (follows, body) in
     record {
       to = to;
-      leads = subst (λ (said : List Line). Leads (within draft) said (within to)) (sym (append-nil (lines.Round version spec ∷ operation_lines operations))) leads;
+      leads = subst (λ (said : List Line). LinesLead (within draft) said (within to)) (sym (append-nil (lines.Round version spec ∷ operation_lines operations))) leads;
       head = refl;
       groups = refl;
       entries = refl;
@@ -399,11 +399,11 @@ speak_round draft spec operations is are room =
     }
 
 -- a step that is no round
-speak_plain : (draft : DraftValue) (step : Step) (line : Line) → step_lines draft.head.version step ≡ line ∷ [] → Follows (within draft) line
-    → after (within draft) line ≡ within (draft_with_step draft step) → SpokenSteps draft (step ∷ [])
+speak_plain : (draft : DraftValue) (step : Step) (line : Line) → step_lines draft.head.version step ≡ line ∷ [] → MayStandNext (within draft) line
+    → standing_after (within draft) line ≡ within (draft_with_step draft step) → SpokenSteps draft (step ∷ [])
 speak_plain draft step line one follows leads = record {
   to = draft_with_step draft step;
-  leads = subst (λ (said : List Line). Leads (within draft) said (within (draft_with_step draft step))) (sym (append-nil (step_lines draft.head.version step) ∙ one))
+  leads = subst (λ (said : List Line). LinesLead (within draft) said (within (draft_with_step draft step))) (sym (append-nil (step_lines draft.head.version step) ∙ one))
       (follows, leads);
   head = refl;
   groups = refl;
@@ -459,10 +459,10 @@ speak_steps draft (step ∷ todo) are few =
     let tail = steps_stand draft one.to todo one.head one.groups (All-tail IsIt step todo are) in
     let count = ap length one.steps ∙ length-append (steps_of draft.steps) (step ∷ []) in
     let others = speak_steps one.to todo tail (omega (arith, few, count)) in
-    let first : Leads (within draft) (step_lines version step) (within one.to) =
-    subst (λ (said : List Line). Leads (within draft) said (within one.to)) (append-nil (step_lines version step)) one.leads in
-    let rest : Leads (within one.to) (flat_map (step_lines version) todo) (within others.to) =
-    subst (λ (head : HeadValue). Leads (within one.to) (flat_map (step_lines head.version) todo) (within others.to)) one.head others.leads in
+    let first : LinesLead (within draft) (step_lines version step) (within one.to) =
+    subst (λ (said : List Line). LinesLead (within draft) said (within one.to)) (append-nil (step_lines version step)) one.leads in
+    let rest : LinesLead (within one.to) (flat_map (step_lines version) todo) (within others.to) =
+    subst (λ (head : HeadValue). LinesLead (within one.to) (flat_map (step_lines head.version) todo) (within others.to)) one.head others.leads in
     record {
       to = others.to;
       leads = leads_on (within draft) (within one.to) (within others.to) (step_lines version step) (flat_map (step_lines version) todo) first rest;
@@ -474,19 +474,19 @@ speak_steps draft (step ∷ todo) are few =
 
 -- the lines that stand before all others
 speak_head : (version : Version) (link : LinkValue) (several : Several) → IsLegalLink link → IsDefault version several
-    → Leads start (head_lines version link several) (within (new_draft (record { version = version; link = link; several = several })))
+    → LinesLead start (head_lines version link several) (within (new_draft (record { version = version; link = link; several = several })))
 speak_head One link several legal is =
-    let first : Follows start (lines.Version One) =
+    let first : MayStandNext start (lines.Version One) =
     record { is = record { form = tt; coherent = tt }; stands = tt; room = tt; agrees = tt } in
-    let second : Follows (begun One) (lines.Link link) =
+    let second : MayStandNext (begun One) (lines.Link link) =
     record { is = record { form = legal_form link legal; coherent = legal }; stands = tt; room = tt; agrees = tt } in
     (first, (second, ap (λ (default : Several). within (new_draft (record { version = One; link = link; several = default }))) (sym is)))
 speak_head Two link several legal is =
-    let first : Follows start (lines.Version Two) =
+    let first : MayStandNext start (lines.Version Two) =
     record { is = record { form = tt; coherent = tt }; stands = tt; room = tt; agrees = tt } in
-    let second : Follows (begun Two) (lines.Link link) =
+    let second : MayStandNext (begun Two) (lines.Link link) =
     record { is = record { form = legal_form link legal; coherent = legal }; stands = tt; room = tt; agrees = tt } in
-    let third : Follows (linked link) (lines.Default several) =
+    let third : MayStandNext (linked link) (lines.Default several) =
     record { is = record { form = tt; coherent = tt }; stands = tt; room = tt; agrees = tt } in
     (first, (second, (third, refl)))
 
@@ -507,9 +507,9 @@ scenario_is_said scenario is =
     let kept = steps_stand (tags_draft head groups) second.to scenario.steps second.head second.groups is.steps in
     let third = speak_steps second.to scenario.steps kept (omega (arith, is.few_steps, ap length second.no_steps)) in
     let said = flat_map (step_lines scenario.version) scenario.steps in
-    let steps : Leads (within second.to) said (within third.to) =
-    subst (λ (it : HeadValue). Leads (within second.to) (flat_map (step_lines it.version) scenario.steps) (within third.to)) second.head third.leads in
-    let last : Follows (within third.to) lines.End =
+    let steps : LinesLead (within second.to) said (within third.to) =
+    subst (λ (it : HeadValue). LinesLead (within second.to) (flat_map (step_lines it.version) scenario.steps) (within third.to)) second.head third.leads in
+    let last : MayStandNext (within third.to) lines.End =
     record { is = record { form = tt; coherent = tt }; stands = tt; room = tt; agrees = record { version = tt; copies = tt; names = tt; order = tt; once = tt } } in
     let body = leads_on start (within (tags_draft head groups)) (within second.to) (front ++ map group_line groups) (air_lines scenario.entries)
     (leads_on start (within (tags_draft head [])) (within (tags_draft head groups)) front (map group_line groups) opened first)

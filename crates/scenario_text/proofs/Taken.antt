@@ -10,14 +10,14 @@ use Rattle.scenario_lines.specs.declared.fault.LineFault.TheVariants as line_fau
 use Rattle.scenario_text.specs.declared.fault.Fault.{Fault}
 use Rattle.scenario_text.specs.declared.fault.Fault.TheVariants.{Extra, End, Version, Line as LineReason, Limit, Copies, Tag, Order, Twice}
 use Rattle.scenario_text.specs.Draft.{DraftValue}
-use Rattle.scenario_text.specs.Standing.{Agrees, AgreesWith, HasRoom, MayStand, Follows, Standing, begun, ended, linked, start, within}
+use Rattle.scenario_text.specs.Standing.{Agrees, AgreesWith, HasRoomForLine, MayStand, MayStandNext, ScenarioStanding, begun, ended, linked, start, within}
 use Rattle.scenario_text.specs.Faults.{DisagreesAt, DisagreesBy, HasPlace, IsFaultyAt, IsFaultyHere}
 use Rattle.scenario_text.proofs.Texts.{text_spelled}
 use Rattle.text_fields.specs.Lines.{fields_of}
 use Rattle.scenario_lines.specs.Spelling.{line_text, keyword_of}
 
 -- a line that has its place, and says nothing
-pub no_line : (standing : Standing) (fields : List (List ℕ)) → HasPlace standing fields → (reason : LineFault) → IsFaultyLine fields reason
+pub no_line : (standing : ScenarioStanding) (fields : List (List ℕ)) → HasPlace standing fields → (reason : LineFault) → IsFaultyLine fields reason
     → IsFaultyAt standing fields (LineReason reason)
 no_line standing fields place line_faults.Word faulty = λ keyword begins. absurd (faulty keyword begins)
 no_line standing fields place line_faults.Shape faulty = record { place = place; faulty = faulty }
@@ -29,7 +29,7 @@ no_line standing fields place line_faults.Pw faulty = record { place = place; fa
 no_line standing fields place line_faults.Pc faulty = record { place = place; faulty = faulty }
 
 -- the only reason of a line alone for which a line may disagree is its number
-no_line_reason : (standing : Standing) (said : Line) (reason : LineFault) → reason ≢ line_faults.Number → DisagreesAt standing said (LineReason reason) → ⊥
+no_line_reason : (standing : ScenarioStanding) (said : Line) (reason : LineFault) → reason ≢ line_faults.Number → DisagreesAt standing said (LineReason reason) → ⊥
 no_line_reason start said reason other by = by
 no_line_reason (begun version) said reason other by = by
 no_line_reason (linked link) said reason other by = by
@@ -43,7 +43,7 @@ no_line_reason (within draft) said line_faults.Pw other by = by
 no_line_reason (within draft) said line_faults.Pc other by = by
 no_line_reason (ended draft) said reason other by = by
 
-no_limit : (standing : Standing) (said : Line) → DisagreesAt standing said Limit → ⊥
+no_limit : (standing : ScenarioStanding) (said : Line) → DisagreesAt standing said Limit → ⊥
 no_limit start said by = by
 no_limit (begun version) said by = by
 no_limit (linked link) said by = by
@@ -51,8 +51,8 @@ no_limit (within draft) said by = by
 no_limit (ended draft) said by = by
 
 -- a line that has its place and says something, which disagrees with the lines before it
-pub unfit : (standing : Standing) (fields : List (List ℕ)) (said : Line) → SpellsLine fields said → MayStand standing (keyword_of said)
-    → HasRoom standing (keyword_of said) → (fault : Fault) → DisagreesAt standing said fault → IsFaultyAt standing fields fault
+pub unfit : (standing : ScenarioStanding) (fields : List (List ℕ)) (said : Line) → SpellsLine fields said → MayStand standing (keyword_of said)
+    → HasRoomForLine standing (keyword_of said) → (fault : Fault) → DisagreesAt standing said fault → IsFaultyAt standing fields fault
 unfit standing fields said spells stands room (LineReason line_faults.Word) by =
     absurd (no_line_reason standing said line_faults.Word (λ same. cc) by)
 unfit standing fields said spells stands room (LineReason line_faults.Shape) by =
@@ -93,7 +93,7 @@ no_disagreement draft said Twice agrees disagrees = disagrees.2 agrees.once
 no_disagreement draft said fault agrees disagrees = absurd disagrees
 
 -- a line that may follow doesn't disagree with the lines before it
-pub no_disagreement_here : (standing : Standing) (line : Line) (fault : Fault) → AgreesWith standing line → DisagreesAt standing line fault → ⊥
+pub no_disagreement_here : (standing : ScenarioStanding) (line : Line) (fault : Fault) → AgreesWith standing line → DisagreesAt standing line fault → ⊥
 no_disagreement_here start line fault agrees disagrees = disagrees
 no_disagreement_here (begun version) line fault agrees disagrees = disagrees
 no_disagreement_here (linked link) line fault agrees disagrees = disagrees
@@ -105,11 +105,11 @@ pub version_alone : (said : Line) → MayStand start (keyword_of said) → (vers
 version_alone (lines.Version version) stands = (version, refl)
 version_alone line stands = absurd stands
 
-pub version_follows : (version : TextVersion) → Follows start (lines.Version version)
+pub version_follows : (version : TextVersion) → MayStandNext start (lines.Version version)
 version_follows version = record { is = record { form = tt; coherent = tt }; stands = tt; room = tt; agrees = tt }
 
 -- a first line that spells what may stand there is the text of a version
-pub first_is_version : (line : List ℕ) (said : Line) → SpellsLine (fields_of line) said → Follows start said
+pub first_is_version : (line : List ℕ) (said : Line) → SpellsLine (fields_of line) said → MayStandNext start said
     → (version : TextVersion) × (said ≡ lines.Version version) × (line ≡ line_text (lines.Version version))
 first_is_version line said spells follows =
     let version = version_alone said follows.stands in
@@ -117,6 +117,6 @@ first_is_version line said spells follows =
 
 -- where the first line is faulty, it spells nothing that may stand there
 pub first_not_read : {A : Type 0} (line : List ℕ) (said : Line) (fault : Fault) → IsFaultyHere start line fault → SpellsLine (fields_of line) said
-    → Follows start said → A
+    → MayStandNext start said → A
 first_not_read line said fault faulty spells follows =
     let first = first_is_version line said spells follows in absurd (faulty.1 first.0 first.2)

@@ -5,13 +5,13 @@ use Rattle.std.specs.List.{join_with_byte}
 use Rattle.std.proofs.lemmas.List.Elements.{All-append, All-cons, All-head, All-nil, All-tail, All-weaker}
 use Rattle.std.proofs.lemmas.List.Splits.{join_with_byte-slice_split}
 use Rattle.text_fields.specs.Lines.{IsFieldText, Lacks, fields_of, line_feed, line_with, lines_of, space, text_with}
-use Rattle.text_fields.specs.laws.LineLaws.{fields_come_back, lines_come_back}
+use Rattle.text_fields.proofs.LineLaws.{fields_come_back, lines_come_back}
 use Rattle.scenario_lines.specs.declared.line.Line.{Line}
 use Rattle.scenario_lines.specs.LineForm.{IsLine}
 use Rattle.scenario_lines.specs.Spelling.{line_fields, line_text}
 use Rattle.scenario_lines.specs.LineFaults.{SpellsLine}
 use Rattle.scenario_text.specs.laws.LineLaws.{LineLaws}
-use Rattle.scenario_text.specs.Standing.{Leads, Standing, after}
+use Rattle.scenario_text.specs.Standing.{LinesLead, ScenarioStanding, standing_after}
 
 -- the fields of a line that is spelled
 pub fields_spelled : LineLaws → (said : Line) → IsLine said → fields_of (line_text said) ≡ line_fields said
@@ -39,13 +39,13 @@ line_lacks laws said is =
     join_lacks (line_fields said)
     (All-weaker IsFieldText (Lacks line_feed) (λ field text. text.no_line_feed) (line_fields said) (laws.lines_are_field_texts said is))
 
-leads_lack : LineLaws → (from to : Standing) (said : List Line) → Leads from said to → All (Lacks line_feed) (map line_text said)
+leads_lack : LineLaws → (from to : ScenarioStanding) (said : List Line) → LinesLead from said to → All (Lacks line_feed) (map line_text said)
 leads_lack laws from to [] leads = All-nil (Lacks line_feed)
 leads_lack laws from to (line ∷ said) leads =
-    All-cons (Lacks line_feed) (line_text line) (map line_text said) (line_lacks laws line leads.0.is) (leads_lack laws (after from line) to said leads.1)
+    All-cons (Lacks line_feed) (line_text line) (map line_text said) (line_lacks laws line leads.0.is) (leads_lack laws (standing_after from line) to said leads.1)
 
 -- the lines of a text of lines that follow one another
-pub lines_said : LineLaws → (from to : Standing) (said : List Line) → Leads from said to
+pub lines_said : LineLaws → (from to : ScenarioStanding) (said : List Line) → LinesLead from said to
     → lines_of (text_with (map line_text said)) ≡ map line_text said ++ [] ∷ []
 lines_said laws from to said leads = lines_come_back (map line_text said) (leads_lack laws from to said leads)
 

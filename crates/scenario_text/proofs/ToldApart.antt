@@ -10,7 +10,7 @@ use Rattle.scenario.specs.ScenarioText.{scenario_lines, scenario_text}
 use Rattle.scenario.specs.Limits.{IsScenario}
 use Rattle.scenario_text.specs.laws.LineLaws.{LineLaws}
 use Rattle.scenario_text.specs.Draft.{DraftValue, scenario_of}
-use Rattle.scenario_text.specs.Standing.{Leads, Standing, after, ended, start}
+use Rattle.scenario_text.specs.Standing.{LinesLead, ScenarioStanding, standing_after, ended, start}
 use Rattle.scenario_text.proofs.Spoken.{scenario_is_said}
 use Rattle.scenario_text.proofs.Texts.{lines_said, spells_text}
 
@@ -22,9 +22,9 @@ line_told laws one other is is' same =
 
 -- lines that follow one another from somewhere
 record Follow (said : List Line) : Type 0 where
-  from : Standing
-  to : Standing
-  leads : Leads from said to
+  from : ScenarioStanding
+  to : ScenarioStanding
+  leads : LinesLead from said to
 
 -- they are told apart by their texts
 said_told : LineLaws → (said said' : List Line) → Follow said → Follow said' → map line_text said ≡ map line_text said' → said ≡ said'
@@ -35,14 +35,14 @@ said_told laws (line ∷ said) (line' ∷ others) one other same =
     let text : line_text line ≡ line_text line' = cc in
     let texts : map line_text said ≡ map line_text others = cc in
     let first = line_told laws line line' one.leads.0.is other.leads.0.is text in
-    let rest = said_told laws said others (record { from = after one.from line; to = one.to; leads = one.leads.1 })
-    (record { from = after other.from line'; to = other.to; leads = other.leads.1 }) texts in
+    let rest = said_told laws said others (record { from = standing_after one.from line; to = one.to; leads = one.leads.1 })
+    (record { from = standing_after other.from line'; to = other.to; leads = other.leads.1 }) texts in
     cc
 
 -- lines lead to one standing
-one_standing : (from to to' : Standing) (said : List Line) → Leads from said to → Leads from said to' → to ≡ to'
+one_standing : (from to to' : ScenarioStanding) (said : List Line) → LinesLead from said to → LinesLead from said to' → to ≡ to'
 one_standing from to to' [] leads leads' = sym leads ∙ leads'
-one_standing from to to' (line ∷ said) leads leads' = one_standing (after from line) to to' said leads.1 leads'.1
+one_standing from to to' (line ∷ said) leads leads' = one_standing (standing_after from line) to to' said leads.1 leads'.1
 
 same_draft : {draft other : DraftValue} → ended draft ≡ ended other → draft ≡ other
 same_draft same = cc
@@ -59,6 +59,6 @@ scenario_told laws one other is is' same =
     (sym (lines_said laws start (ended first.draft) lines first.leads) ∙ ap lines_of same ∙ lines_said laws start (ended second.draft) others second.leads) in
     let said = said_told laws lines others (record { from = start; to = ended first.draft; leads = first.leads })
     (record { from = start; to = ended second.draft; leads = second.leads }) texts in
-    let leads = subst (λ (list : List Line). Leads start list (ended first.draft)) said first.leads in
+    let leads = subst (λ (list : List Line). LinesLead start list (ended first.draft)) said first.leads in
     let draft = same_draft (one_standing start (ended first.draft) (ended second.draft) others leads second.leads) in
     sym first.says ∙ ap scenario_of draft ∙ second.says

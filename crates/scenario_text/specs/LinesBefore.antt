@@ -114,14 +114,14 @@ pub record MayStandBehind (before : List Line) (keyword : Keyword) : Type 0 wher
   pub order : ComesInOrder before keyword
 
 -- of one exchange events come first, then misses, and the choice last
-abbrev pub turn_of : Happening → ℕ
-turn_of (happenings.Event event tag) = 0
-turn_of (happenings.Miss tag) = 1
-turn_of (happenings.Choice choice) = 2
+abbrev pub happening_turn : Happening → ℕ
+happening_turn (happenings.Event event tag) = 0
+happening_turn (happenings.Miss tag) = 1
+happening_turn (happenings.Choice choice) = 2
 
 -- an earlier air line is of no later exchange, and what it says of the same exchange comes no later
 abbrev pub ComesBefore : ℕ → Happening → Line → Type 0
-ComesBefore exchange happening (lines.Air other said) = (other ≤ exchange) × (other ≡ exchange → turn_of said ≤ turn_of happening)
+ComesBefore exchange happening (lines.Air other said) = (other ≤ exchange) × (other ≡ exchange → happening_turn said ≤ happening_turn happening)
 ComesBefore exchange happening line = Unit {0}
 
 -- an earlier line is no choice for the exchange

@@ -8,12 +8,12 @@ use Rattle.scenario_text.specs.declared.fault.Fault.TheVariants.{Extra}
 use Rattle.scenario_text.specs.declared.fault.ScenarioFault.{ScenarioFault}
 use Rattle.scenario_text.specs.declared.fault.ScenarioFault.TheVariants as faults
 use Rattle.scenario_text.specs.Draft.{DraftValue, scenario_of}
-use Rattle.scenario_text.specs.Standing.{Standing, start, ended, Leads, lines_before}
+use Rattle.scenario_text.specs.Standing.{ScenarioStanding, start, ended, LinesLead, lines_before}
 
 -- what is left is these lines, which follow one another and end the draft
-pub record AreLeft (rest : List ℕ) (from : Standing) (said : List Line) (draft : DraftValue) : Type 0 where
+pub record AreLeft (rest : List ℕ) (from : ScenarioStanding) (said : List Line) (draft : DraftValue) : Type 0 where
   pub cut : lines_of rest ≡ map line_text said ++ [] ∷ []
-  pub leads : Leads from said (ended draft)
+  pub leads : LinesLead from said (ended draft)
 
 -- the lines of the bytes say the scenario
 pub record SaysScenario (bytes : List ℕ) (scenario : Scenario) : Type 0 where

@@ -20,17 +20,17 @@ use Rattle.scenario_text.specs.StepLines.{IsBareRound, steps_of}
 use Rattle.scenario_text.specs.Draft.{DraftValue, HeadValue, draft_after, new_draft, scenario_of, size, tag_count}
 
 -- where a scenario stands after some of its lines
-pub data Standing : Type 0 where
+pub data ScenarioStanding : Type 0 where
   -- before the first line
-  start : Standing
+  start : ScenarioStanding
   -- behind the version
-  begun : Version → Standing
+  begun : Version → ScenarioStanding
   -- behind the link of version 2
-  linked : LinkValue → Standing
+  linked : LinkValue → ScenarioStanding
   -- behind the head, or a line after it
-  within : DraftValue → Standing
+  within : DraftValue → ScenarioStanding
   -- behind the end
-  ended : DraftValue → Standing
+  ended : DraftValue → ScenarioStanding
 
 -- the head of a text of version 1 and of one of version 2
 abbrev pub first_head : LinkValue → HeadValue
@@ -45,7 +45,7 @@ head_size One = 2
 head_size Two = 3
 
 -- how many lines stand before it
-abbrev pub lines_before : Standing → ℕ
+abbrev pub lines_before : ScenarioStanding → ℕ
 lines_before start = 0
 lines_before (begun version) = 1
 lines_before (linked link) = 2
@@ -53,7 +53,7 @@ lines_before (within draft) = head_size draft.head.version + size draft
 lines_before (ended draft) = head_size draft.head.version + size draft + 1
 
 -- a line whose keyword is this may follow
-abbrev pub MayStand : Standing → Keyword → Type 0
+abbrev pub MayStand : ScenarioStanding → Keyword → Type 0
 MayStand start keywords.Version = Unit {0}
 MayStand (begun version) keywords.Link = Unit {0}
 MayStand (linked link) keywords.Default = Unit {0}
@@ -70,16 +70,16 @@ MayStand (within draft) keywords.End = Unit {0}
 MayStand standing keyword = ⊥
 
 -- such a line is not one too many
-abbrev pub HasRoom : Standing → Keyword → Type 0
-HasRoom (within draft) keywords.Tag = tag_count draft < most_tags_of draft.head.version
-HasRoom (within draft) keywords.Copies = tag_count draft < most_tags_of draft.head.version
-HasRoom (within draft) keywords.Air = draft.air.count < most_air_lines
-HasRoom (within draft) keywords.Select = length (steps_of draft.steps) < most_steps
-HasRoom (within draft) keywords.Nak = length (steps_of draft.steps) < most_steps
-HasRoom (within draft) keywords.Event = length (steps_of draft.steps) < most_steps
-HasRoom (within draft) keywords.Round = length (steps_of draft.steps) < most_steps
-HasRoom (within draft) keywords.Op = length draft.steps.operations.ops < most_ops
-HasRoom standing keyword = Unit {0}
+abbrev pub HasRoomForLine : ScenarioStanding → Keyword → Type 0
+HasRoomForLine (within draft) keywords.Tag = tag_count draft < most_tags_of draft.head.version
+HasRoomForLine (within draft) keywords.Copies = tag_count draft < most_tags_of draft.head.version
+HasRoomForLine (within draft) keywords.Air = draft.air.count < most_air_lines
+HasRoomForLine (within draft) keywords.Select = length (steps_of draft.steps) < most_steps
+HasRoomForLine (within draft) keywords.Nak = length (steps_of draft.steps) < most_steps
+HasRoomForLine (within draft) keywords.Event = length (steps_of draft.steps) < most_steps
+HasRoomForLine (within draft) keywords.Round = length (steps_of draft.steps) < most_steps
+HasRoomForLine (within draft) keywords.Op = length draft.steps.operations.ops < most_ops
+HasRoomForLine standing keyword = Unit {0}
 
 -- the tag that the line names is one of so many
 abbrev pub NamesTag : ℕ → Line → Type 0
@@ -106,34 +106,34 @@ pub record Agrees (draft : DraftValue) (line : Line) : Type 0 where
   pub order : KeepsOrder draft.air line
   pub once : ChoosesOnce draft.air line
 
-abbrev pub AgreesWith : Standing → Line → Type 0
+abbrev pub AgreesWith : ScenarioStanding → Line → Type 0
 AgreesWith (within draft) line = Agrees draft line
 AgreesWith standing line = Unit {0}
 
 -- the line may follow
-pub record Follows (standing : Standing) (line : Line) : Type 0 where
+pub record MayStandNext (standing : ScenarioStanding) (line : Line) : Type 0 where
   pub is : IsLine line
   pub stands : MayStand standing (keyword_of line)
-  pub room : HasRoom standing (keyword_of line)
+  pub room : HasRoomForLine standing (keyword_of line)
   pub agrees : AgreesWith standing line
 
 -- where the scenario stands after a line that may follow
-abbrev pub after : Standing → Line → Standing
-after start (lines.Version version) = begun version
-after (begun One) (lines.Link link) = within (new_draft (first_head link))
-after (begun Two) (lines.Link link) = linked link
-after (linked link) (lines.Default several) = within (new_draft (second_head link several))
-after (within draft) lines.End = ended draft
-after (within draft) line = within (draft_after draft line)
-after standing line = standing
+abbrev pub standing_after : ScenarioStanding → Line → ScenarioStanding
+standing_after start (lines.Version version) = begun version
+standing_after (begun One) (lines.Link link) = within (new_draft (first_head link))
+standing_after (begun Two) (lines.Link link) = linked link
+standing_after (linked link) (lines.Default several) = within (new_draft (second_head link several))
+standing_after (within draft) lines.End = ended draft
+standing_after (within draft) line = within (draft_after draft line)
+standing_after standing line = standing
 
 -- the lines follow one another from here on, and lead there
-abbrev pub Leads : Standing → List Line → Standing → Type 0
-Leads from [] to = from ≡ to
-Leads from (line ∷ lines) to = Follows from line × Leads (after from line) lines to
+abbrev pub LinesLead : ScenarioStanding → List Line → ScenarioStanding → Type 0
+LinesLead from [] to = from ≡ to
+LinesLead from (line ∷ lines) to = MayStandNext from line × LinesLead (standing_after from line) lines to
 
 -- the lines follow one another from the start to the end, and say the scenario
 pub record IsSaid (scenario : Scenario) (said : List Line) : Type 0 where
   pub draft : DraftValue
-  pub leads : Leads start said (ended draft)
+  pub leads : LinesLead start said (ended draft)
   pub says : scenario_of draft ≡ scenario

@@ -31,15 +31,15 @@ abbrev pub steps_of : StepLinesValue → List Step
 steps_of said = with_last said.closed said.round said.operations
 
 -- how many lines say steps, which is the same in both versions
-abbrev pub line_count : List Step → ℕ
-line_count steps = length (flat_map (step_lines Two) steps)
+abbrev pub step_line_count : List Step → ℕ
+step_line_count steps = length (flat_map (step_lines Two) steps)
 
 -- they are no more than the limits allow
 pub record AreFewStepLines (said : StepLinesValue) : Type 0 where
   pub steps : length (steps_of said) ≤ most_steps
   pub ops : length said.operations.ops ≤ most_ops
   -- a round has its own line, that of its EPC and those of its operations
-  pub lines : line_count said.closed ≤ (2 + most_ops) * length said.closed
+  pub lines : step_line_count said.closed ≤ (2 + most_ops) * length said.closed
 
 -- nothing is said yet of the operations of the last step, which is a round
 pub record IsBareRound (said : StepLinesValue) : Type 0 where

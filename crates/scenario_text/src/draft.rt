@@ -2,7 +2,7 @@
 ghost use Rattle.std.specs.Prelude.{◌≡◌, ◌≤◌, ◌↔◌, IsTrue, IfOk, IfErr, OnOk};
 ghost use Rattle.scenario_text.specs.Draft.{draft_after, new_draft, scenario_of, tag_count};
 ghost use Rattle.scenario_text.specs.Faults.{DisagreesBy};
-ghost use Rattle.scenario_text.specs.Standing.{Agrees, Follows, HasRoom, IsOfVersion, MayStand, NamesTag, lines_before, within};
+ghost use Rattle.scenario_text.specs.Standing.{Agrees, MayStandNext, HasRoomForLine, IsOfVersion, MayStand, NamesTag, lines_before, within};
 
 mod air;
 mod latest;
@@ -54,7 +54,8 @@ impl Model for Draft {
 impl Draft {
     /// What the first lines say, behind which nothing more is said yet.
     pub(crate) fn new(alloc: Global, version: Version, link: Link, several: Several) -> Draft
-        ensures { result ≡ new_draft (record { version = version; link = link; several = several }) }
+        ensures { result ≡ new_draft
+            (record { version = version; link = link; several = several }) }
     {
         Draft {
             head: Head {
@@ -105,7 +106,7 @@ impl Draft {
 
     /// Whether a line that begins with this keyword is not one too many.
     pub(crate) fn has_room(&self, keyword: Keyword) -> bool
-        ensures { IsTrue result ↔ HasRoom (within self.now) keyword }
+        ensures { IsTrue result ↔ HasRoomForLine (within self.now) keyword }
     {
         match keyword {
             Keyword::Tag | Keyword::Copies => self.tags.has_room(self.head.version),
@@ -173,7 +174,7 @@ impl Draft {
 
     /// Adds what a line says that may follow. The end adds nothing.
     pub(crate) fn add(&mut self, alloc: Global, line: Line) -> Result<(), OutOfMemory>
-        requires { Follows (within self.old) line }
+        requires { MayStandNext (within self.old) line }
         ensures { OnOk result (self.new ≡ draft_after self.old line.entry) }
     {
         match line {

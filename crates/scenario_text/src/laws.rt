@@ -12,7 +12,7 @@ ghost use Rattle.scenario_text.specs.Faults.{DisagreesBy, IsFirstFault};
 ghost use Rattle.scenario_text.specs.LinesBefore.{DisagreesWith, IsFullBefore, MayStandBehind};
 ghost use Rattle.scenario_text.specs.Beginnings.{BeginsScenario, FirstLinesBegin};
 ghost use Rattle.scenario_text.specs.Draft.{DraftValue, scenario_of};
-ghost use Rattle.scenario_text.specs.Standing.{HasRoom, IsSaid, Leads, MayStand, ended, Standing, start, within};
+ghost use Rattle.scenario_text.specs.Standing.{HasRoomForLine, IsSaid, LinesLead, MayStand, ended, ScenarioStanding, start, within};
 
 use scenario_lines::{
     lines_are_field_texts, lines_are_told_apart, lines_begin_or_are_faulty,
@@ -37,7 +37,7 @@ pub(crate) fn line_laws()
 /// limits.
 #[tactic(auto, using(crate::proofs::Settled::said_scenario))]
 pub fn lines_say_a_scenario()
-    ensures { (draft : DraftValue) (said : List Line) → Leads start said (ended draft)
+    ensures { (draft : DraftValue) (said : List Line) → LinesLead start said (ended draft)
         → (said ≡ scenario_lines (scenario_of draft)) × IsScenario (scenario_of draft) }
 {}
 
@@ -45,33 +45,38 @@ pub fn lines_say_a_scenario()
 /// it.
 #[tactic(auto, using(crate::proofs::Spoken::scenario_is_said))]
 pub fn scenarios_are_said()
-    ensures { (scenario : Scenario) → IsScenario scenario → IsSaid scenario (scenario_lines scenario) }
+    ensures { (scenario : Scenario) → IsScenario scenario
+        → IsSaid scenario (scenario_lines scenario) }
 {}
 
 /// Lines that follow one another from the start are the first lines of some scenario that keeps the
 /// limits, wherever they lead.
 #[tactic(auto, using(crate::proofs::FirstLines::said_begins))]
 pub fn lines_begin_a_scenario()
-    ensures { (said : List Line) (standing : Standing) → Leads start said standing → BeginsScenario said }
+    ensures { (said : List Line) (standing : ScenarioStanding) → LinesLead start said standing
+        → BeginsScenario said }
 {}
 
 /// Two scenarios with one text are one.
 pub fn scenarios_are_told_apart()
-    ensures { (one other : Scenario) → IsScenario one → IsScenario other → scenario_text one ≡ scenario_text other → one ≡ other }
+    ensures { (one other : Scenario) → IsScenario one → IsScenario other
+        → scenario_text one ≡ scenario_text other → one ≡ other }
 {
     line_laws();
 }
 
 /// The text of a scenario has no faulty line.
 pub fn scenario_texts_are_not_faulty()
-    ensures { (scenario : Scenario) (number : ℕ) (fault : Fault) → IsScenario scenario → IsFirstFault (scenario_text scenario) number fault → ⊥ }
+    ensures { (scenario : Scenario) (number : ℕ) (fault : Fault) → IsScenario scenario
+        → IsFirstFault (scenario_text scenario) number fault → ⊥ }
 {
     line_laws();
 }
 
 /// A text has at most one first faulty line, which has one first reason.
 pub fn texts_have_one_fault()
-    ensures { (bytes : List ℕ) (one other : ℕ) (fault reason : Fault) → IsFirstFault bytes one fault → IsFirstFault bytes other reason
+    ensures { (bytes : List ℕ) (one other : ℕ) (fault reason : Fault) → IsFirstFault bytes one fault
+        → IsFirstFault bytes other reason
         → (one ≡ other) × (fault ≡ reason) }
 {
     line_laws();
@@ -79,7 +84,8 @@ pub fn texts_have_one_fault()
 
 /// Each list of bytes is the text of a scenario, or has a first faulty line with a first reason.
 pub fn texts_are_scenarios_or_faulty()
-    ensures { (bytes : List ℕ) → IsText bytes ⊎ ((number : ℕ) × (fault : Fault) × IsFirstFault bytes number fault) }
+    ensures { (bytes : List ℕ) → IsText bytes
+        ⊎ ((number : ℕ) × (fault : Fault) × IsFirstFault bytes number fault) }
 {
     line_laws();
 }
@@ -87,8 +93,10 @@ pub fn texts_are_scenarios_or_faulty()
 /// The number of the first faulty line is the least one for which so many first lines begin no
 /// scenario's text, where a missing or an unended line counts as a line.
 pub fn faulty_lines_begin_no_text()
-    ensures before { (bytes : List ℕ) (number : ℕ) (fault : Fault) (below : ℕ) → IsFirstFault bytes number fault → below < number → FirstLinesBegin bytes below }
-    ensures faulty { (bytes : List ℕ) (number : ℕ) (fault : Fault) → IsFirstFault bytes number fault → ¬ FirstLinesBegin bytes number }
+    ensures before { (bytes : List ℕ) (number : ℕ) (fault : Fault) (below : ℕ)
+        → IsFirstFault bytes number fault → below < number → FirstLinesBegin bytes below }
+    ensures faulty { (bytes : List ℕ) (number : ℕ) (fault : Fault) → IsFirstFault bytes number fault
+        → ¬ FirstLinesBegin bytes number }
 {
     line_laws();
 }
@@ -100,10 +108,13 @@ pub fn faulty_lines_begin_no_text()
 /// one what has to stand behind; an earlier line is a choice for the same exchange; the first line names the
 /// other version.
 pub fn reasons_tell_of_lines_before()
-    ensures word { (said : List Line) (standing : Standing) (keyword : Keyword) → Leads start said standing
+    ensures word { (said : List Line) (standing : ScenarioStanding) (keyword : Keyword)
+        → LinesLead start said standing
         → MayStand standing keyword ↔ MayStandBehind said keyword }
-    ensures limit { (said : List Line) (draft : DraftValue) (keyword : Keyword) → Leads start said (within draft)
-        → HasRoom (within draft) keyword ↔ (¬ IsFullBefore said keyword) }
-    ensures disagrees { (said : List Line) (draft : DraftValue) (line : Line) (fault : Fault) → Leads start said (within draft)
+    ensures limit { (said : List Line) (draft : DraftValue) (keyword : Keyword)
+        → LinesLead start said (within draft)
+        → HasRoomForLine (within draft) keyword ↔ (¬ IsFullBefore said keyword) }
+    ensures disagrees { (said : List Line) (draft : DraftValue) (line : Line) (fault : Fault)
+        → LinesLead start said (within draft)
         → DisagreesBy draft line fault ↔ DisagreesWith said line fault }
 {}

@@ -5,7 +5,7 @@ ghost use Rattle.scenario_lines.specs.declared.line.Line.{Line};
 ghost use Rattle.scenario_lines.specs.LineFaults.{SpellsLine};
 ghost use Rattle.scenario_lines.specs.Spelling.{line_text};
 ghost use Rattle.scenario_text.specs.Faults.{DisagreesAt, IsFaultyAt, IsFaultyHere};
-ghost use Rattle.scenario_text.specs.Standing.{AgreesWith, Follows, HasRoom, MayStand, after, begun, lines_before, start};
+ghost use Rattle.scenario_text.specs.Standing.{AgreesWith, MayStandNext, HasRoomForLine, MayStand, standing_after, begun, lines_before, start};
 ghost use Rattle.scenario_text.specs.Taking.{LeadsTo, Takes, standing_of};
 
 use crate::Fault;
@@ -59,7 +59,7 @@ fn said_version(line: &[u8]) -> Result<Version, Fault>
 /// How far the reader has come behind the link of a text of this version: in version 1 nothing more
 /// stands before all other lines.
 fn behind_link(alloc: Global, version: Version, link: Link) -> Progress
-    ensures { standing_of result ≡ after (begun version) (Line.Link link) }
+    ensures { standing_of result ≡ standing_after (begun version) (Line.Link link) }
 {
     match version {
         Version::One => Progress::Within(Draft::new(alloc, version, link, Several::Break)),
@@ -95,7 +95,7 @@ impl Progress {
 
     /// Whether a line that begins with this keyword is not one too many.
     fn has_room(&self, keyword: Keyword) -> bool
-        ensures { IsTrue result ↔ HasRoom (standing_of self.now) keyword }
+        ensures { IsTrue result ↔ HasRoomForLine (standing_of self.now) keyword }
     {
         match self {
             Progress::Start | Progress::Begun(_) | Progress::Linked(_) => true,
@@ -124,8 +124,11 @@ impl Progress {
     ///
     /// The first reason for which the line may not stand here.
     fn said_behind_first<'b>(&self, line: &'b [u8]) -> Result<Line<'b>, Fault>
-        ensures ok { IfOk result (λ said. SpellsLine (fields_of line.now) said × Follows (standing_of self.now) said) }
-        ensures only { (said : Line) → SpellsLine (fields_of line.now) said → Follows (standing_of self.now) said → IsOkAnd result (λ it. it ≡ said) }
+        ensures ok { IfOk result
+            (λ said. SpellsLine (fields_of line.now) said
+            × MayStandNext (standing_of self.now) said) }
+        ensures only { (said : Line) → SpellsLine (fields_of line.now) said
+            → MayStandNext (standing_of self.now) said → IsOkAnd result (λ it. it ≡ said) }
         ensures refused { IfErr result (IsFaultyAt (standing_of self.now) (fields_of line.now)) }
     {
         let Some(begun) = BegunLine::new(line) else {
@@ -149,8 +152,11 @@ impl Progress {
     ///
     /// The first reason for which the line may not stand here.
     fn next_said<'b>(&self, line: &'b [u8]) -> Result<Line<'b>, Fault>
-        ensures ok { IfOk result (λ said. SpellsLine (fields_of line.now) said × Follows (standing_of self.now) said) }
-        ensures only { (said : Line) → SpellsLine (fields_of line.now) said → Follows (standing_of self.now) said → IsOkAnd result (λ it. it ≡ said) }
+        ensures ok { IfOk result
+            (λ said. SpellsLine (fields_of line.now) said
+            × MayStandNext (standing_of self.now) said) }
+        ensures only { (said : Line) → SpellsLine (fields_of line.now) said
+            → MayStandNext (standing_of self.now) said → IsOkAnd result (λ it. it ≡ said) }
         ensures refused { IfErr result (IsFaultyHere (standing_of self.now) line.now) }
     {
         match self {
@@ -163,8 +169,9 @@ impl Progress {
 
     /// Goes on by what a line says that may follow.
     fn go_on(&mut self, alloc: Global, said: Line) -> Result<Taken, OutOfMemory>
-        requires { Follows (standing_of self.old) said }
-        ensures { IfOk result (λ taken. LeadsTo (after (standing_of self.old) said.entry) taken self.new) }
+        requires { MayStandNext (standing_of self.old) said }
+        ensures { IfOk result
+            (λ taken. LeadsTo (standing_after (standing_of self.old) said.entry) taken self.new) }
     {
         match self {
             Progress::Start => match said {
@@ -204,9 +211,12 @@ impl Progress {
     /// Takes the next line, which is given without its line feed. After an error no more is known of how far
     /// the reader has come.
     pub(crate) fn take(&mut self, alloc: Global, line: &[u8]) -> Result<Taken, OutOfMemory>
-        ensures taken { IfOk result (λ taken. Takes (standing_of self.old) line.now taken self.new) }
-        ensures only { (said : Line) → SpellsLine (fields_of line.now) said → Follows (standing_of self.old) said
-            → IfOk result (λ taken. LeadsTo (after (standing_of self.old) said) taken self.new) }
+        ensures taken { IfOk result
+            (λ taken. Takes (standing_of self.old) line.now taken self.new) }
+        ensures only { (said : Line) → SpellsLine (fields_of line.now) said
+            → MayStandNext (standing_of self.old) said
+            → IfOk result (λ taken. LeadsTo
+            (standing_after (standing_of self.old) said) taken self.new) }
     {
         match self.next_said(line) {
             Ok(said) => self.go_on(alloc, said),

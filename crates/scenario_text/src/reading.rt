@@ -32,7 +32,8 @@ fn finish(draft: Draft, rest: &[u8]) -> Result<Scenario, ScenarioFault>
 fn read_lines(alloc: Global, text: &[u8]) -> Result<Scenario, ScenarioFault>
     ensures ok { IfOk result (SaysScenario text.now) }
     ensures only { (said : List Line) (draft : DraftValue) → AreLeft text.now start said draft
-        → IfOk result (λ scenario. scenario ≡ scenario_of draft) × IfErr result (λ fault. fault ≡ ScenarioFault.OutOfMemory) }
+        → IfOk result (λ scenario. scenario ≡ scenario_of draft)
+        × IfErr result (λ fault. fault ≡ ScenarioFault.OutOfMemory) }
     ensures refused { IfErr result (IsRefused text.now) }
 {
     // By the laws of lines, the text of a line is cut into the fields that spell it.
@@ -65,15 +66,18 @@ fn read_lines(alloc: Global, text: &[u8]) -> Result<Scenario, ScenarioFault>
 /// memory.
 pub fn read_scenario(alloc: Global, text: &[u8]) -> Result<Scenario, ScenarioFault>
     // What is read is spelled so.
-    ensures ok { IfOk result (λ scenario. IsScenario scenario × (text.now ≡ scenario_text scenario)) }
+    ensures ok { IfOk result
+        (λ scenario. IsScenario scenario × (text.now ≡ scenario_text scenario)) }
     // What is spelled so is read, unless memory runs out.
     ensures only { (said : Scenario) → IsScenario said → text.now ≡ scenario_text said
-        → IfOk result (λ scenario. scenario ≡ said) × IfErr result (λ fault. fault ≡ ScenarioFault.OutOfMemory) }
+        → IfOk result (λ scenario. scenario ≡ said)
+        × IfErr result (λ fault. fault ≡ ScenarioFault.OutOfMemory) }
     // Which line is faulty, and why.
     ensures refused { IfErr result (IsRefused text.now) }
     // A text with a first faulty line is refused with its number and its reason, unless memory runs out.
     ensures exact { (number : ℕ) (fault : Fault) → IsFirstFault text.now number fault
-        → IfErr result (λ refusal. (refusal ≡ ScenarioFault.Line number fault) ⊎ (refusal ≡ ScenarioFault.OutOfMemory)) × IfOk result (λ scenario. ⊥) }
+        → IfErr result (λ refusal. (refusal ≡ ScenarioFault.Line number fault)
+        ⊎ (refusal ≡ ScenarioFault.OutOfMemory)) × IfOk result (λ scenario. ⊥) }
 {
     // By the laws of lines, the text of a scenario has no faulty line, and no text two first faults.
     line_laws();

@@ -10,26 +10,26 @@ pub record Row : Type 0 where
   pub matching : Effect
   pub not_matching : Effect
 
-abbrev pub row : Effect → Effect → Row
-row matching not_matching = record { matching = matching; not_matching = not_matching }
+abbrev pub action_row : Effect → Effect → Row
+action_row matching not_matching = record { matching = matching; not_matching = not_matching }
 
-abbrev pub rows : List Row
-rows =
-    row Assert Deassert ∷
-    row Assert Keep ∷
-    row Keep Deassert ∷
-    row Negate Keep ∷
-    row Deassert Assert ∷
-    row Deassert Keep ∷
-    row Keep Assert ∷
-    row Keep Negate ∷ []
+abbrev pub action_rows : List Row
+action_rows =
+    action_row Assert Deassert ∷
+    action_row Assert Keep ∷
+    action_row Keep Deassert ∷
+    action_row Negate Keep ∷
+    action_row Deassert Assert ∷
+    action_row Deassert Keep ∷
+    action_row Keep Assert ∷
+    action_row Keep Negate ∷ []
 
 -- no action is 8 or above
-abbrev pub row_of : ℕ → Row
-row_of action = slice_index_or rows action (row Keep Keep)
+abbrev pub action_row_of : ℕ → Row
+action_row_of action = slice_index_or action_rows action (action_row Keep Keep)
 
 abbrev pub effect_of : ℕ → Bool → Effect
-effect_of action matching = (if matching then (row_of action).matching else (row_of action).not_matching)
+effect_of action matching = (if matching then (action_row_of action).matching else (action_row_of action).not_matching)
 
 -- what an effect is at an inventoried flag: where SL would be asserted, it becomes A
 abbrev pub side_after : Effect → Side → Side

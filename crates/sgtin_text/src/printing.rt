@@ -25,7 +25,8 @@ pub fn push_name(text: &mut String, sgtin: &Sgtin) -> Result<(), OutOfMemory>
 /// Writes an SGTIN by the words of its EPC at the end of the text: `sgtin WORDS`. After an error the text may hold
 /// a part of it.
 pub fn push_sgtin_words(text: &mut String, words: &[u16]) -> Result<(), OutOfMemory>
-    ensures { OnOk result (string_bytes text.new ≡ string_bytes text.old ++ sgtin_words_line words.now) }
+    ensures { OnOk result (string_bytes text.new ≡ string_bytes text.old
+        ++ sgtin_words_line words.now) }
 {
     text.push_str("sgtin")?;
     push_next_words(text, words)

@@ -44,7 +44,8 @@ impl Model for Body {
 
     ghost view = { λ body. record { memory = body.parts.value.memory; locks = body.parts.value.locks; flags = body.parts.value.flags; words = body.parts.value.words; next_draw = body.parts.value.next_draw } };
 
-    ghost invariant = { λ body. IsLegalBody (record { memory = body.parts.value.memory; locks = body.parts.value.locks; flags = body.parts.value.flags; words = body.parts.value.words; next_draw = body.parts.value.next_draw }) };
+    ghost invariant = { λ body. IsLegalBody
+        (record { memory = body.parts.value.memory; locks = body.parts.value.locks; flags = body.parts.value.flags; words = body.parts.value.words; next_draw = body.parts.value.next_draw }) };
 }
 
 /// The place behind this one, among so many.
@@ -64,7 +65,8 @@ impl Body {
         locks: Locks,
         words: DrawWords,
     ) -> Result<Body, OutOfMemory>
-        ensures { IfOk result (λ body. body ≡ record { memory = memory; locks = locks; flags = new_flags; words = words; next_draw = 0 }) }
+        ensures { IfOk result
+            (λ body. body ≡ record { memory = memory; locks = locks; flags = new_flags; words = words; next_draw = 0 }) }
     {
         let parts = Parts {
             next_draw: 0,

@@ -154,7 +154,12 @@ impl AnyTag {
     /// before, so that no memory is taken.
     pub fn give_words(&mut self, words: &[u16])
         requires { length words.now ≡ length (tag_value_of self.old).body.words }
-        ensures { tag_value_of self.new ≡ record { state = (tag_value_of self.old).state; body = record (tag_value_of self.old).body { words = words.now; next_draw = 0 } } }
+        ensures { tag_value_of self.new
+            ≡ record {
+              state = (tag_value_of self.old).state;
+              body = record
+                  (tag_value_of self.old).body { words = words.now; next_draw = 0 };
+            } }
     {
         match self {
             AnyTag::Ready(tag) => tag.body.give_words(words),

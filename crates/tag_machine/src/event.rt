@@ -15,7 +15,8 @@ use command_grammar::FlagName;
 impl AnyTag {
     /// The time T2 ran out: a tag in reply or acknowledged goes back to arbitrate.
     fn time_out(self) -> AnyTag
-        ensures { tag_value_of result ≡ after_timeout (tag_value_of self).state (tag_value_of self).body }
+        ensures { tag_value_of result
+            ≡ after_timeout (tag_value_of self).state (tag_value_of self).body }
     {
         match self {
             AnyTag::InReply(Tag { state, body }) => {
@@ -30,7 +31,8 @@ impl AnyTag {
 
     /// Power is lost. A killed tag stays as it is.
     fn lose_power(self) -> AnyTag
-        ensures { tag_value_of result ≡ after_off (tag_value_of self).state (tag_value_of self).body }
+        ensures { tag_value_of result
+            ≡ after_off (tag_value_of self).state (tag_value_of self).body }
     {
         match self {
             AnyTag::Killed(tag) => AnyTag::Killed(tag),
@@ -53,7 +55,8 @@ impl AnyTag {
 
     /// Power comes. A tag that was without it is ready, with StoredCRC computed again; any other stays as it is.
     fn get_power(self) -> AnyTag
-        ensures { tag_value_of result ≡ after_on (tag_value_of self).state (tag_value_of self).body }
+        ensures { tag_value_of result
+            ≡ after_on (tag_value_of self).state (tag_value_of self).body }
     {
         match self {
             AnyTag::Unpowered(Tag { state: _, mut body }) => {
@@ -66,7 +69,8 @@ impl AnyTag {
 
     /// The persistence of a flag ends, by whether the tag has power and whether it takes part in a round.
     fn expire(self, flag: FlagName) -> AnyTag
-        ensures { tag_value_of result ≡ after_expiry flag (tag_value_of self).state (tag_value_of self).body }
+        ensures { tag_value_of result
+            ≡ after_expiry flag (tag_value_of self).state (tag_value_of self).body }
     {
         match self {
             AnyTag::Ready(Tag { state, body }) => state.tag(body.expired(flag, true, false)),
@@ -93,7 +97,8 @@ impl AnyTag {
     ///
     /// A killed tag stays as it is, and an event changes nothing besides.
     pub fn event(self, event: Event) -> AnyTag
-        ensures step { tag_value_of result ≡ tag_after_event event (tag_value_of self).state (tag_value_of self).body }
+        ensures step { tag_value_of result
+            ≡ tag_after_event event (tag_value_of self).state (tag_value_of self).body }
         ensures legal { IsLegalTag (tag_value_of result) }
     {
         match event {

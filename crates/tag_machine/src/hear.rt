@@ -20,7 +20,9 @@ impl AnyTag {
     /// What the tag makes of a command. DR, M and TRext of a Query tell the form of the replies, and change nothing in the tag.
     fn take(self, command: &Command, out: &mut Bits) -> Heard
         requires room { reply_room ≤ out.old.capacity }
-        ensures { GivesOutcome (step command.now (tag_value_of self).state (tag_value_of self).body) result out.old out.new }
+        ensures { GivesOutcome
+            (step command.now (tag_value_of self).state (tag_value_of self).body) result out.old
+            out.new }
     {
         match command {
             Command::Query {
@@ -90,13 +92,23 @@ impl AnyTag {
     #[inline(always)]
     pub fn hear<L: Ledger>(self, command: &Command, out: &mut Bits, steps: &mut Steps<L>) -> Heard
         requires room { reply_room ≤ out.old.capacity }
-        ensures step { GivesOutcome (step command.now (tag_value_of self).state (tag_value_of self).body) result out.old out.new }
+        ensures step { GivesOutcome
+            (step command.now (tag_value_of self).state (tag_value_of self).body) result out.old
+            out.new }
         ensures counted { steps.new ≡ steps.old + 1 }
-        ensures isolated { IsIsolated command.now (tag_value_of self).body.flags (tag_value_of result.tag).body.flags }
+        ensures isolated { IsIsolated command.now (tag_value_of self).body.flags
+            (tag_value_of result.tag).body.flags }
         ensures legal { IsLegalTag (tag_value_of result.tag) }
-        ensures marked { result.answered ≢ Answered.Silent → result.answered ≡ (if is_extended command.now (tag_value_of self).state then Answered.Extended else Answered.Plain) }
-        ensures refused { (sent : Sent) (code : ℕ) → (step command.now (tag_value_of self).state (tag_value_of self).body).answer ≡ Some sent → sent.reply ≡ replies.Error code → (tag_value_of result.tag).body ≡ (tag_value_of self).body }
-        ensures absent { is_present (tag_value_of self).state ≡ false → (tag_value_of result.tag ≡ tag_value_of self) × (result.answered ≡ Answered.Silent) }
+        ensures marked { result.answered ≢ Answered.Silent
+            → result.answered
+            ≡ (if is_extended command.now
+            (tag_value_of self).state then Answered.Extended else Answered.Plain) }
+        ensures refused { (sent : Sent) (code : ℕ)
+            → (step command.now (tag_value_of self).state (tag_value_of self).body).answer
+            ≡ Some sent → sent.reply ≡ replies.Error code
+            → (tag_value_of result.tag).body ≡ (tag_value_of self).body }
+        ensures absent { is_present (tag_value_of self).state ≡ false
+            → (tag_value_of result.tag ≡ tag_value_of self) × (result.answered ≡ Answered.Silent) }
     {
         steps.tick();
         self.take(command, out)

@@ -22,8 +22,11 @@ use tag_body::{Slot, adjusted};
 /// QueryAdjust.
 pub fn reaches_waiting(command: &Command) -> bool
     ensures value { result ≡ reaches_waiting command.now }
-    ensures ready { result ≡ false → (body : BodyValue) → step command.now ReadyState body ≡ silent ReadyState body }
-    ensures arbitrate { result ≡ false → (session q slot : ℕ) (body : BodyValue) → step command.now (ArbitrateState session q slot) body ≡ silent (ArbitrateState session q slot) body }
+    ensures ready { result ≡ false → (body : BodyValue)
+        → step command.now ReadyState body ≡ silent ReadyState body }
+    ensures arbitrate { result ≡ false → (session q slot : ℕ) (body : BodyValue)
+        → step command.now (ArbitrateState session q slot) body
+        ≡ silent (ArbitrateState session q slot) body }
 {
     match command {
         Command::Query { .. }
@@ -46,7 +49,8 @@ pub fn reaches_waiting(command: &Command) -> bool
 impl Tag<Ready> {
     /// Hears a command that leaves the tag in ready, and answers whether it did: each but a Query that speaks to the tag.
     fn hear_in_ready(&mut self, command: &Command) -> bool
-        ensures heard { result ≡ true → step command.now self.old.state self.old.body ≡ silent self.new.state self.new.body }
+        ensures heard { result ≡ true
+            → step command.now self.old.state self.old.body ≡ silent self.new.state self.new.body }
         ensures left { result ≡ false → self.new ≡ self.old }
         ensures legal { IsLegalTag self.new }
     {
@@ -78,7 +82,8 @@ impl Tag<Arbitrate> {
     /// QueryRep or QueryAdjust of another session, a QueryRep by which the slot counter falls and doesn't become 0, or a
     /// QueryAdjust, or a Query that speaks to the tag, at which it draws another slot than 0.
     fn hear_in_arbitrate(&mut self, command: &Command) -> bool
-        ensures heard { result ≡ true → step command.now self.old.state self.old.body ≡ silent self.new.state self.new.body }
+        ensures heard { result ≡ true
+            → step command.now self.old.state self.old.body ≡ silent self.new.state self.new.body }
         ensures left { result ≡ false → self.new ≡ self.old }
         ensures legal { IsLegalTag self.new }
     {
@@ -106,7 +111,8 @@ impl Tag<Arbitrate> {
 
     /// Draws a slot in a round, unless it is 0, and answers whether it did.
     fn draw_slot(&mut self, session: Session, q: QValue) -> bool
-        ensures heard { result ≡ true → enter session q self.old.body ≡ silent self.new.state self.new.body }
+        ensures heard { result ≡ true
+            → enter session q self.old.body ≡ silent self.new.state self.new.body }
         ensures left { result ≡ false → self.new ≡ self.old }
         ensures legal { IsLegalTag self.new }
     {
@@ -122,7 +128,8 @@ impl Tag<Arbitrate> {
 
     /// Hears a QueryRep that leaves the tag in arbitrate, and answers whether it did.
     fn count_down(&mut self, session: Session) -> bool
-        ensures heard { result ≡ true → query_rep session self.old.state self.old.body ≡ silent self.new.state self.new.body }
+        ensures heard { result ≡ true
+            → query_rep session self.old.state self.old.body ≡ silent self.new.state self.new.body }
         ensures left { result ≡ false → self.new ≡ self.old }
         ensures legal { IsLegalTag self.new }
     {
@@ -144,7 +151,9 @@ impl AnyTag {
     /// Most tags only wait at most commands of a round, and a tag that is not moved is heard much faster.
     #[tactic(auto, using(crate::proofs::AbsentTags::absent))]
     pub fn hear_in_place<L: Ledger>(&mut self, command: &Command, steps: &mut Steps<L>) -> bool
-        ensures heard { result ≡ true → step command.now (tag_value_of self.old).state (tag_value_of self.old).body ≡ silent (tag_value_of self.new).state (tag_value_of self.new).body }
+        ensures heard { result ≡ true
+            → step command.now (tag_value_of self.old).state (tag_value_of self.old).body
+            ≡ silent (tag_value_of self.new).state (tag_value_of self.new).body }
         ensures left { result ≡ false → self.new ≡ self.old }
         ensures counted { steps.new ≡ steps.old + (if result then 1 else 0) }
         ensures legal { IsLegalTag (tag_value_of self.new) }

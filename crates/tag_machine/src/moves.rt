@@ -15,7 +15,8 @@ use tag_body::{Body, Slot};
 
 /// No answer.
 pub fn unanswered(tag: AnyTag, out: &mut Bits) -> Heard
-    ensures { GivesOutcome (silent (tag_value_of tag).state (tag_value_of tag).body) result out.old out.new }
+    ensures { GivesOutcome
+        (silent (tag_value_of tag).state (tag_value_of tag).body) result out.old out.new }
 {
     out.clear();
     Heard {
@@ -27,7 +28,9 @@ pub fn unanswered(tag: AnyTag, out: &mut Bits) -> Heard
 /// An answer that is a handle or a new RN16, whose preamble goes by the TRext of the Query.
 pub fn answer_handle(tag: AnyTag, number: u16, out: &mut Bits) -> Heard
     requires { reply_room ≤ out.old.capacity }
-    ensures { GivesOutcome (plain_answer (tag_value_of tag).state (tag_value_of tag).body (Handle number) 0) result out.old out.new }
+    ensures { GivesOutcome
+        (plain_answer (tag_value_of tag).state (tag_value_of tag).body (Handle number) 0) result
+        out.old out.new }
 {
     encode_handle(number, out);
     Heard {
@@ -39,7 +42,9 @@ pub fn answer_handle(tag: AnyTag, number: u16, out: &mut Bits) -> Heard
 /// An answer that says success by its header bit, with the extended preamble.
 pub fn answer_header(tag: AnyTag, handle: u16, out: &mut Bits) -> Heard
     requires { reply_room ≤ out.old.capacity }
-    ensures { GivesOutcome (extended_answer (tag_value_of tag).state (tag_value_of tag).body Header handle) result out.old out.new }
+    ensures { GivesOutcome
+        (extended_answer (tag_value_of tag).state (tag_value_of tag).body Header handle) result
+        out.old out.new }
 {
     encode_header(handle, out);
     Heard {

@@ -13,14 +13,14 @@ use Rattle.lock_rules.specs.Permissions.{may, Reading, Writing}
 use Rattle.tag_memory.specs.Memory.{Banks, bank_of, with_bank, pc_of, length_in, epc_fits}
 
 -- the field whose pair of lock bits a word goes by
-abbrev pub field_at : Bank → ℕ → Field
-field_at Reserved place = (if nat_lt place 2 then KillWord else AccessWord)
-field_at Epc place = EpcField
-field_at Tid place = TidField
-field_at User place = UserField
+abbrev pub lock_field_at : Bank → ℕ → Field
+lock_field_at Reserved place = (if nat_lt place 2 then KillWord else AccessWord)
+lock_field_at Epc place = EpcField
+lock_field_at Tid place = TidField
+lock_field_at User place = UserField
 
 abbrev pub may_read_word : Locks → Level → Bank → ℕ → Bool
-may_read_word locks level bank place = may locks (field_at bank place) level Reading
+may_read_word locks level bank place = may locks (lock_field_at bank place) level Reading
 
 -- StoredCRC is never written
 abbrev pub is_stored_crc : Bank → ℕ → Bool
@@ -30,7 +30,7 @@ is_stored_crc Tid place = false
 is_stored_crc User place = false
 
 abbrev pub may_write_word : Locks → Level → Bank → ℕ → Bool
-may_write_word locks level bank place = not (is_stored_crc bank place) && may locks (field_at bank place) level Writing
+may_write_word locks level bank place = not (is_stored_crc bank place) && may locks (lock_field_at bank place) level Writing
 
 -- as many words as said pass a test, from a place on
 abbrev pub all_words : (ℕ → Bool) → ℕ → ℕ → Bool

@@ -35,7 +35,8 @@ impl Model for Memory {
 
     ghost view = { λ m. record { reserved = m.reserved; epc = m.epc.items; tid = m.tid.items; user = m.user.items } };
 
-    ghost invariant = { λ m. AreSound (record { reserved = m.reserved; epc = m.epc.items; tid = m.tid.items; user = m.user.items }) };
+    ghost invariant = { λ m. AreSound
+        (record { reserved = m.reserved; epc = m.epc.items; tid = m.tid.items; user = m.user.items }) };
 }
 
 /// Whether the banks of an image have the sizes that a tag's banks may have.
@@ -130,7 +131,8 @@ impl Memory {
     /// EPC that PC announces would pass its bank. No clause ties `OutOfMemory` to a cause.
     pub fn new(alloc: Global, image: &BankImage) -> Result<Memory, ImageRefusal>
         ensures size { (result ≡ Err ImageRefusal.Size) ↔ (sizes_fit image.now ≡ false) }
-        ensures pc { (result ≡ Err ImageRefusal.Pc) ↔ ((sizes_fit image.now ≡ true) × (pc_fits image.now ≡ false)) }
+        ensures pc { (result ≡ Err ImageRefusal.Pc)
+            ↔ ((sizes_fit image.now ≡ true) × (pc_fits image.now ≡ false)) }
         ensures ok { IfOk result (λ memory. memory ≡ banks_of image.now) }
     {
         if !has_sizes(image) {
@@ -155,7 +157,8 @@ impl Memory {
         requires sizes { sizes_fit image.now ≡ true }
         requires pc { pc_fits image.now ≡ true }
         requires epc { 1 ≤ length_in (slice_index image.now.epc 0) }
-        ensures { IfOk result (λ memory. memory ≡ banks_of (with_last_words image.now last_of_epc last_of_tid)) }
+        ensures { IfOk result
+            (λ memory. memory ≡ banks_of (with_last_words image.now last_of_epc last_of_tid)) }
     {
         let mut memory = Memory::without_crc(alloc, image)?;
         let place_in_epc = 1 + length_in_pc(memory.pc());

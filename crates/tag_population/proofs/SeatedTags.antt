@@ -10,12 +10,12 @@ use Rattle.tag_machine.specs.Exchange.{AreLegalTags}
 use Rattle.tag_machine.specs.Inventory.{slot_below}
 use Rattle.tag_machine.specs.TagValue.{StateValue, ReadyState, ArbitrateState, ReplyState, AcknowledgedState, OpenState, SecuredState, KilledState, UnpoweredState, BodyValue, TagValue, IsLegalState, IsLegalTag}
 use Rattle.tag_population.proofs.EventsOnTags.{legal-set}
-use Rattle.tag_population.specs.Floor.{with_slot, tag_seated, tags_of, participation_in, participations_of, seats_written_back, steps_back, became, calling, counted_floor, no_tag, FloorValue, AreSeated}
-use Rattle.waiting_tags.specs.Waiting.{participation_at, slot_in, counted_down, AreSlots}
+use Rattle.tag_population.specs.Floor.{with_slot, tag_seated, seated_tags, participation_in, participations_of, seats_written_back, steps_back, became, calling, counted_floor, no_tag, FloorValue, AreSeated}
+use Rattle.waiting_tags.specs.Waiting.{participation_at, waiting_slot, counted_down, AreSlots}
 use Rattle.waiting_tags.specs.declared.waiting.Participation.{Participation}
 use Rattle.waiting_tags.specs.declared.waiting.Participation.TheVariants.{Waits, Called}
 
-pub length-tags_of : (participations : List (Option Participation)) (seats : List TagValue) → length participations ≡ length seats → length (tags_of participations seats) ≡ length seats
+pub length-tags_of : (participations : List (Option Participation)) (seats : List TagValue) → length participations ≡ length seats → length (seated_tags participations seats) ≡ length seats
 length-tags_of [] [] same = refl
 length-tags_of [] (seat ∷ seats) same = absurd (omega (arith, same))
 length-tags_of (participation ∷ participations) [] same = absurd (omega (arith, same))
@@ -23,7 +23,7 @@ length-tags_of (participation ∷ participations) (seat ∷ seats) same = ap (λ
 
 -- the tag of a number
 pub tag_at : (participations : List (Option Participation)) (seats : List TagValue) (number : ℕ) (d : TagValue) → length participations ≡ length seats → number < length seats
-    → get_or (tags_of participations seats) number d ≡ tag_seated (participation_at participations number) (get_or seats number d)
+    → get_or (seated_tags participations seats) number d ≡ tag_seated (participation_at participations number) (get_or seats number d)
 tag_at [] [] number d same within = absurd (omega (arith, within))
 tag_at [] (seat ∷ seats) number d same within = absurd (omega (arith, same))
 tag_at (participation ∷ participations) [] number d same within = absurd (omega (arith, same))
@@ -31,7 +31,7 @@ tag_at (participation ∷ participations) (seat ∷ seats) zero d same within = 
 tag_at (participation ∷ participations) (seat ∷ seats) (suc number) d same within = tag_at participations seats number d (omega (arith, same)) (omega (arith, within))
 
 pub tags-set : (participations : List (Option Participation)) (seats : List TagValue) (number : ℕ) (participation : Option Participation) (seat : TagValue) → length participations ≡ length seats
-    → tags_of (set participations number participation) (set seats number seat) ≡ set (tags_of participations seats) number (tag_seated participation seat)
+    → seated_tags (set participations number participation) (set seats number seat) ≡ set (seated_tags participations seats) number (tag_seated participation seat)
 tags-set [] [] number participation seat same = refl
 tags-set [] (first ∷ seats) number participation seat same = absurd (omega (arith, same))
 tags-set (own ∷ participations) [] number participation seat same = absurd (omega (arith, same))
@@ -86,12 +86,12 @@ legal_with_slot slot (SecuredState held) below legal = legal
 legal_with_slot slot KilledState below legal = legal
 legal_with_slot slot UnpoweredState below legal = legal
 
-legal_seated : (participation : Option Participation) (seat : TagValue) → ((slot : ℕ) → slot_in participation ≡ Some slot → slot < 32768) → IsLegalTag seat → IsLegalTag (tag_seated participation seat)
+legal_seated : (participation : Option Participation) (seat : TagValue) → ((slot : ℕ) → waiting_slot participation ≡ Some slot → slot < 32768) → IsLegalTag seat → IsLegalTag (tag_seated participation seat)
 legal_seated None seat slots legal = legal
 legal_seated (Some (Waits session slot)) seat slots legal = record { state = legal_with_slot slot seat.state (slots slot refl) legal.state; body = legal.body }
 legal_seated (Some Called) seat slots legal = legal
 
-pub legal_tags : (participations : List (Option Participation)) (seats : List TagValue) → AreSlots participations → AreLegalTags seats → AreLegalTags (tags_of participations seats)
+pub legal_tags : (participations : List (Option Participation)) (seats : List TagValue) → AreSlots participations → AreLegalTags seats → AreLegalTags (seated_tags participations seats)
 legal_tags [] seats slots legal = tt
 legal_tags (participation ∷ participations) [] slots legal = tt
 legal_tags (participation ∷ participations) (seat ∷ seats) slots legal =
@@ -149,12 +149,12 @@ settled_all seats number participations so_far past =
     ext_get_or None participations (participations_of seats) (so_far.whole ∙ sym (length-map seats (λ (t : TagValue). participation_in t.state)))
     (λ other below. so_far.each other (omega (arith, below, so_far.whole, past)) ∙ sym (participation_of_tag seats other))
 
-settled_tags : (seats : List TagValue) → tags_of (participations_of seats) seats ≡ seats
+settled_tags : (seats : List TagValue) → seated_tags (participations_of seats) seats ≡ seats
 settled_tags [] = refl
 settled_tags (seat ∷ seats) =
-    ap (λ (t : TagValue). t ∷ tags_of (participations_of seats) seats) (seated_as_is seat) ∙ ap (λ (l : List TagValue). seat ∷ l) (settled_tags seats)
+    ap (λ (t : TagValue). t ∷ seated_tags (participations_of seats) seats) (seated_as_is seat) ∙ ap (λ (l : List TagValue). seat ∷ l) (settled_tags seats)
 
-legal_slots : (state : StateValue) (slot : ℕ) → IsLegalState state → slot_in (participation_in state) ≡ Some slot → slot < 32768
+legal_slots : (state : StateValue) (slot : ℕ) → IsLegalState state → waiting_slot (participation_in state) ≡ Some slot → slot < 32768
 legal_slots ReadyState slot legal is = absurd (cc)
 legal_slots (ArbitrateState session q own) slot legal is = omega (arith, legal.2, same_Some own slot is)
 legal_slots (ReplyState session q rn) slot legal is = absurd (cc)
@@ -164,7 +164,7 @@ legal_slots (SecuredState held) slot legal is = absurd (cc)
 legal_slots KilledState slot legal is = absurd (cc)
 legal_slots UnpoweredState slot legal is = absurd (cc)
 
-slots_at : (seat : TagValue) (seats : List TagValue) → AreLegalTags (seat ∷ seats) → (number slot : ℕ) → slot_in (participation_at (participations_of (seat ∷ seats)) number) ≡ Some slot → slot < 32768
+slots_at : (seat : TagValue) (seats : List TagValue) → AreLegalTags (seat ∷ seats) → (number slot : ℕ) → waiting_slot (participation_at (participations_of (seat ∷ seats)) number) ≡ Some slot → slot < 32768
 slots_at seat seats legal zero slot is = legal_slots seat.state slot legal.0.state is
 slots_at seat [] legal (suc number) slot is = absurd (cc)
 slots_at seat (next ∷ seats) legal (suc number) slot is = slots_at next seats legal.1 number slot is
@@ -174,8 +174,8 @@ slots_of [] legal = λ number slot is. absurd (cc)
 slots_of (seat ∷ seats) legal = λ number slot is. slots_at seat seats legal number slot is
 
 -- tags that take part as their states say are those in the seats
-pub new_tags : (seats : List TagValue) (parts : List (Option Participation)) → parts ≡ participations_of seats → tags_of parts seats ≡ seats
-new_tags seats parts is = ap (λ (l : List (Option Participation)). tags_of l seats) is ∙ settled_tags seats
+pub new_tags : (seats : List TagValue) (parts : List (Option Participation)) → parts ≡ participations_of seats → seated_tags parts seats ≡ seats
+new_tags seats parts is = ap (λ (l : List (Option Participation)). seated_tags l seats) is ∙ settled_tags seats
 
 pub new_seated : (seats : List TagValue) (parts : List (Option Participation)) → parts ≡ participations_of seats → length seats ≤ most_tags → AreLegalTags seats → AreSeated parts seats
 new_seated seats parts is few legal = record {
@@ -192,7 +192,7 @@ steps_back_most (Some Called) = omega arith
 
 -- what seats and participations are seen as
 abbrev pub floor_of : List (Option Participation) → List TagValue → FloorValue
-floor_of parts items = record { tags = tags_of parts items; parts = parts }
+floor_of parts items = record { tags = seated_tags parts items; parts = parts }
 
 pub seats_within : (parts : List (Option Participation)) (items : List TagValue) (floor : FloorValue) (number : ℕ) → AreSeated parts items → floor_of parts items ≡ floor → number < length floor.tags → number < length items
 seats_within parts items floor number are is within = rw (← length-tags_of parts items are.whole, ap (λ (f : FloorValue). f.tags) is) within
@@ -237,7 +237,7 @@ pub back_long : (b : Back) → length b.seated ≡ length b.items
 back_long b = ap (λ (l : List TagValue). length l) b.back_is ∙ length-set b.items b.number (written_seat b)
 
 -- the seat has what its tag is seen as
-pub back_at : (b : Back) → get_or b.seated b.number no_tag ≡ get_or (tags_of b.parts b.items) b.number no_tag
+pub back_at : (b : Back) → get_or b.seated b.number no_tag ≡ get_or (seated_tags b.parts b.items) b.number no_tag
 back_at b =
     ap (λ (l : List TagValue). get_or l b.number no_tag) b.back_is
     ∙ get_or-set_same b.items b.number (written_seat b) no_tag b.within
@@ -254,14 +254,14 @@ back_read b floor at seat is same read =
     ∙ ap (λ (f : FloorValue). get_or f.tags b.number no_tag) is
 
 -- nothing else is changed by it
-pub back_tags : (b : Back) → tags_of b.parts b.seated ≡ tags_of b.parts b.items
+pub back_tags : (b : Back) → seated_tags b.parts b.seated ≡ seated_tags b.parts b.items
 back_tags b =
-    ap (λ (l : List TagValue). tags_of b.parts l) b.back_is
-    ∙ ap (λ (l : List (Option Participation)). tags_of l (set b.items b.number (written_seat b))) (sym (set-get_or b.parts b.number None))
+    ap (λ (l : List TagValue). seated_tags b.parts l) b.back_is
+    ∙ ap (λ (l : List (Option Participation)). seated_tags l (set b.items b.number (written_seat b))) (sym (set-get_or b.parts b.number None))
     ∙ tags-set b.parts b.items b.number (participation_at b.parts b.number) (written_seat b) b.are.whole
-    ∙ ap (λ (t : TagValue). set (tags_of b.parts b.items) b.number t)
+    ∙ ap (λ (t : TagValue). set (seated_tags b.parts b.items) b.number t)
     (seated_twice (participation_at b.parts b.number) (get_or b.items b.number no_tag) ∙ sym (tag_at b.parts b.items b.number no_tag b.are.whole b.within))
-    ∙ set-get_or (tags_of b.parts b.items) b.number no_tag
+    ∙ set-get_or (seated_tags b.parts b.items) b.number no_tag
 
 pub back_seated : (b : Back) → AreSeated b.parts b.seated
 back_seated b = record {
@@ -272,12 +272,12 @@ back_seated b = record {
 }
 
 -- ... and then the tag was called
-called_tags : (b : Back) → tags_of (set b.parts b.number (Some Called)) b.seated ≡ tags_of b.parts b.items
+called_tags : (b : Back) → seated_tags (set b.parts b.number (Some Called)) b.seated ≡ seated_tags b.parts b.items
 called_tags b =
-    ap (λ (l : List TagValue). tags_of (set b.parts b.number (Some Called)) l) b.back_is
+    ap (λ (l : List TagValue). seated_tags (set b.parts b.number (Some Called)) l) b.back_is
     ∙ tags-set b.parts b.items b.number (Some Called) (written_seat b) b.are.whole
-    ∙ ap (λ (t : TagValue). set (tags_of b.parts b.items) b.number t) (sym (tag_at b.parts b.items b.number no_tag b.are.whole b.within))
-    ∙ set-get_or (tags_of b.parts b.items) b.number no_tag
+    ∙ ap (λ (t : TagValue). set (seated_tags b.parts b.items) b.number t) (sym (tag_at b.parts b.items b.number no_tag b.are.whole b.within))
+    ∙ set-get_or (seated_tags b.parts b.items) b.number no_tag
 
 pub called_is : (b : Back) (after : List (Option Participation)) (floor : FloorValue) → floor_of b.parts b.items ≡ floor → after ≡ set b.parts b.number (Some Called) → floor_of after b.seated ≡ calling floor b.number
 called_is b after floor is put =
@@ -308,8 +308,8 @@ becomes_floor b n floor at is same =
     let after_is : n.after ≡ set b.parts b.number (participation_in n.new.state) = n.put ∙ ap (λ (p : Option Participation). set b.parts b.number p) n.takes in
     let seats_are : set b.seated b.number n.new ≡ set b.items b.number n.new =
     ap (λ (l : List TagValue). set l b.number n.new) b.back_is ∙ set-set b.items b.number (written_seat b) n.new in
-    let tags_are : tags_of (set b.parts b.number (participation_in n.new.state)) (set b.items b.number n.new) ≡ set (tags_of b.parts b.items) b.number n.new =
-    tags-set b.parts b.items b.number (participation_in n.new.state) n.new b.are.whole ∙ ap (λ (t : TagValue). set (tags_of b.parts b.items) b.number t) (seated_as_is n.new) in
+    let tags_are : seated_tags (set b.parts b.number (participation_in n.new.state)) (set b.items b.number n.new) ≡ set (seated_tags b.parts b.items) b.number n.new =
+    tags-set b.parts b.items b.number (participation_in n.new.state) n.new b.are.whole ∙ ap (λ (t : TagValue). set (seated_tags b.parts b.items) b.number t) (seated_as_is n.new) in
     ap (λ m. floor_of n.after (set b.seated m n.new)) same
     ∙ ap (λ (l : List TagValue). floor_of n.after l) seats_are
     ∙ ap (λ (l : List (Option Participation)). floor_of l (set b.items b.number n.new)) after_is
@@ -331,7 +331,7 @@ becomes_seated b n at same =
     subst (λ m. AreSeated n.after (set b.seated m n.new)) (sym same) (then_seated b n)
 
 -- slot counters were counted down
-pub counted_tags : (session : ℕ) (parts : List (Option Participation)) (seats : List TagValue) → tags_of (map (counted_down session) parts) seats ≡ tags_of (map (counted_down session) parts) (tags_of parts seats)
+pub counted_tags : (session : ℕ) (parts : List (Option Participation)) (seats : List TagValue) → seated_tags (map (counted_down session) parts) seats ≡ seated_tags (map (counted_down session) parts) (seated_tags parts seats)
 counted_tags session [] seats = refl
 counted_tags session (part ∷ parts) [] = refl
 counted_tags session (part ∷ parts) (seat ∷ seats) = rw (← reseated session part seat, ← counted_tags session parts seats) refl

@@ -24,8 +24,8 @@ answer_of replied = record { number = replied.number; extended = replied.sent.ex
 abbrev pub answers_of : List Replied → List AnswerValue
 answers_of replies = map answer_of replies
 
-abbrev pub value_of : Answer → AnswerValue
-value_of answer = record { number = answer.number; extended = answer.extended; bits = answer.bits.now }
+abbrev pub answer_value_of : Answer → AnswerValue
+answer_value_of answer = record { number = answer.number; extended = answer.extended; bits = answer.bits.now }
 
 -- an answer whose bits stand between two places of a list
 abbrev pub answer_kept : List Bool → Kept → AnswerValue
@@ -35,10 +35,10 @@ abbrev pub answers_kept : List Bool → List Kept → List AnswerValue
 answers_kept bits kept = map (answer_kept bits) kept
 
 -- the most bits that an answer has
-abbrev pub most_bits : ℕ
-most_bits = 8240
+abbrev pub most_answer_bits : ℕ
+most_answer_bits = 8240
 
 -- each answer stands among the bits, of which there are no more than the longest answers have
 pub record AreKept (bits : List Bool) (kept : List Kept) : Type 0 where
-  pub short : length bits ≤ most_bits * length kept
+  pub short : length bits ≤ most_answer_bits * length kept
   pub inside : All (λ one. (one.start ≤ one.end) × (one.end ≤ length bits)) kept

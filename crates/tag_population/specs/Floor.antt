@@ -22,9 +22,9 @@ abbrev pub no_tag : TagValue
 no_tag = new_tag (record { reserved = []; epc = []; tid = []; user = [] }) (locks_of 0) []
 
 -- the tag in a seat
-abbrev pub tag_in : Option AnyTag → TagValue
-tag_in None = no_tag
-tag_in (Some tag) = tag_value_of tag
+abbrev pub seated_tag : Option AnyTag → TagValue
+seated_tag None = no_tag
+seated_tag (Some tag) = tag_value_of tag
 
 -- a state with another slot counter, where it has one
 abbrev pub with_slot : ℕ → StateValue → StateValue
@@ -43,10 +43,10 @@ tag_seated None seat = seat
 tag_seated (Some (Waits session slot)) seat = record seat { state = with_slot slot seat.state }
 tag_seated (Some Called) seat = seat
 
-abbrev pub tags_of : List (Option Participation) → List TagValue → List TagValue
-tags_of [] seats = []
-tags_of (participation ∷ participations) [] = []
-tags_of (participation ∷ participations) (seat ∷ seats) = tag_seated participation seat ∷ tags_of participations seats
+abbrev pub seated_tags : List (Option Participation) → List TagValue → List TagValue
+seated_tags [] seats = []
+seated_tags (participation ∷ participations) [] = []
+seated_tags (participation ∷ participations) (seat ∷ seats) = tag_seated participation seat ∷ seated_tags participations seats
 
 -- how a tag takes part in its state: it waits in arbitrate, and is called beyond that
 abbrev pub participation_in : StateValue → Option Participation
@@ -84,7 +84,7 @@ calling floor number = record { tags = floor.tags; parts = slice_set floor.parts
 
 -- the slot counters of a session were counted down
 abbrev pub counted_floor : ℕ → FloorValue → FloorValue
-counted_floor session floor = record { tags = tags_of (map (counted_down session) floor.parts) floor.tags; parts = map (counted_down session) floor.parts }
+counted_floor session floor = record { tags = seated_tags (map (counted_down session) floor.parts) floor.tags; parts = map (counted_down session) floor.parts }
 
 -- seats after the slot counter of a tag was written back into its own
 abbrev pub seats_written_back : List (Option Participation) → ℕ → List TagValue → List TagValue

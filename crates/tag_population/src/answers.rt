@@ -6,7 +6,7 @@ ghost use Rattle.tag_machine.specs.Exchange.{reply_of};
 ghost use Rattle.tag_machine.specs.Hearing.{tag_value_of};
 ghost use Rattle.tag_machine.specs.Step.{step};
 ghost use Rattle.tag_machine.specs.TagValue.{IsLegalTag};
-ghost use Rattle.tag_population.specs.Answers.{AreKept, answers_kept, answers_of, most_bits, value_of};
+ghost use Rattle.tag_population.specs.Answers.{AreKept, answers_kept, answers_of, most_answer_bits, answer_value_of};
 
 use air_events::TagNumber;
 use bit_strings::{Bits, OutOfMemory};
@@ -55,13 +55,15 @@ pub struct Answers {
 impl Model for Answers {
     ghost use Rattle.std.specs.Prelude.{◌≡◌, ◌*◌, ◌≤◌};
     ghost use Rattle.reply_grammar.specs.Table.{reply_room};
-    ghost use Rattle.tag_population.specs.Answers.{AnswersValue, AreKept, answers_kept, most_bits};
+    ghost use Rattle.tag_population.specs.Answers.{AnswersValue, AreKept, answers_kept, most_answer_bits};
 
     ghost Value = { AnswersValue };
 
     ghost view = { λ a. record { items = answers_kept a.bits.items a.kept.items; tags = a.kept.capacity } };
 
-    ghost invariant = { λ a. AreKept a.bits.items a.kept.items × (a.bits.capacity ≡ most_bits * a.kept.capacity) × (reply_room ≤ a.room.capacity) × (a.room.capacity ≤ most_bits) };
+    ghost invariant = { λ a. AreKept a.bits.items a.kept.items
+        × (a.bits.capacity ≡ most_answer_bits * a.kept.capacity) × (reply_room ≤ a.room.capacity)
+        × (a.room.capacity ≤ most_answer_bits) };
 }
 
 impl Answers {
@@ -87,7 +89,7 @@ impl Answers {
 
     /// The answer at a place, counted from 0; none past the end.
     pub fn get(&self, at: u32) -> Option<Answer<'_>>
-        ensures { option_map value_of result ≡ slice_get self.now.items at }
+        ensures { option_map answer_value_of result ≡ slice_get self.now.items at }
     {
         let kept = *self.kept.get(at)?;
         Some(Answer {
@@ -114,8 +116,14 @@ impl Answers {
         steps: &mut Steps<L>,
     ) -> AnyTag
         requires room { length self.old.items < self.old.tags }
-        ensures tag { tag_value_of result ≡ (step command.now (tag_value_of tag).state (tag_value_of tag).body).tag }
-        ensures answers { self.new ≡ record self.old { items = self.old.items ++ answers_of (reply_of number (step command.now (tag_value_of tag).state (tag_value_of tag).body).answer) } }
+        ensures tag { tag_value_of result
+            ≡ (step command.now (tag_value_of tag).state (tag_value_of tag).body).tag }
+        ensures answers { self.new
+            ≡ record self.old {
+              items = self.old.items
+                  ++ answers_of (reply_of number
+                  (step command.now (tag_value_of tag).state (tag_value_of tag).body).answer);
+            } }
         ensures legal { IsLegalTag (tag_value_of result) }
         ensures counted { steps.new ≡ steps.old + 1 }
     {
@@ -132,11 +140,13 @@ impl Answers {
 /// Keeps an answer with these bits behind those that are kept.
 fn keep(number: TagNumber, extended: bool, answer: &Bits, bits: &mut Bits, kept: &mut Bounded<Kept>)
     requires are { AreKept bits.old.items kept.old.items }
-    requires room { bits.old.capacity ≡ most_bits * kept.old.capacity }
+    requires room { bits.old.capacity ≡ most_answer_bits * kept.old.capacity }
     requires free { length kept.old.items < kept.old.capacity }
-    requires short { answer.now.capacity ≤ most_bits }
+    requires short { answer.now.capacity ≤ most_answer_bits }
     ensures are { AreKept bits.new.items kept.new.items }
-    ensures answers { answers_kept bits.new.items kept.new.items ≡ answers_kept bits.old.items kept.old.items ++ record { number = number; extended = extended; bits = answer.now.items } ∷ [] }
+    ensures answers { answers_kept bits.new.items kept.new.items
+        ≡ answers_kept bits.old.items kept.old.items
+        ++ record { number = number; extended = extended; bits = answer.now.items } ∷ [] }
     ensures bits { bits.new.capacity ≡ bits.old.capacity }
     ensures kept { kept.new.capacity ≡ kept.old.capacity }
 {

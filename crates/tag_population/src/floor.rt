@@ -33,11 +33,11 @@ pub(crate) struct Floor {
 }
 
 impl Model for Floor {
-    ghost use Rattle.tag_population.specs.Floor.{AreSeated, FloorValue, tags_of};
+    ghost use Rattle.tag_population.specs.Floor.{AreSeated, FloorValue, seated_tags};
 
     ghost Value = { FloorValue };
 
-    ghost view = { λ a. record { tags = tags_of a.waiting a.seats.items; parts = a.waiting } };
+    ghost view = { λ a. record { tags = seated_tags a.waiting a.seats.items; parts = a.waiting } };
 
     ghost invariant = { λ a. AreSeated a.waiting a.seats.items };
 }
@@ -46,7 +46,9 @@ impl Floor {
     /// These tags, in this order, each of which takes part as its state says.
     pub(crate) fn new(alloc: Global, tags: Vec<AnyTag>) -> Result<Floor, OutOfMemory>
         requires few { vec_len tags ≤ most_tags }
-        ensures { IfOk result (λ floor. (floor.tags ≡ map tag_value_of tags.items) × (floor.parts ≡ participations_of floor.tags)) }
+        ensures { IfOk result
+            (λ floor. (floor.tags ≡ map tag_value_of tags.items)
+            × (floor.parts ≡ participations_of floor.tags)) }
     {
         let seats = seats_of(alloc, tags)?;
         let mut waiting = Waiting::new(alloc, seats.len())?;
@@ -85,7 +87,10 @@ impl Floor {
         steps: &mut Steps<L>,
     )
         requires { number < length self.old.tags }
-        ensures floor { self.new ≡ became self.old number (tag_after_event event (get_or self.old.tags number no_tag).state (get_or self.old.tags number no_tag).body) }
+        ensures floor { self.new
+            ≡ became self.old number
+            (tag_after_event event (get_or self.old.tags number no_tag).state
+            (get_or self.old.tags number no_tag).body) }
         ensures counted { steps.new ≤ steps.old + 1 }
     {
         write_back(self.seats.as_mut_slice(), &self.waiting, number, steps);
@@ -107,9 +112,17 @@ impl Floor {
     )
         requires number { number < length self.old.tags }
         requires room { length answers.old.items < answers.old.tags }
-        ensures floor { self.new ≡ became self.old number (outcome_unless misses command.now (get_or self.old.tags number no_tag)).tag }
-        ensures answers { answers.new ≡ record answers.old { items = answers.old.items ++ answers_of (reply_of number (outcome_unless misses command.now (get_or self.old.tags number no_tag)).answer) } }
-        ensures counted { steps.new ≤ steps.old + 1 + steps_back (participation_at self.old.parts number) }
+        ensures floor { self.new
+            ≡ became self.old number
+            (outcome_unless misses command.now (get_or self.old.tags number no_tag)).tag }
+        ensures answers { answers.new
+            ≡ record answers.old {
+              items = answers.old.items
+                  ++ answers_of (reply_of number
+                  (outcome_unless misses command.now (get_or self.old.tags number no_tag)).answer);
+            } }
+        ensures counted { steps.new ≤ steps.old + 1
+            + steps_back (participation_at self.old.parts number) }
     {
         write_back(self.seats.as_mut_slice(), &self.waiting, number, steps);
         let at = number.index();
@@ -123,7 +136,8 @@ impl Floor {
     pub(crate) fn call<L: Ledger>(&mut self, number: TagNumber, steps: &mut Steps<L>)
         requires { number < length self.old.tags }
         ensures floor { self.new ≡ calling self.old number }
-        ensures counted { steps.new ≤ steps.old + steps_back (participation_at self.old.parts number) }
+        ensures counted { steps.new ≤ steps.old
+            + steps_back (participation_at self.old.parts number) }
     {
         write_back(self.seats.as_mut_slice(), &self.waiting, number, steps);
         self.waiting.put(number, Some(Participation::Called));

@@ -117,10 +117,17 @@ impl Population {
         requires room { length self.old ≤ answers.old.tags }
         ensures tags { self.new ≡ tags_after (hearing_from 0 command.now entry.now self.old) }
         ensures count { length self.new ≡ length self.old }
-        ensures answers { answers.new ≡ record answers.old { items = answers_of (replies_from 0 (hearing_from 0 command.now entry.now self.old)) } }
-        ensures sent { All (λ replied. IsSent (Some replied.sent)) (replies_from 0 (hearing_from 0 command.now entry.now self.old)) }
+        ensures answers { answers.new
+            ≡ record answers.old {
+              items = answers_of
+                  (replies_from 0 (hearing_from 0 command.now entry.now self.old));
+            } }
+        ensures sent { All
+            (λ replied. IsSent (Some replied.sent))
+            (replies_from 0 (hearing_from 0 command.now entry.now self.old)) }
         ensures counted { steps.new ≤ steps.old + 2 * length self.old }
-        ensures bound { IsQueryRep command.now → steps.new ≤ steps.old + 2 * busy_from 0 command.now entry.now self.old }
+        ensures bound { IsQueryRep command.now
+            → steps.new ≤ steps.old + 2 * busy_from 0 command.now entry.now self.old }
         ensures legal { AreLegalTags self.new }
     {
         let _few = self.floor.len();
@@ -156,7 +163,8 @@ fn hear<L: Ledger>(
     requires room { length floor.old.tags ≤ answers.old.tags }
     ensures heard { HearsAll command.now entry.now floor.old floor.new answers.old answers.new }
     ensures counted { steps.new ≤ steps.old + 2 * length floor.old.tags }
-    ensures bound { IsQueryRep command.now → steps.new ≤ steps.old + 2 * busy_from 0 command.now entry.now floor.old.tags }
+    ensures bound { IsQueryRep command.now
+        → steps.new ≤ steps.old + 2 * busy_from 0 command.now entry.now floor.old.tags }
 {
     if let Command::QueryRep { session } = command {
         hear_query_rep(floor, *session, command, entry, missed, answers, steps);
@@ -198,8 +206,10 @@ fn call_hearers<L: Ledger>(floor: &mut Floor, session: Session, entry: &Entry, s
     requires few { length floor.old.tags ≤ most_tags }
     requires missed { All (λ tag. tag < length floor.old.tags) entry.now.missed }
     ensures called { AreCalledFor (Command.QueryRep session) entry.now floor.old floor.new }
-    ensures counted { steps.new + called_in floor.old.parts ≤ steps.old + called_in floor.new.parts }
-    ensures bound { called_in floor.new.parts ≤ busy_from 0 (Command.QueryRep session) entry.now floor.old.tags }
+    ensures counted { steps.new + called_in floor.old.parts ≤ steps.old
+        + called_in floor.new.parts }
+    ensures bound { called_in floor.new.parts
+        ≤ busy_from 0 (Command.QueryRep session) entry.now floor.old.tags }
 {
     call_missed(floor, session, entry, steps);
     call_due(floor, session, steps);
@@ -211,7 +221,9 @@ fn call_missed<L: Ledger>(floor: &mut Floor, session: Session, entry: &Entry, st
     requires whole { length floor.old.parts ≡ length floor.old.tags }
     requires few { length floor.old.tags ≤ most_tags }
     requires missed { All (λ tag. tag < length floor.old.tags) entry.now.missed }
-    ensures called { (number : ℕ) → IsMissedCalled session (is_missed number entry.now) (participation_at floor.old.parts number) (participation_at floor.new.parts number) }
+    ensures called { (number : ℕ)
+        → IsMissedCalled session (is_missed number entry.now)
+        (participation_at floor.old.parts number) (participation_at floor.new.parts number) }
     ensures calls { CallsTags floor.old steps.old floor.new steps.new }
 {
     for &number in entry.missed.as_slice() {
@@ -225,7 +237,9 @@ fn call_missed<L: Ledger>(floor: &mut Floor, session: Session, entry: &Entry, st
 /// Calls the tags whose slot comes next in a session.
 fn call_due<L: Ledger>(floor: &mut Floor, session: Session, steps: &mut Steps<L>)
     requires whole { length floor.old.parts ≡ length floor.old.tags }
-    ensures called { (number : ℕ) → IsDueCalled session (participation_at floor.old.parts number) (participation_at floor.new.parts number) }
+    ensures called { (number : ℕ)
+        → IsDueCalled session (participation_at floor.old.parts number)
+        (participation_at floor.new.parts number) }
     ensures calls { CallsTags floor.old steps.old floor.new steps.new }
 {
     while let Some(number) = floor.due(session) {
@@ -245,7 +259,8 @@ fn hear_each<L: Ledger>(
     requires of { IsSetOf missed.now entry.now.missed }
     requires none { answers.old.items ≡ [] }
     requires room { length floor.old.tags ≤ answers.old.tags }
-    ensures heard { HeardEach (outcome_each command.now entry.now floor.old) floor.old floor.new answers.new.items }
+    ensures heard { HeardEach
+        (outcome_each command.now entry.now floor.old) floor.old floor.new answers.new.items }
     ensures tags { answers.new.tags ≡ answers.old.tags }
     ensures counted { steps.new ≤ steps.old + 2 * length floor.old.tags }
 {
@@ -270,7 +285,8 @@ fn hear_called<L: Ledger>(
     requires room { length floor.old.tags ≤ answers.old.tags }
     requires whole { length floor.old.parts ≡ length floor.old.tags }
     requires uncalled { AreUncalledSettled floor.old }
-    ensures heard { HeardEach (outcome_called command.now entry.now floor.old) floor.old floor.new answers.new.items }
+    ensures heard { HeardEach
+        (outcome_called command.now entry.now floor.old) floor.old floor.new answers.new.items }
     ensures tags { answers.new.tags ≡ answers.old.tags }
     ensures counted { steps.new ≤ steps.old + called_in floor.old.parts }
 {

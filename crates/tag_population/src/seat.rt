@@ -27,14 +27,14 @@ pub(crate) struct Seat {
 
 impl Model for Seat {
     ghost use Rattle.tag_machine.specs.TagValue.{TagValue, IsLegalTag};
-    ghost use Rattle.tag_population.specs.Floor.{tag_in};
+    ghost use Rattle.tag_population.specs.Floor.{seated_tag};
     ghost use Rattle.std.specs.Prelude.{IsSome};
 
     ghost Value = { TagValue };
 
-    ghost view = { λ a. tag_in a.tag };
+    ghost view = { λ a. seated_tag a.tag };
 
-    ghost invariant = { λ a. IsSome a.tag × IsLegalTag (tag_in a.tag) };
+    ghost invariant = { λ a. IsSome a.tag × IsLegalTag (seated_tag a.tag) };
 }
 
 impl Seat {
@@ -108,7 +108,11 @@ impl Seat {
     )
         requires room { length answers.old.items < answers.old.tags }
         ensures tag { self.new ≡ (outcome_unless misses command.now self.old).tag }
-        ensures answers { answers.new ≡ record answers.old { items = answers.old.items ++ answers_of (reply_of number (outcome_unless misses command.now self.old).answer) } }
+        ensures answers { answers.new
+            ≡ record answers.old {
+              items = answers.old.items
+                  ++ answers_of (reply_of number (outcome_unless misses command.now self.old).answer);
+            } }
         ensures legal { IsLegalTag self.new }
         ensures counted { steps.new ≤ steps.old + 1 }
     {
@@ -129,10 +133,12 @@ impl Seat {
         misses: bool,
         steps: &mut Steps<L>,
     ) -> bool
-        ensures heard { result ≡ true → outcome_unless misses command.now self.old ≡ silent self.new.state self.new.body }
+        ensures heard { result ≡ true
+            → outcome_unless misses command.now self.old ≡ silent self.new.state self.new.body }
         ensures left { result ≡ false → self.new ≡ self.old }
         ensures reached { result ≡ false → misses ≡ false }
-        ensures counted { steps.new ≡ steps.old + (if result then (if misses then 0 else 1) else 0) }
+        ensures counted { steps.new ≡ steps.old
+            + (if result then (if misses then 0 else 1) else 0) }
         ensures legal { IsLegalTag self.new }
     {
         let Some(tag) = &mut self.tag else {
@@ -161,7 +167,8 @@ fn wait_of(tag: &AnyTag) -> Participation
 fn set_slot<L: Ledger>(tag: &mut AnyTag, slot: u16, steps: &mut Steps<L>)
     requires slot { slot < 32768 }
     requires waits { typed_name_of tag.old ≡ StateName.Arbitrate }
-    ensures tag { tag_value_of tag.new ≡ record (tag_value_of tag.old) { state = with_slot slot (tag_value_of tag.old).state } }
+    ensures tag { tag_value_of tag.new
+        ≡ record (tag_value_of tag.old) { state = with_slot slot (tag_value_of tag.old).state } }
     ensures counted { steps.new ≡ steps.old + 1 }
 {
     match tag {

@@ -1,7 +1,7 @@
 -- So many fields are left as are still wanted.
 use Rattle.std.proofs.Common.{◌≡◌, ◌+◌, ◌<◌, ℕ, zero, suc, List, [], ◌∷◌, refl, arith}
 use Rattle.text_fields.specs.NamedFields.{AreFilled}
-use Rattle.text_fields.specs.laws.FilledFields.{Filled, one_less, one_more}
+use Rattle.text_fields.proofs.FilledFields.{Filled, one_less, one_more}
 
 -- of so many fields some were read, and all are so many and filled exactly where those that are left are as many as are still wanted, and filled
 pub record StillWanted (read count : ℕ) (fields left : List (List ℕ)) : Type 0 where

@@ -28,7 +28,8 @@ impl<'a> Model for Digits<'a> {
 
     ghost view = { λ a. bits_of_digits a.digits.now };
 
-    ghost invariant = { λ a. AllPass is_binary_digit a.digits.now × (length a.digits.now < 2 ^ 32) };
+    ghost invariant = { λ a. AllPass is_binary_digit a.digits.now
+        × (length a.digits.now < 2 ^ 32) };
 }
 
 /// Whether a byte is one of the digits 0 and 1.
@@ -55,7 +56,8 @@ fn is_binary(digits: &[u8]) -> bool
 /// where the field is empty.
 pub fn list_digits(field: &[u8]) -> Option<&[u8]>
     ensures value { IfSome result (λ digits. field.now ≡ or_hyphen digits.now) }
-    ensures only { (digits : List ℕ) → digits ≢ hyphen ∷ [] → field.now ≡ or_hyphen digits → IsSomeAnd result (λ it. it.now ≡ digits) }
+    ensures only { (digits : List ℕ) → digits ≢ hyphen ∷ [] → field.now ≡ or_hyphen digits
+        → IsSomeAnd result (λ it. it.now ≡ digits) }
 {
     match field {
         [] => None,
@@ -69,7 +71,8 @@ impl<'a> Digits<'a> {
     /// most `most` bits.
     pub fn new(field: &'a [u8], most: u32) -> Option<Digits<'a>>
         ensures value { IfSome result (λ bits. (field.now ≡ binary bits) × (length bits ≤ most)) }
-        ensures only { (bits : List Bool) → length bits ≤ most → field.now ≡ binary bits → IsSomeAnd result (λ it. it ≡ bits) }
+        ensures only { (bits : List Bool) → length bits ≤ most → field.now ≡ binary bits
+            → IsSomeAnd result (λ it. it ≡ bits) }
     {
         let digits = list_digits(field)?;
         if digits.len() > most as usize || !is_binary(digits) {
@@ -129,7 +132,8 @@ pub fn push_bits(text: &mut String, bits: &[bool]) -> Result<(), OutOfMemory>
 /// Writes bits in binary digits at the end of the text. It is a call of its own, so that a hyphen takes none.
 #[inline(never)]
 fn push_parts(text: &mut String, bits: &[bool]) -> Result<(), OutOfMemory>
-    ensures { OnOk result (string_bytes text.new ≡ string_bytes text.old ++ map binary_digit bits.now) }
+    ensures { OnOk result (string_bytes text.new ≡ string_bytes text.old
+        ++ map binary_digit bits.now) }
 {
     let mut rest = bits;
     while let Some((part, behind)) = rest.split_first_chunk::<TOGETHER>() {
@@ -141,7 +145,8 @@ fn push_parts(text: &mut String, bits: &[bool]) -> Result<(), OutOfMemory>
 
 /// Writes [`TOGETHER`] bits in binary digits at the end of the text.
 fn push_whole_part(text: &mut String, bits: &[bool; TOGETHER]) -> Result<(), OutOfMemory>
-    ensures { OnOk result (string_bytes text.new ≡ string_bytes text.old ++ map binary_digit bits.now) }
+    ensures { OnOk result (string_bytes text.new ≡ string_bytes text.old
+        ++ map binary_digit bits.now) }
 {
     let mut digits = [b'0'; TOGETHER];
     write_digits(bits, &mut digits);
@@ -151,7 +156,8 @@ fn push_whole_part(text: &mut String, bits: &[bool; TOGETHER]) -> Result<(), Out
 /// Writes at most [`TOGETHER`] bits in binary digits at the end of the text.
 fn push_part(text: &mut String, bits: &[bool]) -> Result<(), OutOfMemory>
     requires { length bits.now ≤ TOGETHER }
-    ensures { OnOk result (string_bytes text.new ≡ string_bytes text.old ++ map binary_digit bits.now) }
+    ensures { OnOk result (string_bytes text.new ≡ string_bytes text.old
+        ++ map binary_digit bits.now) }
 {
     let mut room = [b'0'; TOGETHER];
     let digits = &mut room[..bits.len()];

@@ -6,8 +6,10 @@ use crate::fields::Fields;
 
 /// The next field, where one is left and it is not empty. After none no more is known of what is left.
 pub(crate) fn filled_field<'a>(fields: &mut Fields<'a>) -> Option<&'a [u8]>
-    ensures value { IfSome result (λ field. (fields.old ≡ field.now ∷ fields.new) × (field.now ≢ [])) }
-    ensures only { (field : List ℕ) → (rest : List (List ℕ)) → fields.old ≡ field ∷ rest → field ≢ []
+    ensures value { IfSome result
+        (λ field. (fields.old ≡ field.now ∷ fields.new) × (field.now ≢ [])) }
+    ensures only { (field : List ℕ) → (rest : List (List ℕ)) → fields.old ≡ field ∷ rest
+        → field ≢ []
         → IsSomeAnd result (λ it. it.now ≡ field) × (fields.new ≡ rest) }
 {
     let field = fields.next()?;
@@ -37,7 +39,8 @@ pub fn are_filled(fields: &Fields, count: u32) -> bool
 /// The field that is left; none exactly where not one field is left, or it is empty.
 pub fn one_field<'a>(mut fields: Fields<'a>) -> Option<&'a [u8]>
     ensures value { IfSome result (λ it. (fields.entry ≡ it.now ∷ []) × (it.now ≢ [])) }
-    ensures only { (a : List ℕ) → fields.entry ≡ a ∷ [] → a ≢ [] → IsSomeAnd result (λ it. it.now ≡ a) }
+    ensures only { (a : List ℕ) → fields.entry ≡ a ∷ [] → a ≢ []
+        → IsSomeAnd result (λ it. it.now ≡ a) }
 {
     let first = filled_field(&mut fields)?;
     if is_at_end(fields) { Some(first) } else { None }
@@ -45,7 +48,8 @@ pub fn one_field<'a>(mut fields: Fields<'a>) -> Option<&'a [u8]>
 
 /// The two fields that are left; none exactly where not two are left, or one of them is empty.
 pub fn two_fields<'a>(mut fields: Fields<'a>) -> Option<(&'a [u8], &'a [u8])>
-    ensures value { IfSome result (λ it. (fields.entry ≡ it.0.now ∷ it.1.now ∷ []) × (it.0.now ≢ []) × (it.1.now ≢ [])) }
+    ensures value { IfSome result
+        (λ it. (fields.entry ≡ it.0.now ∷ it.1.now ∷ []) × (it.0.now ≢ []) × (it.1.now ≢ [])) }
     ensures only { (a b : List ℕ) → fields.entry ≡ a ∷ b ∷ [] → a ≢ [] → b ≢ []
         → IsSomeAnd result (λ it. (it.0.now ≡ a) × (it.1.now ≡ b)) }
 {
@@ -68,10 +72,13 @@ pub fn three_fields<'a>(mut fields: Fields<'a>) -> Option<(&'a [u8], &'a [u8], &
 
 /// The four fields that are left; none exactly where not four are left, or one of them is empty.
 pub fn four_fields<'a>(mut fields: Fields<'a>) -> Option<(&'a [u8], &'a [u8], &'a [u8], &'a [u8])>
-    ensures value { IfSome result (λ it. (fields.entry ≡ it.0.now ∷ it.1.now ∷ it.2.now ∷ it.3.now ∷ [])
+    ensures value { IfSome result
+        (λ it. (fields.entry ≡ it.0.now ∷ it.1.now ∷ it.2.now ∷ it.3.now ∷ [])
         × (it.0.now ≢ []) × (it.1.now ≢ []) × (it.2.now ≢ []) × (it.3.now ≢ [])) }
-    ensures only { (a b c d : List ℕ) → fields.entry ≡ a ∷ b ∷ c ∷ d ∷ [] → a ≢ [] → b ≢ [] → c ≢ [] → d ≢ []
-        → IsSomeAnd result (λ it. (it.0.now ≡ a) × (it.1.now ≡ b) × (it.2.now ≡ c) × (it.3.now ≡ d)) }
+    ensures only { (a b c d : List ℕ) → fields.entry ≡ a ∷ b ∷ c ∷ d ∷ [] → a ≢ [] → b ≢ [] → c ≢ []
+        → d ≢ []
+        → IsSomeAnd result
+        (λ it. (it.0.now ≡ a) × (it.1.now ≡ b) × (it.2.now ≡ c) × (it.3.now ≡ d)) }
 {
     let first = filled_field(&mut fields)?;
     let (second, third, fourth) = three_fields(fields)?;

@@ -42,7 +42,7 @@ impl<'a> Fields<'a> {
     }
 
     /// The part of the line that has the fields that are left; none exactly where no field is left.
-    #[tactic(auto, using(crate::specs::laws::LineLaws::some_piece))]
+    #[tactic(auto, using(crate::proofs::LineLaws::some_piece))]
     pub fn into_rest(self) -> Option<&'a [u8]>
         ensures value { IfSome result (λ line. self.entry ≡ fields_of line.now) }
         ensures none { IsNone result ↔ (self.entry ≡ []) }

@@ -47,8 +47,11 @@ impl<'a> HexBytes<'a> {
     /// bytes.
     #[tactic(auto, using(crate::proofs::HexText::text))]
     pub fn new(field: &'a [u8], most: u32) -> Option<HexBytes<'a>>
-        ensures value { IfSome result (λ bytes. (decode_of field.now ≡ Ok bytes) × (1 ≤ length bytes) × (length bytes ≤ most)) }
-        ensures only { (bytes : List ℕ) → decode_of field.now ≡ Ok bytes → 1 ≤ length bytes → length bytes ≤ most → IsSomeAnd result (λ it. it ≡ bytes) }
+        ensures value { IfSome result
+            (λ bytes. (decode_of field.now ≡ Ok bytes) × (1 ≤ length bytes)
+            × (length bytes ≤ most)) }
+        ensures only { (bytes : List ℕ) → decode_of field.now ≡ Ok bytes → 1 ≤ length bytes
+            → length bytes ≤ most → IsSomeAnd result (λ it. it ≡ bytes) }
     {
         let count = field.len() / 2;
         if count < 1 || count > most as usize || field.len() % 2 == 1 || !is_hexadecimal(field) {

@@ -62,7 +62,8 @@ const PART: usize = 16;
 /// Writes at most [`PART`] words in hexadecimal digits at the end of the text.
 fn push_part(text: &mut String, words: &[u16]) -> Result<(), OutOfMemory>
     requires { length words.now ≤ PART }
-    ensures { OnOk result (string_bytes text.new ≡ string_bytes text.old ++ flat_map hex_word words.now) }
+    ensures { OnOk result (string_bytes text.new ≡ string_bytes text.old
+        ++ flat_map hex_word words.now) }
 {
     let mut bytes = [[0; 2]; PART];
     let mut digits = [b'0'; 4 * PART];
@@ -85,7 +86,8 @@ fn write_bytes(words: &[u16], bytes: &mut [[u8; 2]])
 
 /// Writes words in hexadecimal digits at the end of the text.
 fn push_parts(text: &mut String, words: &[u16]) -> Result<(), OutOfMemory>
-    ensures { OnOk result (string_bytes text.new ≡ string_bytes text.old ++ flat_map hex_word words.now) }
+    ensures { OnOk result (string_bytes text.new ≡ string_bytes text.old
+        ++ flat_map hex_word words.now) }
 {
     let mut rest = words;
     while !rest.is_empty() {

@@ -21,7 +21,8 @@ pub fn push_next_name(text: &mut String, name: &str) -> Result<(), OutOfMemory>
 
 /// Writes a number as the next field, in decimal digits. After an error the text may hold a part of it.
 pub fn push_next_number(text: &mut String, number: u32) -> Result<(), OutOfMemory>
-    ensures { OnOk result (string_bytes text.new ≡ string_bytes text.old ++ space ∷ decimal number) }
+    ensures { OnOk result (string_bytes text.new ≡ string_bytes text.old
+        ++ space ∷ decimal number) }
 {
     text.push(' ')?;
     push_number(text, number)
@@ -30,7 +31,8 @@ pub fn push_next_number(text: &mut String, number: u32) -> Result<(), OutOfMemor
 /// Writes a number of 64 bits as the next field, in decimal digits. After an error the text may hold a
 /// part of it.
 pub fn push_next_long_number(text: &mut String, number: u64) -> Result<(), OutOfMemory>
-    ensures { OnOk result (string_bytes text.new ≡ string_bytes text.old ++ space ∷ decimal number) }
+    ensures { OnOk result (string_bytes text.new ≡ string_bytes text.old
+        ++ space ∷ decimal number) }
 {
     text.push(' ')?;
     push_long_number(text, number)
@@ -38,7 +40,8 @@ pub fn push_next_long_number(text: &mut String, number: u64) -> Result<(), OutOf
 
 /// Writes numbers as the next fields, in decimal digits. After an error the text may hold a part of them.
 pub fn push_next_numbers(text: &mut String, numbers: &[u32]) -> Result<(), OutOfMemory>
-    ensures { OnOk result (string_bytes text.new ≡ string_bytes text.old ++ fields_behind (map decimal numbers.now)) }
+    ensures { OnOk result (string_bytes text.new ≡ string_bytes text.old
+        ++ fields_behind (map decimal numbers.now)) }
 {
     for number in numbers {
         push_next_number(text, *number)?;
@@ -57,7 +60,8 @@ pub fn push_next_word(text: &mut String, word: u16) -> Result<(), OutOfMemory>
 /// Writes words as the next field, in hexadecimal digits, or a hyphen for none. After an error the text
 /// may hold a part of them.
 pub fn push_next_words(text: &mut String, words: &[u16]) -> Result<(), OutOfMemory>
-    ensures { OnOk result (string_bytes text.new ≡ string_bytes text.old ++ space ∷ hex_words words.now) }
+    ensures { OnOk result (string_bytes text.new ≡ string_bytes text.old
+        ++ space ∷ hex_words words.now) }
 {
     text.push(' ')?;
     push_words(text, words)
@@ -66,7 +70,8 @@ pub fn push_next_words(text: &mut String, words: &[u16]) -> Result<(), OutOfMemo
 /// Writes bits as the next field, in binary digits, or a hyphen for none. After an error the text may
 /// hold a part of them.
 pub fn push_next_bits(text: &mut String, bits: &[bool]) -> Result<(), OutOfMemory>
-    ensures { OnOk result (string_bytes text.new ≡ string_bytes text.old ++ space ∷ binary bits.now) }
+    ensures { OnOk result (string_bytes text.new ≡ string_bytes text.old
+        ++ space ∷ binary bits.now) }
 {
     text.push(' ')?;
     push_bits(text, bits)
@@ -75,7 +80,8 @@ pub fn push_next_bits(text: &mut String, bits: &[bool]) -> Result<(), OutOfMemor
 /// Writes a name and a number behind it, in decimal digits. After an error the text may hold a part of
 /// them.
 pub fn push_named_number(text: &mut String, name: &str, number: u32) -> Result<(), OutOfMemory>
-    ensures { OnOk result (string_bytes text.new ≡ string_bytes text.old ++ line_with (name.now ∷ decimal number ∷ [])) }
+    ensures { OnOk result (string_bytes text.new ≡ string_bytes text.old
+        ++ line_with (name.now ∷ decimal number ∷ [])) }
 {
     text.push_str(name)?;
     push_next_number(text, number)
@@ -84,7 +90,8 @@ pub fn push_named_number(text: &mut String, name: &str, number: u32) -> Result<(
 /// Writes a name and a word behind it, in hexadecimal digits. After an error the text may hold a part of
 /// them.
 pub fn push_named_word(text: &mut String, name: &str, word: u16) -> Result<(), OutOfMemory>
-    ensures { OnOk result (string_bytes text.new ≡ string_bytes text.old ++ line_with (name.now ∷ hex_word word ∷ [])) }
+    ensures { OnOk result (string_bytes text.new ≡ string_bytes text.old
+        ++ line_with (name.now ∷ hex_word word ∷ [])) }
 {
     text.push_str(name)?;
     push_next_word(text, word)

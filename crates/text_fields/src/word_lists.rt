@@ -63,8 +63,11 @@ impl<'a> Words<'a> {
     /// The words that a field spells; none exactly where the field isn't the spelling of a list of at
     /// most `most` words.
     pub fn new(field: &'a [u8], most: u32) -> Option<Words<'a>>
-        ensures value { IfSome result (λ words. (field.now ≡ hex_words words) × (length words ≤ most) × All (λ word. word < 2 ^ 16) words) }
-        ensures only { (words : List ℕ) → All (λ word. word < 2 ^ 16) words → length words ≤ most → field.now ≡ hex_words words
+        ensures value { IfSome result
+            (λ words. (field.now ≡ hex_words words) × (length words ≤ most)
+            × All (λ word. word < 2 ^ 16) words) }
+        ensures only { (words : List ℕ) → All (λ word. word < 2 ^ 16) words → length words ≤ most
+            → field.now ≡ hex_words words
             → IsSomeAnd result (λ it. it ≡ words) }
     {
         let digits = list_digits(field)?;

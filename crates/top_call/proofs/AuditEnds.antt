@@ -5,7 +5,7 @@ use Rattle.std.proofs.lemmas.List.Elements.{All-head, All-tail}
 use Rattle.std.specs.Prelude.{All, IfSome}
 use Rattle.air_audit.specs.AuditedTrace.{IsAudited}
 use Rattle.air_audit.specs.Auditing.{AreAsGiven, GivesStream}
-use Rattle.air_audit.specs.FirstRefusal.{IsVerdict}
+use Rattle.air_audit.specs.FirstRefusal.{IsAuditVerdict}
 use Rattle.air_audit.specs.OwnTraces.{HasNoEventStep}
 use Rattle.air_audit.specs.TraceBehind.{scenario_part, trace_part}
 use Rattle.air_audit.specs.VerdictText.{verdict_line}
@@ -18,7 +18,7 @@ use Rattle.air_model.specs.Past.{Start}
 use Rattle.air_world.proofs.Beginning.{scenario-few, scenario-names}
 use Rattle.report_lines.specs.declared.mode.Mode.TheVariants.{Trace}
 use Rattle.runs.specs.Report.{report_text_of}
-use Rattle.runs.specs.ScenarioStart.{start_of, tag_of}
+use Rattle.runs.specs.ScenarioStart.{start_of, scenario_tag}
 use Rattle.scenario.specs.Groups.{tags_of}
 use Rattle.scenario.specs.Limits.{IsEntry, IsScenario}
 use Rattle.scenario.specs.declared.values.Scenario.{Scenario}
@@ -35,7 +35,7 @@ use Rattle.top_call.proofs.RunEnds.{AreToldApart}
 
 -- what the law of verdicts says: no two verdicts on a trace are right
 abbrev pub HaveOneVerdict : Type 0
-HaveOneVerdict = (start : Start) (bytes : List ℕ) (one other : Verdict) → IsVerdict start bytes one → IsVerdict start bytes other → one ≡ other
+HaveOneVerdict = (start : Start) (bytes : List ℕ) (one other : Verdict) → IsAuditVerdict start bytes one → IsAuditVerdict start bytes other → one ≡ other
 
 said-once : HaveOneVerdict → (scenario : Scenario) (trace one other : List ℕ) → SaysEvent scenario one ⊎ SaysVerdict scenario trace one
     → SaysEvent scenario other ⊎ SaysVerdict scenario trace other → one ≡ other
@@ -72,7 +72,7 @@ streams-all tags (entry ∷ entries) are exchange =
 
 given : (scenario : Scenario) → IsScenario scenario → AreAsGiven (length (start_of scenario).tags) scenario.entries
 given scenario is = record {
-  few = omega (arith, length-map (tags_of scenario.groups) tag_of, scenario-few scenario is);
+  few = omega (arith, length-map (tags_of scenario.groups) scenario_tag, scenario-few scenario is);
   rises = is.rising;
   events = λ exchange. (scenario-names scenario is exchange).events;
   missed = λ exchange. (scenario-names scenario is exchange).missed;

@@ -2,7 +2,7 @@
 use Rattle.std.proofs.Common.{◌≡◌, ◌⊎◌, ◌+◌, ℕ, List, [], ◌∷◌, ◌++◌, get_or, inl, inr, arith, refl, sym, ap, ◌∙◌, subst}
 use Rattle.std.proofs.lemmas.List.{append-nil}
 use Rattle.air_audit.specs.AuditedTrace.{IsAudited}
-use Rattle.air_audit.specs.FirstRefusal.{IsVerdict}
+use Rattle.air_audit.specs.FirstRefusal.{IsAuditVerdict}
 use Rattle.air_audit.specs.OwnTraces.{HasNoEventStep, IsToldByLines}
 use Rattle.air_audit.specs.ReceivedLists.{ListsWhatIsReceived}
 use Rattle.air_audit.specs.TraceBehind.{scenario_part, trace_part}
@@ -38,7 +38,7 @@ pub record PromiseLaws : Type 0 where
 no-yes : (rest : List ℕ) → 110 ∷ rest ≡ verdict_line Yes → ⊥
 no-yes rest same = let letter : 110 ≡ 121 = ap (λ (bytes : List ℕ). get_or bytes 0 0) same in omega (arith, letter)
 
-audited : (start : Start) (trace : List ℕ) (verdict : Verdict) → IsVerdict start trace verdict → verdict_line verdict ≡ verdict_line Yes → IsAudited start trace
+audited : (start : Start) (trace : List ℕ) (verdict : Verdict) → IsAuditVerdict start trace verdict → verdict_line verdict ≡ verdict_line Yes → IsAudited start trace
 audited start trace Yes right same_line = right
 audited start trace (No number reason) right same_line = absurd (no-yes _ same_line)
 
@@ -56,8 +56,8 @@ said : PromiseLaws → (scenario : Scenario) (bytes text : List ℕ) → IsScena
 said laws scenario bytes text legal writes same same_line = elim writes.says [
   | inl event ↦ absurd (no-yes _ (sym event.line ∙ same_line))
   | inr verdict ↦
-      let of_it : IsVerdict (start_of scenario) (trace_part bytes) verdict.verdict =
-      subst (λ (s : Scenario). IsVerdict (start_of s) (trace_part bytes) verdict.verdict) same verdict.right in
+      let of_it : IsAuditVerdict (start_of scenario) (trace_part bytes) verdict.verdict =
+      subst (λ (s : Scenario). IsAuditVerdict (start_of s) (trace_part bytes) verdict.verdict) same verdict.right in
       laws.lists (start_of scenario) (trace_part bytes) (start-legal laws scenario legal)
       (audited (start_of scenario) (trace_part bytes) verdict.verdict of_it (sym verdict.line ∙ same_line))
 ]
@@ -83,7 +83,7 @@ abbrev pub HasText : List ℕ → Type 0
 HasText bytes = (text : List ℕ) × Defines audit_job bytes text
 
 text-of : (bytes : List ℕ) (scenario : Scenario) → IsScenario scenario → scenario_part bytes ≡ scenario_text scenario → HasNoEventStep scenario.steps ⊎ (¬ HasNoEventStep scenario.steps)
-    → ((verdict : Verdict) × IsVerdict (start_of scenario) (trace_part bytes) verdict) → HasText bytes
+    → ((verdict : Verdict) × IsAuditVerdict (start_of scenario) (trace_part bytes) verdict) → HasText bytes
 text-of bytes scenario legal spelled (inl told) verdict = (
   verdict_line verdict.0,
   inl (record { scenario = scenario; legal = legal; spelled = spelled; says = inr (record { told = told; verdict = verdict.0; right = verdict.1; line = refl }) }),
@@ -92,6 +92,6 @@ text-of bytes scenario legal spelled (inr untold) verdict =
     (event_line, inl (record { scenario = scenario; legal = legal; spelled = spelled; says = inl (record { untold = untold; line = refl }) }))
 
 pub some-text : (bytes : List ℕ) → IsText (scenario_part bytes) ⊎ ((number : ℕ) × (fault : Fault) × IsFirstFault (scenario_part bytes) number fault)
-    → ((start : Start) (trace : List ℕ) → (verdict : Verdict) × IsVerdict start trace verdict) → HasText bytes
+    → ((start : Start) (trace : List ℕ) → (verdict : Verdict) × IsAuditVerdict start trace verdict) → HasText bytes
 some-text bytes (inl text) verdicts = text-of bytes text.0 text.1 text.2 (told-or text.0.steps) (verdicts (start_of text.0) (trace_part bytes))
 some-text bytes (inr faulty) verdicts = (fault_line faulty.0 (fault_word faulty.1), inr (record { number = faulty.0; fault = faulty.1; first = faulty.2; line = refl }))

@@ -1,7 +1,7 @@
 -- How a run ends: what a failed write left, and which status an input that the grammar allows has.
 use Rattle.std.proofs.Common.{◌≡◌, ◌≢◌, ◌⊎◌, ℕ, ◌+◌, ◌≤◌, ◌<◌, Bool, List, ◌++◌, length, take, drop, Option, Some, None, Result, Err, true, false, [], refl, sym, ◌∙◌, ap, subst, arith, inl, inr, length-append}
 use Rattle.std.proofs.lemmas.List.{take-append-drop, append-nil}
-use Rattle.air_io.specs.Flow.{Reads, Adds, AtEnd, FaultsRose}
+use Rattle.air_io.specs.Flow.{TakesBytes, Adds, AtEnd, FaultsRose}
 use Rattle.top_call.specs.Job.{Job, Defines, IsLawful}
 use Rattle.top_call.specs.Outcome.{input_limit, ReadsWithin, TakesInput, AddsFront, EndsSo, SinkChange, SourceChange, Tells, WritesWhole, NothingFailed, WritesFront}
 use Rattle.top_call.specs.declared.ending.Wrote.{Wrote}
@@ -27,17 +27,17 @@ write_failed job bytes sink text end is named rose added =
     subst (EndsSo job bytes sink) (sym is) (rose, front)
 
 -- what was read of a source that tells what it has left is a front of that
-front_read : (told : List ℕ) (left' : Option (List ℕ)) (bytes : List ℕ) → Reads (Some told) left' bytes → (rest : List ℕ) × (told ≡ bytes ++ rest) × (left' ≡ Some rest)
+front_read : (told : List ℕ) (left' : Option (List ℕ)) (bytes : List ℕ) → TakesBytes (Some told) left' bytes → (rest : List ℕ) × (told ≡ bytes ++ rest) × (left' ≡ Some rest)
 front_read told None bytes reads = cc
 front_read told (Some rest) bytes reads = (rest, cc, refl)
 
 -- what was read to its end is all that was told
-all_read : (told : List ℕ) (left' : Option (List ℕ)) (bytes : List ℕ) → Reads (Some told) left' bytes → AtEnd left' → told ≡ bytes
+all_read : (told : List ℕ) (left' : Option (List ℕ)) (bytes : List ℕ) → TakesBytes (Some told) left' bytes → AtEnd left' → told ≡ bytes
 all_read told None bytes reads end = cc
 all_read told (Some rest) bytes reads end = let e : told ≡ bytes ++ rest = cc in e ∙ ap (λ r. bytes ++ r) end ∙ append-nil bytes
 
 -- and is no longer than the limit where that is not
-not_over : (told : List ℕ) (left' : Option (List ℕ)) (bytes : List ℕ) → Reads (Some told) left' bytes → length bytes ≡ input_limit + 1 → length told ≤ input_limit → ⊥
+not_over : (told : List ℕ) (left' : Option (List ℕ)) (bytes : List ℕ) → TakesBytes (Some told) left' bytes → length bytes ≡ input_limit + 1 → length told ≤ input_limit → ⊥
 not_over told left' bytes reads over few =
     let front = front_read told left' bytes reads in
     omega (arith, over, few, ap length front.1, length-append bytes front.0)

@@ -5,12 +5,12 @@ use Rattle.checked_lines.specs.TextRules.{IsFaultText}
 use Rattle.checked_lines.specs.declared.fault.FaultReason.{FaultReason}
 use Rattle.judge_lines.specs.Judged.{IsJudged}
 use Rattle.judge_lines.specs.LogText.{IsFirstFault, IsLogText, log_rules}
-use Rattle.judge_lines.specs.VerdictLine.{verdict_line}
+use Rattle.judge_lines.specs.VerdictLine.{line_of_verdict}
 use Rattle.log_verdicts.specs.Log.{AreDrawn, LogEntry, LoggedTag, tag_with}
 use Rattle.log_verdicts.specs.Verdicts.{IsVerdict, Verdict, Yes}
 use Rattle.log_verdicts.specs.laws.Logs.{Deed, log_made}
 use Rattle.text_fields.specs.FaultLine.{fault_line}
-use Rattle.top_call.specs.words.Judged.{IsSomeLog, Judges, SaysYesOfTags}
+use Rattle.top_call.specs.words.Judged.{IsSomeLog, TellsVerdict, SaysYesOfTags}
 
 -- what the laws of logs say: a log that bytes say has one verdict,
 abbrev pub HasOneVerdict : Type 0
@@ -28,9 +28,9 @@ HaveOneFault = (bytes : List ℕ) (one other : ℕ) (fault reason : FaultReason)
 abbrev pub AreExplained : Type 0
 AreExplained = (tag : LoggedTag) (words : List ℕ) (deeds : List Deed) → AreDrawn words → IsVerdict tag (log_made deeds (tag_with tag words)) Yes
 
-pub same_text : HasOneVerdict → (bytes one other : List ℕ) → Judges bytes one → Judges bytes other → one ≡ other
+pub same_text : HasOneVerdict → (bytes one other : List ℕ) → TellsVerdict bytes one → TellsVerdict bytes other → one ≡ other
 same_text once bytes one other left right =
-    left.line ∙ ap (λ (verdict : Verdict). verdict_line verdict) (once bytes left.verdict right.verdict left.judged right.judged) ∙ sym right.line
+    left.line ∙ ap (λ (verdict : Verdict). line_of_verdict verdict) (once bytes left.verdict right.verdict left.judged right.judged) ∙ sym right.line
 
 pub same_refusal : HaveOneFault → (bytes one other : List ℕ) → IsFaultText log_rules bytes one → IsFaultText log_rules bytes other → one ≡ other
 same_refusal one_fault bytes one other left right =
@@ -41,7 +41,7 @@ pub text_not_refused : AreNotFaulty → (bytes text : List ℕ) → IsSomeLog by
 text_not_refused not_faulty bytes text allowed refused =
     not_faulty bytes allowed.tag allowed.log refused.number refused.reason allowed.is refused.first
 
-pub says_yes : HasOneVerdict → AreExplained → (bytes text : List ℕ) → Judges bytes text → SaysYesOfTags bytes text
+pub says_yes : HasOneVerdict → AreExplained → (bytes text : List ℕ) → TellsVerdict bytes text → SaysYesOfTags bytes text
 says_yes once explained bytes text judges tag words deeds drawn is =
     let yes : IsJudged bytes Yes = record { tag = tag; log = log_made deeds (tag_with tag words); is = is; right = explained tag words deeds drawn } in
-    judges.line ∙ ap (λ (verdict : Verdict). verdict_line verdict) (once bytes judges.verdict Yes judges.judged yes)
+    judges.line ∙ ap (λ (verdict : Verdict). line_of_verdict verdict) (once bytes judges.verdict Yes judges.judged yes)

@@ -9,7 +9,7 @@ use Rattle.sgtin_text.specs.SgtinText.{name_line}
 use Rattle.report_lines.specs.Names.{IsNamed, HasName, BecomesLines, AreWithNames}
 use Rattle.top_call.specs.Job.{Defines}
 use Rattle.top_call.specs.Outcome.{AddsFront, EndsSo, SinkChange}
-use Rattle.top_call.specs.UnwrittenBytes.{Sends, Loses}
+use Rattle.top_call.specs.UnwrittenBytes.{WritesWaiting, Loses}
 use Rattle.top_call.specs.declared.ending.Wrote.{Wrote}
 use Rattle.top_call.specs.declared.ending.WriteEnd.{WriteEnd}
 use Rattle.top_call.specs.declared.ending.WriteEnd.TheVariants.{Fault}
@@ -17,8 +17,8 @@ use Rattle.text_fields.specs.FaultLine.{fault_line}
 use Rattle.checked_lines.specs.FaultWords.{reason_word}
 use Rattle.top_call.specs.words.Named.{IsOfLines, AddsNames, IsCutAt, RefusesCutLine, names_job}
 use Rattle.checked_lines.specs.declared.fault.FaultReason.TheVariants.{End}
-use Rattle.text_fields.specs.laws.LineLaws.{some_line}
-use Rattle.text_fields.specs.laws.ListLaws.{flat_map_push, zip_push}
+use Rattle.text_fields.proofs.LineLaws.{some_line}
+use Rattle.text_fields.proofs.ListLaws.{flat_map_push, zip_push}
 
 -- two ways to cut a last line off agree
 last_agrees : (before : List (List ℕ)) (last : List ℕ) (before' : List (List ℕ)) (last' : List ℕ) → before ++ last ∷ [] ≡ before' ++ last' ∷ [] → (before ≡ before') × (last ≡ last')
@@ -177,10 +177,10 @@ pub plain_becomes : (line : List ℕ) → ¬ HasName line → BecomesBytes line 
 plain_becomes line none = record { lines = line ∷ []; becomes = inr (none, refl); is = one_line line }
 
 -- it waits,
-pub becomes_sent : (line bytes page waits : List ℕ) (written written' : Option (List ℕ)) → BecomesBytes line bytes → Sends (page ++ bytes) waits written written'
-    → (lines : List (List ℕ)) × BecomesLines line lines × Sends (page ++ text_with lines) waits written written'
+pub becomes_sent : (line bytes page waits : List ℕ) (written written' : Option (List ℕ)) → BecomesBytes line bytes → WritesWaiting (page ++ bytes) waits written written'
+    → (lines : List (List ℕ)) × BecomesLines line lines × WritesWaiting (page ++ text_with lines) waits written written'
 becomes_sent line bytes page waits written written' becomes sends =
-    (becomes.lines, becomes.becomes, subst (λ (t : List ℕ). Sends (page ++ t) waits written written') becomes.is sends)
+    (becomes.lines, becomes.becomes, subst (λ (t : List ℕ). WritesWaiting (page ++ t) waits written written') becomes.is sends)
 
 -- or is lost
 pub becomes_lost : (line bytes page : List ℕ) (written written' : Option (List ℕ)) → BecomesBytes line bytes → Loses (page ++ bytes) written written'

@@ -8,7 +8,7 @@ use Rattle.text_fields.specs.FaultLine.{fault_line}
 use Rattle.checked_lines.specs.FaultWords.{reason_word}
 use Rattle.checked_lines.specs.declared.fault.FaultReason.{FaultReason}
 use Rattle.probe_lines.specs.Said.{Stimulus}
-use Rattle.probe_lines.specs.Answers.{Tells, tag_of}
+use Rattle.probe_lines.specs.Answers.{TellsEffects, probed_tag}
 use Rattle.probe_lines.specs.Played.{HasPlayed, WritesPart}
 use Rattle.probe_lines.specs.ProbeText.{IsFirstFault, IsProbe, IsProbeText}
 use Rattle.top_call.specs.Ending.{end_of_play}
@@ -26,7 +26,7 @@ AreToldApart = (bytes : List ℕ) (tag other_tag : TagSpec) (said other_said : L
 
 -- of which one text tells,
 abbrev pub HasOneText : Type 0
-HasOneText = (tag : TagValue) (said : List Stimulus) (one other : List ℕ) → Tells tag said one → Tells tag said other → one ≡ other
+HasOneText = (tag : TagValue) (said : List Stimulus) (one other : List ℕ) → TellsEffects tag said one → TellsEffects tag said other → one ≡ other
 
 -- and which has no fault,
 abbrev pub AreNotFaulty : Type 0
@@ -39,8 +39,8 @@ HaveOneFault = (bytes : List ℕ) (one other : ℕ) (fault reason : FaultReason)
 pub same_text : AreToldApart → HasOneText → (bytes one other : List ℕ) → TellsProbe bytes one → TellsProbe bytes other → one ≡ other
 same_text told once bytes one other left right =
     let same = told bytes left.tag right.tag left.said right.said left.is right.is in
-    once (tag_of right.tag) right.said one other
-    (subst (λ (said : List Stimulus). Tells (tag_of right.tag) said one) same.1 (subst (λ (tag : TagSpec). Tells (tag_of tag) left.said one) same.0 left.tells))
+    once (probed_tag right.tag) right.said one other
+    (subst (λ (said : List Stimulus). TellsEffects (probed_tag right.tag) said one) same.1 (subst (λ (tag : TagSpec). TellsEffects (probed_tag tag) left.said one) same.0 left.tells))
     right.tells
 
 pub same_refusal : HaveOneFault → (bytes one other : List ℕ) → RefusesProbe bytes one → RefusesProbe bytes other → one ≡ other
@@ -54,7 +54,7 @@ text_not_refused not_faulty bytes text allowed refused =
 
 -- what is there of a text is a front of the defined one
 front_of_probe : (bytes : List ℕ) (tag : TagSpec) (said : List Stimulus) (written written' : Option (List ℕ)) → IsProbe bytes tag said
-    → WritesPart (tag_of tag) said written written' → AddsFront (Defines probe_job bytes) written written'
+    → WritesPart (probed_tag tag) said written written' → AddsFront (Defines probe_job bytes) written written'
 front_of_probe bytes tag said written written' is part = record {
   front = part.front;
   rest = part.rest;
@@ -64,7 +64,7 @@ front_of_probe bytes tag said written written' is part = record {
 
 -- the writing ended where playing was cut off
 pub play_failed : (bytes : List ℕ) (tag : TagSpec) (said : List Stimulus) (sink : SinkChange) (fault : PlayFault) (end : Result Wrote WriteEnd)
-    → end ≡ Err (end_of_play fault) → IsProbe bytes tag said → HasPlayed (tag_of tag) said sink.written sink.written' sink.writes sink.writes' (Err fault)
+    → end ≡ Err (end_of_play fault) → IsProbe bytes tag said → HasPlayed (probed_tag tag) said sink.written sink.written' sink.writes sink.writes' (Err fault)
     → EndsSo probe_job bytes sink end
 play_failed bytes tag said sink plays.Write end ends is played =
     subst (EndsSo probe_job bytes sink) (sym ends) (played.0, front_of_probe bytes tag said sink.written sink.written' is played.1)
@@ -73,6 +73,6 @@ play_failed bytes tag said sink plays.OutOfMemory end ends is played =
 
 -- ... and where it wasn't
 pub played_whole : (bytes : List ℕ) (tag : TagSpec) (said : List Stimulus) (sink : SinkChange) (done : Unit {0})
-    → IsProbe bytes tag said → HasPlayed (tag_of tag) said sink.written sink.written' sink.writes sink.writes' (Ok done) → EndsSo probe_job bytes sink (Ok Text)
+    → IsProbe bytes tag said → HasPlayed (probed_tag tag) said sink.written sink.written' sink.writes sink.writes' (Ok done) → EndsSo probe_job bytes sink (Ok Text)
 played_whole bytes tag said sink done is played =
     (played.0, record { text = played.1.text; named = record { tag = tag; said = said; is = is; tells = played.1.tells }; added = played.1.added })

@@ -48,5 +48,5 @@ pub record AskFor (words : List (List ℕ)) (form : Form) : Type 0 where
   pub legal : IsForm form
 
 -- the words are the spelling of some form
-abbrev pub HasForm : List (List ℕ) → Type 0
-HasForm words = (form : Form) × AskFor words form
+abbrev pub SpellSomeForm : List (List ℕ) → Type 0
+SpellSomeForm words = (form : Form) × AskFor words form

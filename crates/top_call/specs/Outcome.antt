@@ -1,7 +1,7 @@
 -- Profile: what each status of the program says of the bytes that came in and of those that went out. A source
 -- may tell the bytes that it has left, and a sink those that were written; what is not told is left open.
 use Rattle.std.specs.Prelude.{◌≡◌, ℕ, ◌+◌, ◌≤◌, Bool, true, false, List, [], ◌++◌, length, Option, Result, Ok, Err, ◌⊎◌}
-use Rattle.air_io.specs.Flow.{Reads, Adds, AtEnd, FaultsRose}
+use Rattle.air_io.specs.Flow.{TakesBytes, Adds, AtEnd, FaultsRose}
 use Rattle.air_io.specs.declared.transfer.ReadEnd.{ReadEnd}
 use Rattle.air_io.specs.declared.transfer.ReadEnd.TheVariants as read_ends
 use Rattle.top_call.specs.Job.{Job, Defines}
@@ -18,7 +18,7 @@ input_limit = 16777216
 
 -- these bytes were read, within the limit, and then the source was at its end
 pub record ReadsAll (old new : Option (List ℕ)) (bytes : List ℕ) : Type 0 where
-  pub reads : Reads old new bytes
+  pub reads : TakesBytes old new bytes
   pub end : AtEnd new
   pub limit : length bytes ≤ input_limit
 
@@ -60,13 +60,13 @@ pub record WritesFront (job : Job) (left left' written written' : Option (List �
 -- no more than the limit was read
 pub record ReadsWithin (old new : Option (List ℕ)) : Type 0 where
   pub bytes : List ℕ
-  pub reads : Reads old new bytes
+  pub reads : TakesBytes old new bytes
   pub within : length bytes ≤ input_limit
 
 -- more than the limit was read: one byte more
 pub record ReadsTooMuch (old new : Option (List ℕ)) : Type 0 where
   pub bytes : List ℕ
-  pub reads : Reads old new bytes
+  pub reads : TakesBytes old new bytes
   pub over : length bytes ≡ input_limit + 1
 
 -- A source before a word and behind it: what it tells that it had left and has left, and how many faults it had met and has met.

@@ -51,7 +51,8 @@ pub enum Form {
 /// The form of a seed and a number of tags.
 fn made_form(seed: &[u8], tags: &[u8]) -> Option<Form>
     ensures found { IfSome result (AskFor (codes "gen" ∷ seed.now ∷ tags.now ∷ [])) }
-    ensures only { (number count : ℕ) → number < 2 ^ 64 → count ≤ most_made_tags → seed.now ≡ decimal number → tags.now ≡ decimal count
+    ensures only { (number count : ℕ) → number < 2 ^ 64 → count ≤ most_made_tags
+        → seed.now ≡ decimal number → tags.now ≡ decimal count
         → result ≡ Some (Form.Gen number count) }
 {
     Some(Form::Gen {
@@ -150,7 +151,8 @@ pub fn form_of_two(word: &[u8], behind: &[u8]) -> Option<Form>
 /// The form of three words. None comes exactly where they are the spelling of no form.
 pub fn form_of_three(word: &[u8], behind: &[u8], last: &[u8]) -> Option<Form>
     ensures found { IfSome result (AskFor (word.now ∷ behind.now ∷ last.now ∷ [])) }
-    ensures only { (form : Form) → AskFor (word.now ∷ behind.now ∷ last.now ∷ []) form → result ≡ Some form }
+    ensures only { (form : Form) → AskFor (word.now ∷ behind.now ∷ last.now ∷ []) form
+        → result ≡ Some form }
 {
     if are_words(word, behind, "run", "exchanges") {
         return if is_word(last, "json") {

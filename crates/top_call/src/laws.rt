@@ -21,7 +21,8 @@ use crate::words::upgrade::upgrade_is_lawful;
 
 /// A list of words asks for one form at most.
 pub fn forms_are_told_apart()
-    ensures { (words : List (List ℕ)) (one other : Form) → AskFor words one → AskFor words other → one ≡ other }
+    ensures { (words : List (List ℕ)) (one other : Form) → AskFor words one → AskFor words other
+        → one ≡ other }
 {}
 
 /// The job of each form is lawful.
@@ -44,7 +45,8 @@ pub fn jobs_are_lawful()
 
 /// Under each form an input that the grammar allows has no fault line.
 pub fn grammatical_inputs_are_not_refused()
-    ensures { (form : Form) (bytes text : List ℕ) → (job_of form).allows bytes → (job_of form).refuses bytes text → ⊥ }
+    ensures { (form : Form) (bytes text : List ℕ) → (job_of form).allows bytes
+        → (job_of form).refuses bytes text → ⊥ }
 {
     jobs_are_lawful();
 }
@@ -52,8 +54,10 @@ pub fn grammatical_inputs_are_not_refused()
 /// Under each form an input has one defined text at most: what the form has to write for it, or its fault
 /// line, and never both.
 pub fn inputs_have_one_text()
-    ensures one { (form : Form) (bytes one other : List ℕ) → Defines (job_of form) bytes one → Defines (job_of form) bytes other → one ≡ other }
-    ensures apart { (form : Form) (bytes one other : List ℕ) → (job_of form).writes bytes one → (job_of form).refuses bytes other → ⊥ }
+    ensures one { (form : Form) (bytes one other : List ℕ) → Defines (job_of form) bytes one
+        → Defines (job_of form) bytes other → one ≡ other }
+    ensures apart { (form : Form) (bytes one other : List ℕ) → (job_of form).writes bytes one
+        → (job_of form).refuses bytes other → ⊥ }
 {
     jobs_are_lawful();
 }

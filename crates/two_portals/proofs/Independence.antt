@@ -8,13 +8,13 @@ use Rattle.q_round.specs.declared.round.RoundEnd.{RoundEnd}
 use Rattle.q_round.specs.declared.round.RoundEnd.TheVariants as ends
 use Rattle.tag_machine.specs.TagValue.{TagValue}
 use Rattle.two_portals.specs.Played.{AreReady, IsQuietRound, ListsItsTags}
-use Rattle.two_portals.specs.PortalLines.{AreIndependent, IsNewTag, IsOfPortal, is_of, is_quiet, line_of, lines_of_portal, portal_lines}
+use Rattle.two_portals.specs.PortalLines.{AreIndependent, IsNewTag, IsOfPortal, is_of_session, ended_quiet, portal_line_of, lines_of_portal, portal_lines}
 use Rattle.two_portals.specs.declared.portal_line.PortalLine.{PortalLine}
 use Rattle.two_portals.proofs.Lines.{Plays, SendersAgree, lines_from, other-line, other-senders, own-line, own-senders}
 use Rattle.two_portals.proofs.Senders.{NameAlike}
 use Rattle.two_portals.proofs.Twins.{AreAllTwins, IsWholeRound, KeepsSide, all-new-twins, alone-ready, joint-ready, names-alike, other-round, own-round, round-same, three-keeps, two-keeps}
 
-ended-quiet : (end : RoundEnd) → is_quiet end ≡ true → end ≡ ends.Quiet
+ended-quiet : (end : RoundEnd) → ended_quiet end ≡ true → end ≡ ends.Quiet
 ended-quiet ends.Quiet quiet = refl
 ended-quiet ends.Limit quiet = absurd (cc)
 
@@ -23,7 +23,7 @@ pub record Laws (played : Plays) : Type 0 where
   pub senders : (before : List TagValue) (spec : SpecValue) → IsLegalSpec spec → ListsItsTags before (played before spec)
   pub quiet : (before : List TagValue) (spec : SpecValue) → IsLegalSpec spec → AreReady before → (played before spec).end ≡ ends.Quiet → IsQuietRound before spec (played before spec)
 
-whole-round : (played : Plays) → Laws played → (tags : List TagValue) (spec : SpecValue) → IsLegalSpec spec → AreReady tags → is_quiet (played tags spec).end ≡ true
+whole-round : (played : Plays) → Laws played → (tags : List TagValue) (spec : SpecValue) → IsLegalSpec spec → AreReady tags → ended_quiet (played tags spec).end ≡ true
     → IsWholeRound tags spec (played tags spec)
 whole-round played laws tags spec legal ready quiet = record {
   lists = laws.senders tags spec legal;
@@ -73,18 +73,18 @@ behind_own sides spec at =
 
 -- one round: it lists the same, and leaves the tags shared
 record IsSameRound (sides : Sides) (spec : SpecValue) (at : PortalsAt) : Type 0 where
-  same : (line_of sides.session 0 (sides.played at.joint spec) (sides.played at.alone spec)).same ≡ true
+  same : (portal_line_of sides.session 0 (sides.played at.joint spec) (sides.played at.alone spec)).same ≡ true
   senders : NameAlike (sides.played at.joint spec).senders (sides.played at.alone spec).senders
   shared : Shared sides (behind_own sides spec at)
 
 one-round : (sides : Sides) (spec : SpecValue) (at : PortalsAt) → IsOwnRound sides spec → Shared sides at
-    → (is_quiet (sides.played at.joint spec).end && is_quiet (sides.played at.alone spec).end) ≡ true → IsSameRound sides spec at
+    → (ended_quiet (sides.played at.joint spec).end && ended_quiet (sides.played at.alone spec).end) ≡ true → IsSameRound sides spec at
 one-round sides spec at is shared quiet =
     let joint = sides.played at.joint spec in
     let alone = sides.played at.alone spec in
     let twins = subst (λ (s : ℕ). AreAllTwins s at.joint at.alone) (sym is.session) shared.own in
-    let round = whole-round sides.played sides.laws at.joint spec is.legal (joint-ready spec.session at.joint at.alone twins) (first_so (is_quiet joint.end) (is_quiet alone.end) quiet) in
-    let own = whole-round sides.played sides.laws at.alone spec is.legal (alone-ready spec.session at.joint at.alone twins) (second_so (is_quiet joint.end) (is_quiet alone.end) quiet) in
+    let round = whole-round sides.played sides.laws at.joint spec is.legal (joint-ready spec.session at.joint at.alone twins) (first_so (ended_quiet joint.end) (ended_quiet alone.end) quiet) in
+    let own = whole-round sides.played sides.laws at.alone spec is.legal (alone-ready spec.session at.joint at.alone twins) (second_so (ended_quiet joint.end) (ended_quiet alone.end) quiet) in
     record {
       same = round-same spec at.joint at.alone joint alone twins round own;
       senders = names-alike spec at.joint at.alone joint alone twins round own;
@@ -116,8 +116,8 @@ own-round-first : (sides : Sides) (at : PortalsAt) (spec : SpecValue) (specs : L
 own-round-first sides at spec specs is go_on shared quiet =
     let played = sides.played in
     let mine = eq-eqb spec.session sides.session is.session in
-    let theirs : is_of sides.other spec ≡ false = ap (λ (s : ℕ). s == sides.other) is.session ∙ sides.apart in
-    let line = line_of sides.session at.number (played at.joint spec) (played at.alone spec) in
+    let theirs : is_of_session sides.other spec ≡ false = ap (λ (s : ℕ). s == sides.other) is.session ∙ sides.apart in
+    let line = portal_line_of sides.session at.number (played at.joint spec) (played at.alone spec) in
     let rest = lines_from played sides.session (at.number + 1) (played at.joint spec).tags (played at.alone spec).tags specs in
     let lines = own-line played sides.session at.number at.joint at.alone spec specs mine in
     let lines2 = other-line played sides.other at.number_beside at.joint at.beside spec specs theirs in

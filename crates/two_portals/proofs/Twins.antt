@@ -10,7 +10,7 @@ use Rattle.session_flags.specs.Actions.{side_after}
 use Rattle.session_flags.specs.Flags.{side_of}
 use Rattle.session_flags.specs.declared.flags.Effect.TheVariants.{Negate}
 use Rattle.tag_machine.specs.TagValue.{TagValue, ReadyState}
-use Rattle.two_portals.specs.Played.{Played, AreReady, IsLeft, IsQuietRound, ListsItsTags, flags_in_round, is_named, pair_of}
+use Rattle.two_portals.specs.Played.{Played, AreReady, IsLeftByRound, IsQuietRound, ListsItsTags, flags_in_round, is_named, pc_and_epc_of}
 use Rattle.two_portals.specs.PortalLines.{IsNewTag, are_same}
 use Rattle.two_portals.proofs.Counts.{Pair, alike-same}
 use Rattle.two_portals.proofs.Senders.{NameAlike, sent-alike, unknown-unnamed}
@@ -56,7 +56,7 @@ abbrev IsPortal : ℕ → Type 0
 IsPortal session = (session ≡ 2) ⊎ (session ≡ 3)
 
 -- a round of the portal, played jointly and alone
-own-twins : (spec : SpecValue) (joint alone left own : TagValue) → IsPortal spec.session → AreTwins spec.session joint alone → IsLeft spec joint left → IsLeft spec alone own
+own-twins : (spec : SpecValue) (joint alone left own : TagValue) → IsPortal spec.session → AreTwins spec.session joint alone → IsLeftByRound spec joint left → IsLeftByRound spec alone own
     → AreTwins spec.session left own
 own-twins spec joint alone left own portal twins kept kept2 = record {
   ready = kept.state;
@@ -73,7 +73,7 @@ own-twins spec joint alone left own portal twins kept kept2 = record {
 }
 
 -- a round of the other portal
-other-twins : (spec : SpecValue) (session : ℕ) (joint alone left : TagValue) → IsPortal spec.session → KeepsSide spec.session session → AreTwins session joint alone → IsLeft spec joint left
+other-twins : (spec : SpecValue) (session : ℕ) (joint alone left : TagValue) → IsPortal spec.session → KeepsSide spec.session session → AreTwins session joint alone → IsLeftByRound spec joint left
     → AreTwins session left alone
 other-twins spec session joint alone left portal keeps twins kept = record {
   ready = kept.state;
@@ -87,8 +87,8 @@ other-twins spec session joint alone left portal keeps twins kept = record {
 abbrev pub AreAllTwins : ℕ → List TagValue → List TagValue → Type 0
 AreAllTwins session joint alone = AllZip (AreTwins session) joint alone
 
-pub own-round : (spec : SpecValue) (joint alone left own : List TagValue) → IsPortal spec.session → AreAllTwins spec.session joint alone → AllZip (IsLeft spec) joint left
-    → AllZip (IsLeft spec) alone own → AreAllTwins spec.session left own
+pub own-round : (spec : SpecValue) (joint alone left own : List TagValue) → IsPortal spec.session → AreAllTwins spec.session joint alone → AllZip (IsLeftByRound spec) joint left
+    → AllZip (IsLeftByRound spec) alone own → AreAllTwins spec.session left own
 own-round spec [] [] [] [] portal twins kept kept2 = twins
 own-round spec [] [] [] (tag ∷ own) portal twins kept kept2 = absurd kept2
 own-round spec [] [] (tag ∷ left) own portal twins kept kept2 = absurd kept
@@ -100,7 +100,7 @@ own-round spec (tag ∷ joint) (tag2 ∷ alone) (tag3 ∷ left) (tag4 ∷ own) p
     (own-twins spec tag tag2 tag3 tag4 portal twins.0 kept.0 kept2.0, own-round spec joint alone left own portal twins.1 kept.1 kept2.1)
 
 pub other-round : (spec : SpecValue) (session : ℕ) (joint alone left : List TagValue) → IsPortal spec.session → KeepsSide spec.session session → AreAllTwins session joint alone
-    → AllZip (IsLeft spec) joint left → AreAllTwins session left alone
+    → AllZip (IsLeftByRound spec) joint left → AreAllTwins session left alone
 other-round spec session [] [] [] portal keeps twins kept = twins
 other-round spec session [] [] (tag ∷ left) portal keeps twins kept = absurd kept
 other-round spec session [] (tag ∷ alone) left portal keeps twins kept = absurd twins
@@ -129,10 +129,10 @@ alone-ready session (tag ∷ joint) [] twins = absurd twins
 alone-ready session (tag ∷ joint) (tag2 ∷ alone) twins = All-cons (λ tag. tag.state ≡ ReadyState) tag2 alone twins.0.alone_ready (alone-ready session joint alone twins.1)
 
 -- twins have one memory
-one-pair : (session : ℕ) (joint alone : TagValue) → AreTwins session joint alone → pair_of joint ≡ pair_of alone
+one-pair : (session : ℕ) (joint alone : TagValue) → AreTwins session joint alone → pc_and_epc_of joint ≡ pc_and_epc_of alone
 one-pair session joint alone twins = rw twins.memory refl
 
-same-pairs : (session : ℕ) (joint alone : List TagValue) → AreAllTwins session joint alone → map pair_of joint ≡ map pair_of alone
+same-pairs : (session : ℕ) (joint alone : List TagValue) → AreAllTwins session joint alone → map pc_and_epc_of joint ≡ map pc_and_epc_of alone
 same-pairs session [] [] twins = refl
 same-pairs session [] (tag ∷ alone) twins = absurd twins
 same-pairs session (tag ∷ joint) [] twins = absurd twins
@@ -157,8 +157,8 @@ twins-at session (tag ∷ joint) (tag2 ∷ alone) (suc number) twins =
       | none here there ↦ none here there
     ]
 
-no-pair : (tags : List TagValue) (number : ℕ) → slice_get tags number ≡ None → slice_get (map pair_of tags) number ≡ None
-no-pair tags number unknown = slice_get-map pair_of tags number ∙ ap (option_map pair_of) unknown
+no-pair : (tags : List TagValue) (number : ℕ) → slice_get tags number ≡ None → slice_get (map pc_and_epc_of tags) number ≡ None
+no-pair tags number unknown = slice_get-map pc_and_epc_of tags number ∙ ap (option_map pc_and_epc_of) unknown
 
 -- a round that ended quiet, with what holds of every round
 pub record IsWholeRound (tags : List TagValue) (spec : SpecValue) (round : Played) : Type 0 where
@@ -173,14 +173,14 @@ names-alike spec joint alone round own twins whole whole2 = λ number.
       | both tag tag2 here there alike ↦
           whole.quiet.named number tag here ∙ ap (λ (named : Bool). if named then 1 else 0) (named-alike spec tag tag2 alike) ∙ sym (whole2.quiet.named number tag2 there)
       | none here there ↦
-          unknown-unnamed (map pair_of joint) round.pairs round.senders number whole.lists.each (no-pair joint number here)
-          ∙ sym (unknown-unnamed (map pair_of alone) own.pairs own.senders number whole2.lists.each (no-pair alone number there))
+          unknown-unnamed (map pc_and_epc_of joint) round.pairs round.senders number whole.lists.each (no-pair joint number here)
+          ∙ sym (unknown-unnamed (map pc_and_epc_of alone) own.pairs own.senders number whole2.lists.each (no-pair alone number there))
     ]
 
 -- ... and so lists the same
 pub round-same : (spec : SpecValue) (joint alone : List TagValue) (round own : Played) → AreAllTwins spec.session joint alone → IsWholeRound joint spec round → IsWholeRound alone spec own
     → are_same round.pairs own.pairs ≡ true
 round-same spec joint alone round own twins whole whole2 =
-    alike-same round.pairs own.pairs (sent-alike (map pair_of joint) round.pairs own.pairs round.senders own.senders whole.lists.each
+    alike-same round.pairs own.pairs (sent-alike (map pc_and_epc_of joint) round.pairs own.pairs round.senders own.senders whole.lists.each
     (subst (λ (pairs : List Pair). AllZip (λ sent number. slice_get pairs number ≡ Some sent) own.pairs own.senders) (sym (same-pairs spec.session joint alone twins)) whole2.lists.each)
     (names-alike spec joint alone round own twins whole whole2))

@@ -4,7 +4,7 @@ use Rattle.std.specs.Prelude.{◌==◌}
 use Rattle.std.proofs.lemmas.List.{drop_all}
 use Rattle.q_round.specs.SpecValue.{SpecValue}
 use Rattle.tag_machine.specs.TagValue.{TagValue}
-use Rattle.two_portals.specs.PortalLines.{is_of, line_of, lines_of_portal, portal_lines}
+use Rattle.two_portals.specs.PortalLines.{is_of_session, portal_line_of, lines_of_portal, portal_lines}
 use Rattle.two_portals.specs.declared.portal_line.PortalLine.{PortalLine}
 use Rattle.two_portals.proofs.Lines.{Plays, lines_from, other-line, own-line}
 
@@ -44,14 +44,14 @@ next-spec course round =
 pub record IsPlayed (course : Course) (round : JointRound course) (portal behind : Portal) : Type 0 where
   pub alone : behind.alone ≡ (course.played portal.alone round.spec).tags
   pub count : behind.count ≡ portal.count + 1
-  pub lines : behind.lines ≡ portal.lines ++ line_of round.spec.session (portal.count + 1) (course.played round.before round.spec) (course.played portal.alone round.spec) ∷ []
+  pub lines : behind.lines ≡ portal.lines ++ portal_line_of round.spec.session (portal.count + 1) (course.played round.before round.spec) (course.played portal.alone round.spec) ∷ []
 
 own-here : (course : Course) (round : JointRound course) (portal behind : Portal) → AreLinesOf course round.spec.session round.place round.before portal
     → IsPlayed course round portal behind → AreLinesOf course round.spec.session (round.place + 1) round.behind behind
 own-here course round portal behind so_far is =
     let played = course.played in
     let spec = round.spec in
-    let line = line_of spec.session (portal.count + 1) (played round.before spec) (played portal.alone spec) in
+    let line = portal_line_of spec.session (portal.count + 1) (played round.before spec) (played portal.alone spec) in
     let rest = drop (round.place + 1) course.specs in
     let later = lines_from played spec.session (portal.count + 1 + 1) (played round.before spec).tags (played portal.alone spec).tags rest in
     (λ i. is.lines i ++ lines_from played spec.session (is.count i + 1) (round.tags i) (is.alone i) rest)
@@ -69,7 +69,7 @@ own-more course session round portal behind so_far own is =
 
 -- ... and of the other
 pub other-more : (course : Course) (session : ℕ) (round : JointRound course) (portal : Portal) → AreLinesOf course session round.place round.before portal
-    → is_of session round.spec ≡ false → AreLinesOf course session (round.place + 1) round.behind portal
+    → is_of_session session round.spec ≡ false → AreLinesOf course session (round.place + 1) round.behind portal
 other-more course session round portal so_far other =
     let rest = drop (round.place + 1) course.specs in
     ap (λ (tags : List TagValue). portal.lines ++ lines_from course.played session (portal.count + 1) tags portal.alone rest) round.tags
@@ -92,5 +92,5 @@ both-told course place joint portal2 portal3 lines lines3 over =
     (λ i. two i ++ three i)
 
 -- whose round it is, by its session
-pub not-of : (session other : ℕ) (spec : SpecValue) → spec.session ≡ other → (other == session) ≡ false → is_of session spec ≡ false
+pub not-of : (session other : ℕ) (spec : SpecValue) → spec.session ≡ other → (other == session) ≡ false → is_of_session session spec ≡ false
 not-of session other spec is apart = ap (λ (s : ℕ). s == session) is ∙ apart

@@ -17,12 +17,12 @@ pub record Played : Type 0 where
   pub tags : List TagValue
 
 -- the PC and the EPC in the memory of a tag
-abbrev pub pair_of : TagValue → ℕ × List ℕ
-pair_of tag = (pc_of tag.body.memory, epc_of tag.body.memory)
+abbrev pub pc_and_epc_of : TagValue → ℕ × List ℕ
+pc_and_epc_of tag = (pc_of tag.body.memory, epc_of tag.body.memory)
 
 -- a pair is that of the tag of a number
 abbrev pub IsPairOf : List TagValue → ℕ × List ℕ → ℕ → Type 0
-IsPairOf tags pair number = slice_get (map pair_of tags) number ≡ Some pair
+IsPairOf tags pair number = slice_get (map pc_and_epc_of tags) number ≡ Some pair
 
 -- how often a number stands in a list
 abbrev pub times : ℕ → List ℕ → ℕ
@@ -51,7 +51,7 @@ flags_in_round session true flags = flags_after_inversion flags session
 
 -- what a round that ended quiet leaves of a tag that was ready: it is ready again; the flag of the session is inverted where the
 -- Query named the tag; all its other flags, its memory and its locks are as before
-pub record IsLeft (spec : SpecValue) (before left : TagValue) : Type 0 where
+pub record IsLeftByRound (spec : SpecValue) (before left : TagValue) : Type 0 where
   pub state : left.state ≡ ReadyState
   pub flags : left.body.flags ≡ flags_in_round spec.session (is_named spec before) before.body.flags
   pub memory : left.body.memory ≡ before.body.memory
@@ -60,4 +60,4 @@ pub record IsLeft (spec : SpecValue) (before left : TagValue) : Type 0 where
 -- a round that ended quiet, over tags that were ready: the senders are exactly the tags that the Query named
 pub record IsQuietRound (tags : List TagValue) (spec : SpecValue) (round : Played) : Type 0 where
   pub named : (number : ℕ) (tag : TagValue) → slice_get tags number ≡ Some tag → times number round.senders ≡ (if is_named spec tag then 1 else 0)
-  pub left : AllZip (IsLeft spec) tags round.tags
+  pub left : AllZip (IsLeftByRound spec) tags round.tags

@@ -17,20 +17,20 @@ rounds_played played tags [] = []
 rounds_played played tags (spec ∷ specs) = let round = played tags spec in round ∷ rounds_played played round.tags specs
 
 -- a round is one of a portal: it is of the portal's session
-abbrev pub is_of : ℕ → SpecValue → Bool
-is_of session spec = spec.session == session
+abbrev pub is_of_session : ℕ → SpecValue → Bool
+is_of_session session spec = spec.session == session
 
 -- of rounds with these parameters, those of a portal
-abbrev pub rounds_of : ℕ → List SpecValue → List Played → List Played
-rounds_of session [] rounds = []
-rounds_of session (spec ∷ specs) [] = []
-rounds_of session (spec ∷ specs) (round ∷ rounds) =
-    (if is_of session spec then round ∷ rounds_of session specs rounds else rounds_of session specs rounds)
+abbrev pub portal_rounds_of : ℕ → List SpecValue → List Played → List Played
+portal_rounds_of session [] rounds = []
+portal_rounds_of session (spec ∷ specs) [] = []
+portal_rounds_of session (spec ∷ specs) (round ∷ rounds) =
+    (if is_of_session session spec then round ∷ portal_rounds_of session specs rounds else portal_rounds_of session specs rounds)
 
 -- after a whole frame of silent slots, and not by its limit
-abbrev pub is_quiet : RoundEnd → Bool
-is_quiet ends.Quiet = true
-is_quiet ends.Limit = false
+abbrev pub ended_quiet : RoundEnd → Bool
+ended_quiet ends.Quiet = true
+ended_quiet ends.Limit = false
 
 -- each of the first pairs stands in both lists equally often
 abbrev pub agree_on : (pairs one other : List (ℕ × List ℕ)) → Bool
@@ -42,26 +42,26 @@ abbrev pub are_same : (one other : List (ℕ × List ℕ)) → Bool
 are_same one other = agree_on (one ++ other) one other
 
 -- the line of a round of a portal, as it went jointly and alone
-abbrev pub line_of : (session number : ℕ) → (joint alone : Played) → PortalLine
-line_of session number joint alone = record {
+abbrev pub portal_line_of : (session number : ℕ) → (joint alone : Played) → PortalLine
+portal_line_of session number joint alone = record {
   session = session;
   number = number;
   joint = length joint.pairs;
   alone = length alone.pairs;
-  quiet = is_quiet joint.end && is_quiet alone.end;
+  quiet = ended_quiet joint.end && ended_quiet alone.end;
   same = are_same joint.pairs alone.pairs;
 }
 
 -- ... of its rounds, numbered from a number on
-abbrev pub lines_of : (session number : ℕ) → (joint alone : List Played) → List PortalLine
-lines_of session number [] alone = []
-lines_of session number (round ∷ joint) [] = []
-lines_of session number (round ∷ joint) (own ∷ alone) = line_of session number round own ∷ lines_of session (number + 1) joint alone
+abbrev pub portal_lines_of : (session number : ℕ) → (joint alone : List Played) → List PortalLine
+portal_lines_of session number [] alone = []
+portal_lines_of session number (round ∷ joint) [] = []
+portal_lines_of session number (round ∷ joint) (own ∷ alone) = portal_line_of session number round own ∷ portal_lines_of session (number + 1) joint alone
 
 -- the lines of a portal: of its rounds among all these, and of the same rounds without the others
 abbrev pub lines_of_portal : ℕ → (List TagValue → SpecValue → Played) → List TagValue → List SpecValue → List PortalLine
 lines_of_portal session played tags specs =
-    lines_of session 1 (rounds_of session specs (rounds_played played tags specs)) (rounds_played played tags (filter (is_of session) specs))
+    portal_lines_of session 1 (portal_rounds_of session specs (rounds_played played tags specs)) (rounds_played played tags (filter (is_of_session session) specs))
 
 -- portal 2's first
 abbrev pub portal_lines : (List TagValue → SpecValue → Played) → List TagValue → List SpecValue → List PortalLine

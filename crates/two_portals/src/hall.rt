@@ -23,7 +23,11 @@ pub trait Hall {
     /// Plays a round, and adds the PC and the EPC of each tag that it lists, in the order in which they come.
     fn round(&mut self, spec: &RoundSpec, heard: &mut Pairs) -> RoundEnd
         requires room { length heard.old.items + length (tags self.old) ≤ heard.old.capacity }
-        ensures pairs { heard.new ≡ record heard.old { items = heard.old.items ++ (played (tags self.old) spec.now).pairs } }
+        ensures pairs { heard.new
+            ≡ record heard.old {
+              items = heard.old.items
+                  ++ (played (tags self.old) spec.now).pairs;
+            } }
         ensures end { result ≡ (played (tags self.old) spec.now).end }
         ensures tags { tags self.new ≡ (played (tags self.old) spec.now).tags };
 

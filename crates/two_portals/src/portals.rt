@@ -1,7 +1,7 @@
 //! Two portals beside each other, and each alone.
 ghost use Rattle.std.specs.Prelude.{◌≡◌, ◌+◌, ◌<◌, ◌≤◌, [], ◌∷◌, ◌++◌, All, IfOk, length, vec_capacity, vec_len};
 ghost use Rattle.q_round.specs.SpecValue.{IsLegalSpec};
-ghost use Rattle.two_portals.specs.PortalLines.{AreIndependent, IsNewTag, IsOfPortal, are_same, line_of, portal_lines};
+ghost use Rattle.two_portals.specs.PortalLines.{AreIndependent, IsNewTag, IsOfPortal, are_same, portal_line_of, portal_lines};
 
 use crate::hall::{Hall, Pairs};
 use crate::portal_line::PortalLine;
@@ -28,7 +28,8 @@ pub fn compare<H: Hall + Drop>(
     requires fresh { All IsNewTag (H.tags joint) }
     requires sessions { All IsOfPortal specs.now }
     requires few { length specs.now ≤ 1024 }
-    ensures lines { IfOk result (λ lines. lines.items ≡ portal_lines H.played (H.tags joint) specs.now) }
+    ensures lines { IfOk result
+        (λ lines. lines.items ≡ portal_lines H.played (H.tags joint) specs.now) }
     ensures independent { IfOk result (λ lines. AreIndependent lines.items) }
 {
     let mut joint = joint;
@@ -50,7 +51,8 @@ fn play_all<H: Hall>(
     requires fresh { All IsNewTag (H.tags joint.old) }
     requires sessions { All IsOfPortal specs.now }
     requires few { length specs.now ≤ 1024 }
-    ensures lines { IfOk result (λ lines. lines.items ≡ portal_lines H.played (H.tags joint.old) specs.now) }
+    ensures lines { IfOk result
+        (λ lines. lines.items ≡ portal_lines H.played (H.tags joint.old) specs.now) }
     ensures independent { IfOk result (λ lines. AreIndependent lines.items) }
 {
     let mut heard = Pairs::new(alloc, joint.len())?;
@@ -96,7 +98,9 @@ fn play_both<H: Hall>(
     requires few { vec_len lines.old < 1024 }
     requires room { length (H.tags joint.old) ≤ heard.old.capacity }
     requires room_alone { length (H.tags alone.old) ≤ heard_alone.old.capacity }
-    ensures line { lines.new.items ≡ lines.old.items ++ line_of spec.now.session (vec_len lines.old + 1) (H.played (H.tags joint.old) spec.now) (H.played (H.tags alone.old) spec.now) ∷ [] }
+    ensures line { lines.new.items ≡ lines.old.items
+        ++ portal_line_of spec.now.session (vec_len lines.old + 1)
+        (H.played (H.tags joint.old) spec.now) (H.played (H.tags alone.old) spec.now) ∷ [] }
     ensures len { vec_len lines.new ≡ vec_len lines.old + 1 }
     ensures capacity { vec_capacity lines.new ≡ vec_capacity lines.old }
     ensures joint { H.tags joint.new ≡ (H.played (H.tags joint.old) spec.now).tags }

@@ -9,8 +9,10 @@ use text_fields::{push_word, word};
 
 /// The password that a field spells in its two words.
 pub fn password_of(field: &[u8]) -> Option<u32>
-    ensures value { IfSome result (λ password. (field.now ≡ password_text password) × (password < 2 ^ 32)) }
-    ensures only { (password : ℕ) → password < 2 ^ 32 → field.now ≡ password_text password → result ≡ Some password }
+    ensures value { IfSome result
+        (λ password. (field.now ≡ password_text password) × (password < 2 ^ 32)) }
+    ensures only { (password : ℕ) → password < 2 ^ 32 → field.now ≡ password_text password
+        → result ≡ Some password }
 {
     if field.len() != 8 {
         return None;
@@ -24,7 +26,8 @@ pub fn password_of(field: &[u8]) -> Option<u32>
 /// Writes a password as the next field, in two words. After an error the text may hold a
 /// part of it.
 pub fn push_next_password(text: &mut String, password: u32) -> Result<(), OutOfMemory>
-    ensures { OnOk result (string_bytes text.new ≡ string_bytes text.old ++ space ∷ password_text password) }
+    ensures { OnOk result (string_bytes text.new ≡ string_bytes text.old
+        ++ space ∷ password_text password) }
 {
     text.push(' ')?;
     push_word(text, (password >> 16) as u16)?;

@@ -8,13 +8,13 @@ use Rattle.air_events.specs.TagNumbers.{most_tags}
 use Rattle.tag_body.specs.RoundNumbers.{slot_below}
 use Rattle.waiting_tags.specs.declared.waiting.Participation.{Participation}
 use Rattle.waiting_tags.specs.declared.waiting.Participation.TheVariants.{Waits, Called}
-use Rattle.waiting_tags.specs.TagSets.{bit_of, HasNone, IsIn, IsNextIn}
-use Rattle.waiting_tags.specs.Wheel.{place_of, IsTagOn}
+use Rattle.waiting_tags.specs.TagSets.{bit_in_set, HasNone, IsIn, IsNextIn}
+use Rattle.waiting_tags.specs.Wheel.{wheel_place_of, IsTagOn}
 use Rattle.waiting_tags.proofs.WheelLinks.{stands_inside, stands_nowhere}
-use Rattle.waiting_tags.specs.Waiting.{participation_at, IsNextCalled, IsDue, counted_down, called_place, slot_place, slot_behind, slot_in, participation_there, participation_on, participations_on, AreBases, AreCalled, AreSlots}
+use Rattle.waiting_tags.specs.Waiting.{participation_at, IsNextCalled, IsDue, counted_down, called_place, slot_place, slot_behind, waiting_slot, participation_there, participation_on, participations_on, AreBases, AreCalled, AreSlots}
 
 -- the participation of the tag on a place
-pub participation_of_place : (bases : List ℕ) (places : List (Option ℕ)) (number : ℕ) → participation_at (participations_on bases places) number ≡ participation_on bases (place_of places number)
+pub participation_of_place : (bases : List ℕ) (places : List (Option ℕ)) (number : ℕ) → participation_at (participations_on bases places) number ≡ participation_on bases (wheel_place_of places number)
 participation_of_place bases [] number = refl
 participation_of_place bases (place ∷ places) zero = refl
 participation_of_place bases (place ∷ places) (suc number) = participation_of_place bases places number
@@ -150,19 +150,19 @@ place_of_slot bases place session slot are is =
     ]
 
 not_due : (bases : List ℕ) (places : List (Option ℕ)) (session number : ℕ) (stands : Option ℕ) → AreBases bases → IsTagOn places (slot_place (get_or bases session 0) session 1) None
-    → place_of places number ≡ stands → participation_on bases stands ≢ Some (Waits session 1)
+    → wheel_place_of places number ≡ stands → participation_on bases stands ≢ Some (Waits session 1)
 not_due bases places session number None are none is = λ same. cc
 not_due bases places session number (Some own) are none is = λ same. none number (is ∙ ap (λ n. Some n) (place_of_slot bases own session 1 are same))
 
 pub due_there : (bases : List ℕ) (places : List (Option ℕ)) (session place : ℕ) (found : Option ℕ) → AreBases bases → session ≤ 3
     → place ≡ slot_place (get_or bases session 0) session 1 → IsTagOn places place found → IsDue (participations_on bases places) session found
 due_there bases places session place None are few there none = λ number waits.
-    not_due bases places session number (place_of places number) are (subst (λ p. IsTagOn places p None) there none) refl (sym (participation_of_place bases places number) ∙ waits)
+    not_due bases places session number (wheel_place_of places number) are (subst (λ p. IsTagOn places p None) there none) refl (sym (participation_of_place bases places number) ∙ waits)
 due_there bases places session place (Some due) are few there next =
     participation_of_place bases places due ∙ ap (λ p. participation_on bases p) (next ∙ ap (λ n. Some n) there) ∙ waits_there bases (get_or bases session 0) session 1 are refl few (omega arith)
 
 -- the called tags
-called_there : (bases : List ℕ) (places : List (Option ℕ)) (number : ℕ) → place_of places number ≡ Some called_place → participation_at (participations_on bases places) number ≡ Some Called
+called_there : (bases : List ℕ) (places : List (Option ℕ)) (number : ℕ) → wheel_place_of places number ≡ Some called_place → participation_at (participations_on bases places) number ≡ Some Called
 called_there bases places number is = participation_of_place bases places number ∙ ap (λ p. participation_on bases p) is
 
 -- one that is called already
@@ -173,7 +173,7 @@ called_again numbers participations on number are is =
     ∙ ap (λ (s : Option Participation). set participations number s)
     (ap (λ (l : List (Option Participation)). participation_at l number) (sym on.same) ∙ called_there on.bases on.places number (are.only number is))
 
-not_there : (bases : List ℕ) (places : List (Option ℕ)) (number : ℕ) (stands : Option ℕ) → place_of places number ≡ stands → place_of places number ≢ Some called_place
+not_there : (bases : List ℕ) (places : List (Option ℕ)) (number : ℕ) (stands : Option ℕ) → wheel_place_of places number ≡ stands → wheel_place_of places number ≢ Some called_place
     → participation_on bases stands ≢ Some Called
 not_there bases places number None is apart = λ same. cc
 not_there bases places number (Some place) is apart =
@@ -184,22 +184,22 @@ not_there bases places number (Some place) is apart =
           (sym (ap (λ (b : Bool). Some (if b then Called else Waits (place / 32768) (slot_behind (get_or bases (place / 32768) 0) place))) w.0) ∙ same)
     ]
 
-not_called_there : (bases : List ℕ) (places : List (Option ℕ)) (number : ℕ) → place_of places number ≢ Some called_place → participation_at (participations_on bases places) number ≢ Some Called
+not_called_there : (bases : List ℕ) (places : List (Option ℕ)) (number : ℕ) → wheel_place_of places number ≢ Some called_place → participation_at (participations_on bases places) number ≢ Some Called
 not_called_there bases places number apart = λ called.
-    not_there bases places number (place_of places number) refl apart (sym (participation_of_place bases places number) ∙ called)
+    not_there bases places number (wheel_place_of places number) refl apart (sym (participation_of_place bases places number) ∙ called)
 
 not_in : (bit : ℕ) → bit ≡ 0 → bit ≢ 1
 not_in bit out = λ one. omega (arith, out, one)
 
-not_called_in : (numbers : List ℕ) (places : List (Option ℕ)) (number : ℕ) → AreCalled numbers places → bit_of numbers number ≡ 0 → place_of places number ≢ Some called_place
-not_called_in numbers places number are out = λ is. not_in (bit_of numbers number) out (are.called number is)
+not_called_in : (numbers : List ℕ) (places : List (Option ℕ)) (number : ℕ) → AreCalled numbers places → bit_in_set numbers number ≡ 0 → wheel_place_of places number ≢ Some called_place
+not_called_in numbers places number are out = λ is. not_in (bit_in_set numbers number) out (are.called number is)
 
 -- where no tag stands on a place, none is called
 pub none_called : (count : ℕ) (numbers : List ℕ) (places : List (Option ℕ)) → count ≤ most_tags → places ≡ replicate count None → HasNone numbers → AreCalled numbers places
 none_called count numbers places few nowhere none = record {
   few = rw (nowhere, length-replicate {A = Option ℕ} count None) few;
-  called = λ number stands. absurd (stands_nowhere count number called_place (sym (ap (λ (l : List (Option ℕ)). place_of l number) nowhere) ∙ stands));
-  only = λ number one. absurd (not_in (bit_of numbers number) (none number) one);
+  called = λ number stands. absurd (stands_nowhere count number called_place (sym (ap (λ (l : List (Option ℕ)). wheel_place_of l number) nowhere) ∙ stands));
+  only = λ number one. absurd (not_in (bit_in_set numbers number) (none number) one);
 }
 
 pub next_called : (bases numbers : List ℕ) (places : List (Option ℕ)) (from : ℕ) (found : Option ℕ) → AreCalled numbers places → IsNextIn numbers from found
@@ -217,42 +217,42 @@ next_called bases numbers places from (Some next) are is = (
 no_slot : (slot : ℕ) → None ≡ Some slot → ⊥
 no_slot slot e = cc
 
-slot_there : (bases : List ℕ) (place slot : ℕ) → slot_in (Some (participation_there bases place)) ≡ Some slot → slot < 32768
+slot_there : (bases : List ℕ) (place slot : ℕ) → waiting_slot (Some (participation_there bases place)) ≡ Some slot → slot < 32768
 slot_there bases place slot is =
     elim (eqb_tells place called_place) [
       | inl w ↦
           absurd
           (no_slot slot
-          (sym (ap (λ (b : Bool). slot_in (Some (if b then Called else Waits (place / 32768) (slot_behind (get_or bases (place / 32768) 0) place)))) w.0) ∙ is))
+          (sym (ap (λ (b : Bool). waiting_slot (Some (if b then Called else Waits (place / 32768) (slot_behind (get_or bases (place / 32768) 0) place)))) w.0) ∙ is))
       | inr w ↦
           let same : slot_behind (get_or bases (place / 32768) 0) place ≡ slot =
           same_Some (slot_behind (get_or bases (place / 32768) 0) place) slot
-          (sym (ap (λ (b : Bool). slot_in (Some (if b then Called else Waits (place / 32768) (slot_behind (get_or bases (place / 32768) 0) place)))) w.0) ∙ is) in
+          (sym (ap (λ (b : Bool). waiting_slot (Some (if b then Called else Waits (place / 32768) (slot_behind (get_or bases (place / 32768) 0) place)))) w.0) ∙ is) in
           omega (arith, same)
     ]
 
-slot_on : (bases : List ℕ) (stands : Option ℕ) (slot : ℕ) → slot_in (participation_on bases stands) ≡ Some slot → slot < 32768
+slot_on : (bases : List ℕ) (stands : Option ℕ) (slot : ℕ) → waiting_slot (participation_on bases stands) ≡ Some slot → slot < 32768
 slot_on bases None slot is = absurd (no_slot slot is)
 slot_on bases (Some place) slot is = slot_there bases place slot is
 
 pub are_slots : (bases : List ℕ) (places : List (Option ℕ)) (now : List (Option Participation)) → participations_on bases places ≡ now → AreSlots now
 are_slots bases places now same = λ number slot is.
-    slot_on bases (place_of places number) slot
-    (ap (λ (s : Option Participation). slot_in s) (sym (participation_of_place bases places number) ∙ ap (λ (l : List (Option Participation)). participation_at l number) same) ∙ is)
+    slot_on bases (wheel_place_of places number) slot
+    (ap (λ (s : Option Participation). waiting_slot s) (sym (participation_of_place bases places number) ∙ ap (λ (l : List (Option Participation)). participation_at l number) same) ∙ is)
 
 pub called_placed : (numbers after : List ℕ) (places : List (Option ℕ)) (number : ℕ) → AreCalled numbers places → number < length places → IsIn after number
-    → ((other : ℕ) → other ≢ number → bit_of after other ≡ bit_of numbers other) → AreCalled after (set places number (Some called_place))
+    → ((other : ℕ) → other ≢ number → bit_in_set after other ≡ bit_in_set numbers other) → AreCalled after (set places number (Some called_place))
 called_placed numbers after places number are within there others = record {
   few = rw (length-set places number (Some called_place)) are.few;
   called = λ other stands.
       elim (eqb_tells other number) [
-        | inl same ↦ ap (λ n. bit_of after n) same.1 ∙ there
+        | inl same ↦ ap (λ n. bit_in_set after n) same.1 ∙ there
         | inr apart ↦
             others other apart.1 ∙ are.called other (sym (get_or-set_other places number other (Some called_place) None apart.1) ∙ stands)
       ];
   only = λ other one.
       elim (eqb_tells other number) [
-        | inl same ↦ ap (λ n. place_of (set places number (Some called_place)) n) same.1 ∙ get_or-set_same places number (Some called_place) None within
+        | inl same ↦ ap (λ n. wheel_place_of (set places number (Some called_place)) n) same.1 ∙ get_or-set_same places number (Some called_place) None within
         | inr apart ↦ get_or-set_other places number other (Some called_place) None apart.1 ∙ are.only other (sym (others other apart.1) ∙ one)
       ];
 }

@@ -9,16 +9,16 @@ use Rattle.std.proofs.lemmas.Nat.Bits.{bit_at-zero, bit_at-lt, bit_at_and, bit_a
 use Rattle.std.proofs.lemmas.List.Folds.{list_any_at}
 use Rattle.std.proofs.lemmas.Grind.{get_or_default_zero}
 use Rattle.air_events.specs.TagNumbers.{most_tags}
-use Rattle.waiting_tags.specs.TagSets.{bit_of, HasNone, IsSetOf, IsIn, IsFilled, IsNextOne, IsNextIn}
+use Rattle.waiting_tags.specs.TagSets.{bit_in_set, HasNone, IsSetOf, IsIn, IsFilled, IsNextOne, IsNextIn}
 
 -- the bit of a number whose word is replaced
-replaced_same : (words : List ℕ) (number word : ℕ) → length words * 64 ≡ most_tags → number < most_tags → bit_of (set words (number / 64) word) number ≡ bit_at word (number % 64)
+replaced_same : (words : List ℕ) (number word : ℕ) → length words * 64 ≡ most_tags → number < most_tags → bit_in_set (set words (number / 64) word) number ≡ bit_at word (number % 64)
 replaced_same words number word size small =
     ap (λ n. bit_at n (number % 64)) (get_or-set_same words (number / 64) word 0 (omega (arith, size, small)))
 
 -- ... and that of another, where the word has the other bits that it had
 replaced_other : (words : List ℕ) (number word other : ℕ) → length words * 64 ≡ most_tags → number < most_tags → other ≢ number
-    → ((bit : ℕ) → bit < 64 → bit ≢ number % 64 → bit_at word bit ≡ bit_at (get_or words (number / 64) 0) bit) → bit_of (set words (number / 64) word) other ≡ bit_of words other
+    → ((bit : ℕ) → bit < 64 → bit ≢ number % 64 → bit_at word bit ≡ bit_at (get_or words (number / 64) 0) bit) → bit_in_set (set words (number / 64) word) other ≡ bit_in_set words other
 replaced_other words number word other size small apart same =
     elim (eqb_tells (other / 64) (number / 64)) [
       | inl one ↦
@@ -58,7 +58,7 @@ pub inserted : (words : List ℕ) (number word : ℕ) → length words * 64 ≡ 
 inserted words number word size small is = replaced_same words number (with_bit word (number % 64)) size small ∙ bit_at_set_same w64 word (number % 64) (omega arith)
 
 pub inserted_other : (words : List ℕ) (number word other : ℕ) → length words * 64 ≡ most_tags → number < most_tags → word ≡ get_or words (number / 64) 0 → other ≢ number
-    → bit_of (set words (number / 64) (with_bit word (number % 64))) other ≡ bit_of words other
+    → bit_in_set (set words (number / 64) (with_bit word (number % 64))) other ≡ bit_in_set words other
 inserted_other words number word other size small is apart =
     replaced_other words number (with_bit word (number % 64)) other size small apart
     (λ bit below differs. bit_at_set_other w64 word (number % 64) (omega arith) bit differs ∙ ap (λ n. bit_at n bit) is)
@@ -86,11 +86,11 @@ abbrev without_bit : ℕ → ℕ → ℕ
 without_bit word bit = bit_and word (bit_not w64 (1 * 2 ^ bit % 2 ^ 64))
 
 pub removed : (words : List ℕ) (number word : ℕ) → length words * 64 ≡ most_tags → number < most_tags → word ≡ get_or words (number / 64) 0
-    → bit_of (set words (number / 64) (without_bit word (number % 64))) number ≡ 0
+    → bit_in_set (set words (number / 64) (without_bit word (number % 64))) number ≡ 0
 removed words number word size small is = replaced_same words number (without_bit word (number % 64)) size small ∙ bit_at_clear_same w64 word (number % 64) (omega arith)
 
 pub removed_other : (words : List ℕ) (number word other : ℕ) → length words * 64 ≡ most_tags → number < most_tags → word ≡ get_or words (number / 64) 0 → other ≢ number
-    → bit_of (set words (number / 64) (without_bit word (number % 64))) other ≡ bit_of words other
+    → bit_in_set (set words (number / 64) (without_bit word (number % 64))) other ≡ bit_in_set words other
 removed_other words number word other size small is apart =
     replaced_other words number (without_bit word (number % 64)) other size small apart
     (λ bit below differs. bit_at_clear_other w64 word (number % 64) (omega arith) bit below differs ∙ ap (λ n. bit_at n bit) is)
@@ -144,11 +144,11 @@ next_one_there word from mask bit is low =
     )
 
 -- the bit of a number in its word
-bit_in : (words : List ℕ) (number at : ℕ) → number / 64 ≡ at → bit_of words number ≡ bit_at (get_or words at 0) (number % 64)
+bit_in : (words : List ℕ) (number at : ℕ) → number / 64 ≡ at → bit_in_set words number ≡ bit_at (get_or words at 0) (number % 64)
 bit_in words number at there = ap (λ n. bit_at (get_or words n 0) (number % 64)) there
 
 -- ... or it isn't
-further : (words : List ℕ) (at from number : ℕ) → IsNextOne (get_or words at 0) from None → at * 64 + from ≤ number → number < (at + 1) * 64 → bit_of words number ≡ 0
+further : (words : List ℕ) (at from number : ℕ) → IsNextOne (get_or words at 0) from None → at * 64 + from ≤ number → number < (at + 1) * 64 → bit_in_set words number ≡ 0
 further words at from number none least below =
     let here : number / 64 ≡ at = omega (arith, least, below) in
     bit_in words number at here ∙ none (number % 64) (omega (arith, here, least)) (omega arith)
@@ -195,7 +195,7 @@ first_word filled words from at bit is next low =
     )
 
 -- no tag
-pub none_in : (words : List ℕ) (count number : ℕ) → words ≡ replicate count 0 → bit_of words number ≡ 0
+pub none_in : (words : List ℕ) (count number : ℕ) → words ≡ replicate count 0 → bit_in_set words number ≡ 0
 none_in words count number is =
     let at : ℕ = number / 64 in
     let word : get_or (replicate {A = ℕ} count 0) at 0 ≡ 0 =
@@ -225,12 +225,12 @@ pub record FilledBelow (words numbers : List ℕ) (index : ℕ) : Type 0 where
   pub there : (at : ℕ) → at < index → IsIn words (get_or numbers at 0)
 
 pub filled_none : (words numbers : List ℕ) → HasNone words → FilledBelow words numbers 0
-filled_none words numbers none = record { only = λ number one. absurd (one_not_zero (bit_of words number) one (none number)); there = λ at below. absurd (omega (arith, below)) }
+filled_none words numbers none = record { only = λ number one. absurd (one_not_zero (bit_in_set words number) one (none number)); there = λ at below. absurd (omega (arith, below)) }
 
 -- a set with one number more
 pub record HasMore (words after : List ℕ) (number : ℕ) : Type 0 where
   pub there : IsIn after number
-  pub others : (other : ℕ) → other ≢ number → bit_of after other ≡ bit_of words other
+  pub others : (other : ℕ) → other ≢ number → bit_in_set after other ≡ bit_in_set words other
 
 pub filled_more : (words after numbers : List ℕ) (index number : ℕ) → FilledBelow words numbers index → index < length numbers → number ≡ get_or numbers index 0 → HasMore words after number
     → FilledBelow after numbers (index + 1)
@@ -242,7 +242,7 @@ filled_more words after numbers index number so_far within is more = record {
       ];
   there = λ at below.
       elim (eqb_tells (get_or numbers at 0) number) [
-        | inl same ↦ ap (λ n. bit_of after n) same.1 ∙ more.there
+        | inl same ↦ ap (λ n. bit_in_set after n) same.1 ∙ more.there
         | inr apart ↦
             more.others (get_or numbers at 0) apart.1
             ∙ so_far.there at
@@ -258,7 +258,7 @@ filled_all words numbers index so_far past = λ number. (
   so_far.only number,
   λ any.
       let found = number_index number numbers any in
-      ap (λ n. bit_of words n) (sym found.2) ∙ so_far.there found.0 (omega (arith, found.1, past)),
+      ap (λ n. bit_in_set words n) (sym found.2) ∙ so_far.there found.0 (omega (arith, found.1, past)),
 )
 
 -- Of the numbers in the set, the first of these are removed.

@@ -6,13 +6,13 @@ use Rattle.std.proofs.lemmas.List.{get_or-set_same, get_or-set_other, get_or_pas
 use Rattle.std.proofs.lemmas.Option.{same_Some}
 use Rattle.std.proofs.lemmas.Grind.{get_or_default_zero}
 use Rattle.air_events.specs.TagNumbers.{most_tags}
-use Rattle.waiting_tags.specs.Wheel.{most_places, place_of, IsTagOn, LeadNowhere, IsLinkOf, IsLinked}
+use Rattle.waiting_tags.specs.Wheel.{most_places, wheel_place_of, IsTagOn, LeadNowhere, IsLinkOf, IsLinked}
 
 pub none_some : (place : ℕ) → None ≡ Some place → ⊥
 none_some place e = cc
 
 -- a tag that stands somewhere is there
-pub stands_inside : (places : List (Option ℕ)) (number place : ℕ) → place_of places number ≡ Some place → number < length places
+pub stands_inside : (places : List (Option ℕ)) (number place : ℕ) → wheel_place_of places number ≡ Some place → number < length places
 stands_inside places number place is =
     elim (cases_lt number (length places)) [
       | inl within ↦ within
@@ -38,24 +38,24 @@ same_place places place other link below limited (inl a) (inr b) = absurd (omega
 same_place places place other link below limited (inr a) (inl b) = absurd (omega (arith, a.1, b, limited))
 same_place places place other link below limited (inr a) (inr b) =
     let same : a.0 ≡ b.0 = omega (arith, a.1, b.1) in
-    same_Some place other (sym a.2 ∙ ap (λ n. place_of places n) same ∙ b.2)
+    same_Some place other (sym a.2 ∙ ap (λ n. wheel_place_of places n) same ∙ b.2)
 
 -- the link behind a tag that stands nowhere is no link of a place
-not_own : (places : List (Option ℕ)) (number place link : ℕ) → place_of places number ≡ None → place < most_places → IsLinkOf places place link → link ≢ most_places + number
+not_own : (places : List (Option ℕ)) (number place link : ℕ) → wheel_place_of places number ≡ None → place < most_places → IsLinkOf places place link → link ≢ most_places + number
 not_own places number place link nowhere below (inl a) = λ same. omega (arith, same, a, below)
 not_own places number place link nowhere below (inr a) = λ same.
     let one : a.0 ≡ number = omega (arith, same, a.1) in
-    none_some place (sym nowhere ∙ sym (ap (λ n. place_of places n) one) ∙ a.2)
+    none_some place (sym nowhere ∙ sym (ap (λ n. wheel_place_of places n) one) ∙ a.2)
 
 -- a link of a place where other tags stay as they are
-link_stays : (places after : List (Option ℕ)) (number place link : ℕ) → link ≢ most_places + number → ((other : ℕ) → other ≢ number → place_of after other ≡ place_of places other)
+link_stays : (places after : List (Option ℕ)) (number place link : ℕ) → link ≢ most_places + number → ((other : ℕ) → other ≢ number → wheel_place_of after other ≡ wheel_place_of places other)
     → IsLinkOf places place link → IsLinkOf after place link
 link_stays places after number place link apart stays (inl a) = inl a
 link_stays places after number place link apart stays (inr a) = inr (a.0, a.1, stays a.0 (λ same. apart (a.1 ∙ ap (λ n. most_places + n) same)) ∙ a.2)
 
 -- where the link of a place leads to no tag, no tag stands there, since each stands behind one that came later
 none_before : (w : Linking) (place fuel number : ℕ) → length w.places ≤ get_or w.links place 0
-    → w.linked.now ≤ w.linked.came number + fuel → place_of w.places number ≢ Some place
+    → w.linked.now ≤ w.linked.came number + fuel → wheel_place_of w.places number ≢ Some place
 none_before w place zero number past late = λ is. omega (arith, late, w.linked.past number)
 none_before w place (suc fuel) number past late = λ is.
     let back = w.linked.back number place is in
@@ -72,7 +72,7 @@ pub tag_on : (w : Linking) (place first : ℕ) → place < most_places → first
     → first < length w.places → IsTagOn w.places place (Some first)
 tag_on w place first below is within =
     let first_is : get_or w.links place 0 ≡ first = sym (is ∙ get_or_default_zero w.links place first (omega (arith, w.linked.size, below))) in
-    ap (λ n. place_of w.places n) (sym first_is) ∙ (w.linked.onward place place below (inl refl) (rw first_is within)).0
+    ap (λ n. wheel_place_of w.places n) (sym first_is) ∙ (w.linked.onward place place below (inl refl) (rw first_is within)).0
 
 pub no_tag_on : (w : Linking) (place first : ℕ) → place < most_places → first ≡ get_or w.links place first
     → length w.places ≤ first → IsTagOn w.places place None
@@ -81,7 +81,7 @@ no_tag_on w place first below is past = λ number.
     none_before w place w.linked.now number (rw first_is past) (omega arith)
 
 -- no tags
-pub stands_nowhere : (count number place : ℕ) → place_of (replicate count None) number ≢ Some place
+pub stands_nowhere : (count number place : ℕ) → wheel_place_of (replicate count None) number ≢ Some place
 stands_nowhere count number place is =
     let inside : number < count = rw (← length-replicate {A = Option ℕ} count None) (stands_inside (replicate count None) number place is) in
     none_some place (sym (get_or-replicate count number None None inside) ∙ is)
@@ -125,10 +125,10 @@ pub new_linked : (count : ℕ) (places : List (Option ℕ)) (links backs : List 
 new_linked count places links backs few none nowhere room = subst (λ (l : List (Option ℕ)). IsLinked l links backs) (sym none) (none_linked count links backs few nowhere room)
 
 -- a tag more or less on a place
-stays_same : (places : List (Option ℕ)) (number other : ℕ) (stand : Option ℕ) → other ≢ number → place_of (set places number stand) other ≡ place_of places other
+stays_same : (places : List (Option ℕ)) (number other : ℕ) (stand : Option ℕ) → other ≢ number → wheel_place_of (set places number stand) other ≡ wheel_place_of places other
 stays_same places number other stand apart = get_or-set_other places number other stand None apart
 
-is_set : (places : List (Option ℕ)) (number : ℕ) (stand : Option ℕ) → number < length places → place_of (set places number stand) number ≡ stand
+is_set : (places : List (Option ℕ)) (number : ℕ) (stand : Option ℕ) → number < length places → wheel_place_of (set places number stand) number ≡ stand
 is_set places number stand within = get_or-set_same places number stand None within
 
 -- a link that is set leads to a tag, or to none
@@ -147,11 +147,11 @@ set_there : (list : List ℕ) (at value other : ℕ) → other ≢ at → get_or
 set_there list at value other apart = get_or-set_other list at other value 0 apart
 
 -- A tag is taken from its place: the link that leads to it leads to the next one.
-taken_stand : (places : List (Option ℕ)) (number other place : ℕ) → number < length places → place_of (set places number None) other ≡ Some place
-    → (other ≢ number) × (place_of places other ≡ Some place)
+taken_stand : (places : List (Option ℕ)) (number other place : ℕ) → number < length places → wheel_place_of (set places number None) other ≡ Some place
+    → (other ≢ number) × (wheel_place_of places other ≡ Some place)
 taken_stand places number other place within is =
     elim (eqb_tells other number) [
-      | inl same ↦ absurd (none_some place (sym (is_set places number None within) ∙ sym (ap (λ n. place_of (set places number None) n) same.1) ∙ is))
+      | inl same ↦ absurd (none_some place (sym (is_set places number None within) ∙ sym (ap (λ n. wheel_place_of (set places number None) n) same.1) ∙ is))
       | inr apart ↦ (apart.1, sym (stays_same places number other None apart.1) ∙ is)
     ]
 
@@ -166,7 +166,7 @@ record Taking (w : Linking) : Type 0 where
   -- the link behind the tag, and the link that leads back from it
   next : ℕ
   back : ℕ
-  stands : place_of w.places number ≡ Some place
+  stands : wheel_place_of w.places number ≡ Some place
   next_is : get_or w.links (most_places + number) 0 ≡ next
   back_is : get_or w.backs number 0 ≡ back
 
@@ -179,7 +179,7 @@ record Links (w : Linking) (t : Taking w) : Type 0 where
   leads : get_or w.links t.back 0 ≡ t.number
   not_own : t.back ≢ most_places + t.number
   small : t.next ≤ most_tags
-  behind : t.next < length w.places → (place_of w.places t.next ≡ Some t.place) × (get_or w.backs t.next 0 ≡ most_places + t.number)
+  behind : t.next < length w.places → (wheel_place_of w.places t.next ≡ Some t.place) × (get_or w.backs t.next 0 ≡ most_places + t.number)
 
 taking_links : (w : Linking) (t : Taking w) → Links w t
 taking_links w t =
@@ -197,12 +197,12 @@ taking_links w t =
       small = rw (← t.next_is) (linked.each (most_places + t.number));
       behind = λ there.
           let onward = linked.onward t.place (most_places + t.number) below (inr (t.number, refl, t.stands)) (rw t.next_is there) in
-          (ap (λ n. place_of w.places n) (sym t.next_is) ∙ onward.0, ap (λ n. get_or w.backs n 0) (sym t.next_is) ∙ onward.1);
+          (ap (λ n. wheel_place_of w.places n) (sym t.next_is) ∙ onward.0, ap (λ n. get_or w.backs n 0) (sym t.next_is) ∙ onward.1);
     }
 
 taken_onward : (w : Linking) (t : Taking w) (on link : ℕ)
     → on < most_places → IsLinkOf (set w.places t.number None) on link → get_or (set w.links t.back t.next) link 0 < length (set w.places t.number None)
-    → (place_of (set w.places t.number None) (get_or (set w.links t.back t.next) link 0) ≡ Some on) × (get_or (set w.backs t.next t.back) (get_or (set w.links t.back t.next) link 0) 0 ≡ link)
+    → (wheel_place_of (set w.places t.number None) (get_or (set w.links t.back t.next) link 0) ≡ Some on) × (get_or (set w.backs t.next t.back) (get_or (set w.links t.back t.next) link 0) 0 ≡ link)
 taken_onward w t on link limited of_after there =
     let l = taking_links w t in
     let linked = w.linked in
@@ -228,19 +228,19 @@ taken_onward w t on link limited of_after there =
     ]
 
 taken_back : (w : Linking) (t : Taking w) (tag on : ℕ)
-    → place_of (set w.places t.number None) tag ≡ Some on
+    → wheel_place_of (set w.places t.number None) tag ≡ Some on
     → IsLinkOf (set w.places t.number None) on (get_or (set w.backs t.next t.back) tag 0) × (get_or (set w.links t.back t.next) (get_or (set w.backs t.next t.back) tag 0) 0 ≡ tag)
 taken_back w t tag on stands_after =
     let l = taking_links w t in
     let linked = w.linked in
     let stands = taken_stand w.places t.number tag on l.within stands_after in
-    let stays : (other : ℕ) → other ≢ t.number → place_of (set w.places t.number None) other ≡ place_of w.places other = λ other apart. stays_same w.places t.number other None apart in
+    let stays : (other : ℕ) → other ≢ t.number → wheel_place_of (set w.places t.number None) other ≡ wheel_place_of w.places other = λ other apart. stays_same w.places t.number other None apart in
     let room : t.next < length w.backs = omega (arith, linked.backs_size, l.small) in
     elim (eqb_tells tag t.next) [
       | inl same ↦
           let value : get_or (set w.backs t.next t.back) tag 0 ≡ t.back = set_here w.backs t.next t.back tag same.1 room in
           let behind = l.behind (rw (← same.1) (stands_inside w.places tag on stands.1)) in
-          let one : t.place ≡ on = same_Some t.place on (sym behind.0 ∙ ap (λ n. place_of w.places n) (sym same.1) ∙ stands.1) in
+          let one : t.place ≡ on = same_Some t.place on (sym behind.0 ∙ ap (λ n. wheel_place_of w.places n) (sym same.1) ∙ stands.1) in
           rw (value, set_here w.links t.back t.next t.back refl l.room)
           (subst (λ n. IsLinkOf (set w.places t.number None) n t.back) one (link_stays w.places (set w.places t.number None) t.number t.place t.back l.not_own stays l.of), sym same.1)
       | inr apart ↦
@@ -253,7 +253,7 @@ taken_back w t tag on stands_after =
     ]
 
 taken_earlier : (w : Linking) (t : Taking w) (tag other on : ℕ)
-    → place_of (set w.places t.number None) tag ≡ Some on → get_or (set w.backs t.next t.back) tag 0 ≡ most_places + other → w.linked.came tag < w.linked.came other
+    → wheel_place_of (set w.places t.number None) tag ≡ Some on → get_or (set w.backs t.next t.back) tag 0 ≡ most_places + other → w.linked.came tag < w.linked.came other
 taken_earlier w t tag other on stands_after is =
     let l = taking_links w t in
     let linked = w.linked in
@@ -289,12 +289,12 @@ taken w t =
     }
 
 -- A tag that stands nowhere is put on a place: the link to the first tag there leads to it, and its own where that led.
-put_stand : (places : List (Option ℕ)) (number place other on : ℕ) → number < length places → place_of (set places number (Some place)) other ≡ Some on
-    → ((other ≡ number) × (on ≡ place)) ⊎ ((other ≢ number) × (place_of places other ≡ Some on))
+put_stand : (places : List (Option ℕ)) (number place other on : ℕ) → number < length places → wheel_place_of (set places number (Some place)) other ≡ Some on
+    → ((other ≡ number) × (on ≡ place)) ⊎ ((other ≢ number) × (wheel_place_of places other ≡ Some on))
 put_stand places number place other on within is =
     elim (eqb_tells other number) [
       | inl same ↦
-          inl (same.1, same_Some on place (sym is ∙ ap (λ n. place_of (set places number (Some place)) n) same.1 ∙ is_set places number (Some place) within))
+          inl (same.1, same_Some on place (sym is ∙ ap (λ n. wheel_place_of (set places number (Some place)) n) same.1 ∙ is_set places number (Some place) within))
       | inr apart ↦ inr (apart.1, sym (stays_same places number other (Some place) apart.1) ∙ is)
     ]
 
@@ -304,7 +304,7 @@ record Putting (w : Linking) : Type 0 where
   place : ℕ
   first : ℕ
   within : number < length w.places
-  nowhere : place_of w.places number ≡ None
+  nowhere : wheel_place_of w.places number ≡ None
   below : place < most_places
   first_is : get_or w.links place 0 ≡ first
 
@@ -319,7 +319,7 @@ record Placed (w : Linking) (p : Putting w) : Type 0 where
   small : p.first ≤ most_tags
   apart : p.place ≢ most_places + p.number
   own_room : most_places + p.number < length w.links
-  there : p.first < length w.places → (place_of w.places p.first ≡ Some p.place) × (get_or w.backs p.first 0 ≡ p.place)
+  there : p.first < length w.places → (wheel_place_of w.places p.first ≡ Some p.place) × (get_or w.backs p.first 0 ≡ p.place)
   other : p.first < length w.places → p.first ≢ p.number
   to_this : get_or (links_put w p) p.place 0 ≡ p.number
   to_first : get_or (links_put w p) (most_places + p.number) 0 ≡ p.first
@@ -336,15 +336,15 @@ placed w p =
     let own_room : most_places + p.number < length w.links = omega (arith, linked.size, linked.few, p.within) in
     let links' : List ℕ = set w.links (most_places + p.number) p.first in
     let backs' : List ℕ = set w.backs p.first (most_places + p.number) in
-    let there : p.first < length w.places → (place_of w.places p.first ≡ Some p.place) × (get_or w.backs p.first 0 ≡ p.place) = λ inside.
+    let there : p.first < length w.places → (wheel_place_of w.places p.first ≡ Some p.place) × (get_or w.backs p.first 0 ≡ p.place) = λ inside.
     let onward = linked.onward p.place p.place p.below (inl refl) (rw p.first_is inside) in
-    (ap (λ n. place_of w.places n) (sym p.first_is) ∙ onward.0, ap (λ n. get_or w.backs n 0) (sym p.first_is) ∙ onward.1) in
+    (ap (λ n. wheel_place_of w.places n) (sym p.first_is) ∙ onward.0, ap (λ n. get_or w.backs n 0) (sym p.first_is) ∙ onward.1) in
     record {
       small = small;
       apart = apart;
       own_room = own_room;
       there = there;
-      other = λ inside same. none_some p.place (sym p.nowhere ∙ sym (ap (λ n. place_of w.places n) same) ∙ (there inside).0);
+      other = λ inside same. none_some p.place (sym p.nowhere ∙ sym (ap (λ n. wheel_place_of w.places n) same) ∙ (there inside).0);
       to_this = set_here links' p.place p.number p.place refl (rw (length-set w.links (most_places + p.number) p.first) (omega (arith, linked.size, p.below)));
       to_first = set_there links' p.place p.number (most_places + p.number) (λ same. apart (sym same)) ∙ set_here w.links (most_places + p.number) p.first (most_places + p.number) refl own_room;
       to_rest = λ link elsewhere not_behind. set_there links' p.place p.number link elsewhere ∙ set_there w.links (most_places + p.number) p.first link not_behind;
@@ -360,7 +360,7 @@ put_link places number place on link within apart (inr a) =
 
 put_onward : (w : Linking) (p : Putting w) (on link : ℕ)
     → on < most_places → IsLinkOf (set w.places p.number (Some p.place)) on link → get_or (links_put w p) link 0 < length (set w.places p.number (Some p.place))
-    → (place_of (set w.places p.number (Some p.place)) (get_or (links_put w p) link 0) ≡ Some on)
+    → (wheel_place_of (set w.places p.number (Some p.place)) (get_or (links_put w p) link 0) ≡ Some on)
     × (get_or (backs_put w p) (get_or (links_put w p) link 0) 0 ≡ link)
 put_onward w p on link limited of_after there =
     let d = placed w p in
@@ -384,7 +384,7 @@ put_onward w p on link limited of_after there =
                 let value : get_or (links_put w p) link 0 ≡ get_or w.links link 0 = d.to_rest link elsewhere.1 apart.1 in
                 let inside : get_or w.links link 0 < length w.places = rw (← value, ← length-set w.places p.number (Some p.place)) there in
                 let onward = linked.onward on link limited of inside in
-                let other : get_or w.links link 0 ≢ p.number = λ meets. none_some on (sym p.nowhere ∙ ap (λ n. place_of w.places n) (sym meets) ∙ onward.0) in
+                let other : get_or w.links link 0 ≢ p.number = λ meets. none_some on (sym p.nowhere ∙ ap (λ n. wheel_place_of w.places n) (sym meets) ∙ onward.0) in
                 let not_first : get_or w.links link 0 ≢ p.first = λ meets.
                 elsewhere.1 (sym onward.1 ∙ ap (λ n. get_or w.backs n 0) meets ∙ (d.there (rw (← meets) inside)).1) in
                 rw (value, d.from_rest (get_or w.links link 0) other not_first, stays_same w.places p.number (get_or w.links link 0) (Some p.place) other) onward
@@ -392,7 +392,7 @@ put_onward w p on link limited of_after there =
     ]
 
 put_back : (w : Linking) (p : Putting w) (tag on : ℕ)
-    → place_of (set w.places p.number (Some p.place)) tag ≡ Some on
+    → wheel_place_of (set w.places p.number (Some p.place)) tag ≡ Some on
     → IsLinkOf (set w.places p.number (Some p.place)) on (get_or (backs_put w p) tag 0)
     × (get_or (links_put w p) (get_or (backs_put w p) tag 0) 0 ≡ tag)
 put_back w p tag on stands_after =
@@ -408,7 +408,7 @@ put_back w p tag on stands_after =
                 let there = d.there (rw (← same.1) (stands_inside w.places tag on other.1)) in
                 let value : get_or (backs_put w p) tag 0 ≡ most_places + p.number =
                 ap (λ n. get_or (backs_put w p) n 0) same.1 ∙ d.from_first (λ meets. other.0 (same.1 ∙ meets)) in
-                let one : p.place ≡ on = same_Some p.place on (sym there.0 ∙ ap (λ n. place_of w.places n) (sym same.1) ∙ other.1) in
+                let one : p.place ≡ on = same_Some p.place on (sym there.0 ∙ ap (λ n. wheel_place_of w.places n) (sym same.1) ∙ other.1) in
                 rw (value, d.to_first) (inr (p.number, refl, is_set w.places p.number (Some p.place) p.within ∙ ap (λ n. Some n) one), sym same.1)
             | inr differs ↦
                 let value : get_or (backs_put w p) tag 0 ≡ get_or w.backs tag 0 = d.from_rest tag other.0 differs.1 in
@@ -446,7 +446,7 @@ put_past came now number tag past =
     ]
 
 put_earlier : (w : Linking) (p : Putting w) (tag other on : ℕ)
-    → place_of (set w.places p.number (Some p.place)) tag ≡ Some on → get_or (backs_put w p) tag 0 ≡ most_places + other
+    → wheel_place_of (set w.places p.number (Some p.place)) tag ≡ Some on → get_or (backs_put w p) tag 0 ≡ most_places + other
     → came_put w.linked.came w.linked.now p.number tag < came_put w.linked.came w.linked.now p.number other
 put_earlier w p tag other on stands_after is =
     let d = placed w p in
@@ -501,7 +501,7 @@ put_there w p =
 -- what the calls of a wheel go by
 
 -- a place that is read
-pub place_read : (places : List (Option ℕ)) (number : ℕ) (stands : Option ℕ) → number < length places → stands ≡ get_or places number stands → stands ≡ place_of places number
+pub place_read : (places : List (Option ℕ)) (number : ℕ) (stands : Option ℕ) → number < length places → stands ≡ get_or places number stands → stands ≡ wheel_place_of places number
 place_read places number stands within is = is ∙ get_or_default places number stands None within
 
 pub place_inside : (w : Linking) (number place : ℕ) (stands : Option ℕ) → number < length w.places
@@ -555,7 +555,7 @@ put_on old w number place first nowhere room below read =
       place = place;
       first = first;
       within = rw (nowhere, length-set old number None) room;
-      nowhere = ap (λ (l : List (Option ℕ)). place_of l number) nowhere ∙ is_set old number None room;
+      nowhere = ap (λ (l : List (Option ℕ)). wheel_place_of l number) nowhere ∙ is_set old number None room;
       below = below;
       first_is = sym (read ∙ get_or_default_zero w.links place first (omega (arith, w.linked.size, below)));
     }

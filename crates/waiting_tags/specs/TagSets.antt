@@ -5,15 +5,15 @@ use Rattle.std.specs.List.{list_any}
 use Rattle.air_events.specs.TagNumbers.{most_tags}
 
 -- the bit that words have for a number: 1 where it is in the set
-abbrev pub bit_of : List ℕ → ℕ → ℕ
-bit_of words number = bit_at (get_or words (number / 64) 0) (number % 64)
+abbrev pub bit_in_set : List ℕ → ℕ → ℕ
+bit_in_set words number = bit_at (get_or words (number / 64) 0) (number % 64)
 
 abbrev pub IsIn : List ℕ → ℕ → Type 0
-IsIn words number = bit_of words number ≡ 1
+IsIn words number = bit_in_set words number ≡ 1
 
 -- no number is in the set
 abbrev pub HasNone : List ℕ → Type 0
-HasNone words = (number : ℕ) → bit_of words number ≡ 0
+HasNone words = (number : ℕ) → bit_in_set words number ≡ 0
 
 -- exactly these numbers are in the set
 abbrev pub IsSetOf : List ℕ → List ℕ → Type 0
@@ -30,5 +30,5 @@ IsNextOne word from (Some next) = (from ≤ next) × (next < 64) × (bit_at word
 
 -- the least number of a set from one on, or none where it has no such number
 abbrev pub IsNextIn : List ℕ → ℕ → Option ℕ → Type 0
-IsNextIn words from None = (number : ℕ) → from ≤ number → number < most_tags → bit_of words number ≡ 0
-IsNextIn words from (Some next) = (from ≤ next) × (next < most_tags) × IsIn words next × ((number : ℕ) → from ≤ number → number < next → bit_of words number ≡ 0)
+IsNextIn words from None = (number : ℕ) → from ≤ number → number < most_tags → bit_in_set words number ≡ 0
+IsNextIn words from (Some next) = (from ≤ next) × (next < most_tags) × IsIn words next × ((number : ℕ) → from ≤ number → number < next → bit_in_set words number ≡ 0)

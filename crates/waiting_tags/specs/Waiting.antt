@@ -5,7 +5,7 @@ use Rattle.air_events.specs.TagNumbers.{most_tags}
 use Rattle.tag_body.specs.RoundNumbers.{slot_below}
 use Rattle.waiting_tags.specs.declared.waiting.Participation.{Participation}
 use Rattle.waiting_tags.specs.declared.waiting.Participation.TheVariants.{Waits, Called}
-use Rattle.waiting_tags.specs.Wheel.{place_of}
+use Rattle.waiting_tags.specs.Wheel.{wheel_place_of}
 use Rattle.waiting_tags.specs.TagSets.{IsIn}
 
 -- how the tag of a number takes part; it doesn't where there is no such tag
@@ -13,10 +13,10 @@ abbrev pub participation_at : List (Option Participation) → ℕ → Option Par
 participation_at participations number = get_or participations number None
 
 -- the slot counter of a tag that waits
-abbrev pub slot_in : Option Participation → Option ℕ
-slot_in None = None
-slot_in (Some (Waits session slot)) = Some slot
-slot_in (Some Called) = None
+abbrev pub waiting_slot : Option Participation → Option ℕ
+waiting_slot None = None
+waiting_slot (Some (Waits session slot)) = Some slot
+waiting_slot (Some Called) = None
 
 -- a tag waits in a round of a session
 abbrev pub waits_in : ℕ → Option Participation → Bool
@@ -37,7 +37,7 @@ IsLegalParticipation (Some Called) = Unit {0}
 
 -- each slot counter has 15 bits
 abbrev pub AreSlots : List (Option Participation) → Type 0
-AreSlots participations = (number slot : ℕ) → slot_in (participation_at participations number) ≡ Some slot → slot < 32768
+AreSlots participations = (number slot : ℕ) → waiting_slot (participation_at participations number) ≡ Some slot → slot < 32768
 
 -- the first tag with a number from one on that is called, or none where there is no such tag
 abbrev pub IsNextCalled : List (Option Participation) → ℕ → Option ℕ → Type 0
@@ -88,5 +88,5 @@ pub record AreBases (bases : List ℕ) : Type 0 where
 -- the set of the numbers of the tags that stand on the place for called ones
 pub record AreCalled (numbers : List ℕ) (places : List (Option ℕ)) : Type 0 where
   pub few : length places ≤ most_tags
-  pub called : (number : ℕ) → place_of places number ≡ Some called_place → IsIn numbers number
-  pub only : (number : ℕ) → IsIn numbers number → place_of places number ≡ Some called_place
+  pub called : (number : ℕ) → wheel_place_of places number ≡ Some called_place → IsIn numbers number
+  pub only : (number : ℕ) → IsIn numbers number → wheel_place_of places number ≡ Some called_place

@@ -8,18 +8,18 @@ abbrev pub most_places : ℕ
 most_places = 131073
 
 -- the place where a tag stands; none where there is no such tag
-abbrev pub place_of : List (Option ℕ) → ℕ → Option ℕ
-place_of places number = get_or places number None
+abbrev pub wheel_place_of : List (Option ℕ) → ℕ → Option ℕ
+wheel_place_of places number = get_or places number None
 
 -- a tag on a place, or none where no tag stands there
 abbrev pub IsTagOn : List (Option ℕ) → ℕ → Option ℕ → Type 0
-IsTagOn places place None = (number : ℕ) → place_of places number ≢ Some place
-IsTagOn places place (Some number) = place_of places number ≡ Some place
+IsTagOn places place None = (number : ℕ) → wheel_place_of places number ≢ Some place
+IsTagOn places place (Some number) = wheel_place_of places number ≡ Some place
 
 -- where the links of a place stand: the link to the first tag at the number of the place, and the link behind a tag after those
 -- of all places
 abbrev pub IsLinkOf : List (Option ℕ) → ℕ → ℕ → Type 0
-IsLinkOf places place link = (link ≡ place) ⊎ ((number : ℕ) × (link ≡ most_places + number) × (place_of places number ≡ Some place))
+IsLinkOf places place link = (link ≡ place) ⊎ ((number : ℕ) × (link ≡ most_places + number) × (wheel_place_of places number ≡ Some place))
 
 -- the links of the tags that stand on these places, and for each tag which link leads back from it. A link leads to a tag of its
 -- place, or to none, and a tag that is linked behind another came before it.
@@ -27,17 +27,17 @@ pub record IsLinked (places : List (Option ℕ)) (links backs : List ℕ) : Type
   pub few : length places ≤ most_tags
   pub size : length links ≡ most_places + most_tags
   pub backs_size : length backs ≡ most_tags + 1
-  pub inside : (number place : ℕ) → place_of places number ≡ Some place → place < most_places
+  pub inside : (number place : ℕ) → wheel_place_of places number ≡ Some place → place < most_places
   pub each : (link : ℕ) → get_or links link 0 ≤ most_tags
   pub onward : (place link : ℕ) → place < most_places → IsLinkOf places place link → get_or links link 0 < length places
-      → (place_of places (get_or links link 0) ≡ Some place) × (get_or backs (get_or links link 0) 0 ≡ link)
-  pub back : (number place : ℕ) → place_of places number ≡ Some place
+      → (wheel_place_of places (get_or links link 0) ≡ Some place) × (get_or backs (get_or links link 0) 0 ≡ link)
+  pub back : (number place : ℕ) → wheel_place_of places number ≡ Some place
       → IsLinkOf places place (get_or backs number 0) × (get_or links (get_or backs number 0) 0 ≡ number)
   -- when each tag came to its place, and a time after all of these: so links go round in no circle
   pub came : ℕ → ℕ
   pub now : ℕ
   pub past : (number : ℕ) → came number < now
-  pub earlier : (number other place : ℕ) → place_of places number ≡ Some place → get_or backs number 0 ≡ most_places + other → came number < came other
+  pub earlier : (number other place : ℕ) → wheel_place_of places number ≡ Some place → get_or backs number 0 ≡ most_places + other → came number < came other
 
 -- links that lead to no tag
 pub record LeadNowhere (links : List ℕ) : Type 0 where

@@ -1,7 +1,7 @@
 //! Sets of tags.
 ghost use Rattle.std.specs.Prelude.{◌≡◌, ◌≢◌, ◌↔◌, ◌*◌, ℕ, ◌+◌, ◌<◌, ◌≤◌, true, All, Some, IfOk};
 ghost use Rattle.air_events.specs.TagNumbers.{most_tags};
-ghost use Rattle.waiting_tags.specs.TagSets.{HasNone, IsIn, IsNextIn, IsNextOne, IsSetOf, bit_of};
+ghost use Rattle.waiting_tags.specs.TagSets.{HasNone, IsIn, IsNextIn, IsNextOne, IsSetOf, bit_in_set};
 
 use air_events::{MOST_TAGS, TagNumber};
 use bit_strings::OutOfMemory;
@@ -30,7 +30,8 @@ impl Model for TagSet {
 
     ghost view = { λ a. a.words.items };
 
-    ghost invariant = { λ a. (length a.words.items * 64 ≡ most_tags) × IsFilled a.filled a.words.items };
+    ghost invariant = { λ a. (length a.words.items * 64 ≡ most_tags)
+        × IsFilled a.filled a.words.items };
 }
 
 impl TagSet {
@@ -45,7 +46,8 @@ impl TagSet {
     /// Adds a tag.
     pub(crate) fn insert(&mut self, number: TagNumber)
         ensures there { IsIn self.new number }
-        ensures others { (other : ℕ) → other ≢ number → bit_of self.new other ≡ bit_of self.old other }
+        ensures others { (other : ℕ) → other ≢ number
+            → bit_in_set self.new other ≡ bit_in_set self.old other }
     {
         let number = number.index();
         let at = number / WORD;
@@ -55,8 +57,9 @@ impl TagSet {
 
     /// Removes a tag.
     pub(crate) fn remove(&mut self, number: TagNumber)
-        ensures there { bit_of self.new number ≡ 0 }
-        ensures others { (other : ℕ) → other ≢ number → bit_of self.new other ≡ bit_of self.old other }
+        ensures there { bit_in_set self.new number ≡ 0 }
+        ensures others { (other : ℕ) → other ≢ number
+            → bit_in_set self.new other ≡ bit_in_set self.old other }
     {
         // Most often it is not in the set: a tag that only waits is removed at each command that all hear.
         if !self.contains(number) {

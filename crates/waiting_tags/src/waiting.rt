@@ -1,7 +1,7 @@
 //! Which tags wait for their slots, and which are called.
 ghost use Rattle.std.specs.Prelude.{◌≡◌, ℕ, ◌+◌, ◌<◌, ◌≤◌, Some, None, length, map, replicate, slice_set, IfOk};
 ghost use Rattle.air_events.specs.TagNumbers.{most_tags};
-ghost use Rattle.waiting_tags.specs.Waiting.{AreSlots, IsDue, IsLegalParticipation, IsNextCalled, counted_down, slot_in, slot_place, participation_at, waits_in};
+ghost use Rattle.waiting_tags.specs.Waiting.{AreSlots, IsDue, IsLegalParticipation, IsNextCalled, counted_down, waiting_slot, slot_place, participation_at, waits_in};
 
 use crate::tag_set::TagSet;
 use crate::wheel::Wheel;
@@ -68,7 +68,7 @@ impl Waiting {
     /// The slot counter of a tag that waits.
     pub fn slot(&self, number: TagNumber) -> Option<u16>
         requires { number < length self.now }
-        ensures value { result ≡ slot_in (participation_at self.now number) }
+        ensures value { result ≡ waiting_slot (participation_at self.now number) }
         ensures range { (slot : ℕ) → result ≡ Some slot → slot < 32768 }
     {
         let place = self.wheel.place(number)?;

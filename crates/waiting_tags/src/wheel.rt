@@ -1,7 +1,7 @@
 //! Places on which tags stand, and the links between the tags of one place.
 ghost use Rattle.std.specs.Prelude.{◌≡◌, ◌<◌, ◌≤◌, ℕ, Some, None, length, replicate, slice_set, IfOk};
 ghost use Rattle.air_events.specs.TagNumbers.{most_tags};
-ghost use Rattle.waiting_tags.specs.Wheel.{most_places, place_of, IsTagOn};
+ghost use Rattle.waiting_tags.specs.Wheel.{most_places, wheel_place_of, IsTagOn};
 
 use air_events::{MOST_TAGS, TagNumber};
 use bit_strings::OutOfMemory;
@@ -58,7 +58,7 @@ impl Wheel {
     /// The place where a tag stands, if there is one.
     pub(crate) fn place(&self, number: TagNumber) -> Option<usize>
         requires { number < length self.now }
-        ensures value { result ≡ place_of self.now number }
+        ensures value { result ≡ wheel_place_of self.now number }
         ensures range { (place : ℕ) → result ≡ Some place → place < most_places }
     {
         let at = number.index();

@@ -89,8 +89,8 @@ pub record Signals : Type 0 where
   pub reply : List ℕ
 
 -- no command, or no reply
-abbrev pub hyphen : List ℕ
-hyphen = codes "-"
+abbrev pub none_text : List ℕ
+none_text = codes "-"
 
 -- a line as the value of a string variable: its fields with `_` in place of each space
 abbrev pub joined : List ℕ → List ℕ
@@ -98,18 +98,18 @@ joined line = join_with_byte 95 (fields_of line)
 
 -- what is read of a stream
 abbrev pub reply_value : Gave → List ℕ
-reply_value gave.Silence = hyphen
+reply_value gave.Silence = none_text
 reply_value (gave.Whole tag reply) = joined (reply_line reply)
 reply_value (gave.Broken tag place) = codes "broken"
 reply_value gave.Raw = codes "raw"
 
 -- between two exchanges: the number of the last exchange, its command, and how many tags replied to it of which no stream came
 abbrev pub idle_between : ℕ → ℕ → List ℕ → Signals
-idle_between exchange replies command = record { reader = true; tag = None; exchange = exchange; replies = replies; command = command; reply = hyphen }
+idle_between exchange replies command = record { reader = true; tag = None; exchange = exchange; replies = replies; command = command; reply = none_text }
 
 -- before the first frame
 abbrev pub first_signals : Signals
-first_signals = idle_between 0 0 hyphen
+first_signals = idle_between 0 0 none_text
 
 -- from the frame of an exchange on: the reader is high but in the lows of the frame, and no tag replies
 abbrev pub sent_signals : Exchanged → Signals
@@ -221,8 +221,8 @@ moments_text old [] = []
 moments_text old (moment ∷ moments) = text_at moment.0 (change_lines old moment.1) ++ moments_text moment.1 moments
 
 -- the head of a dump
-abbrev pub head_lines : List (List ℕ)
-head_lines =
+abbrev pub dump_head : List (List ℕ)
+dump_head =
     codes "$comment intervals and levels as played; the gaps between them are drawn $end"
     ∷ codes "$timescale 1 ns $end"
     ∷ codes "$scope module gen2 $end"
@@ -275,4 +275,4 @@ end_text dump = text_with (time_line dump.begin ∷ change_lines dump.signals (i
 
 -- the head of a dump, as text
 abbrev pub head_text : List ℕ
-head_text = text_with head_lines
+head_text = text_with dump_head

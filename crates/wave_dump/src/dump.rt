@@ -68,8 +68,12 @@ fn push_answer(
     requires sent { signals_of sent.now ≡ sent_signals (exchanged_of exchanged.now) }
     requires reply { reply.now ≡ (heard_signals (exchanged_of exchanged.now)).reply }
     ensures text { OnOk result (string_bytes text.new ≡ string_bytes text.old
-        ++ moments_text (sent_signals (exchanged_of exchanged.now)) (answer_moments link.now (exchanged_of exchanged.now) (answer_begin link.now end) (exchanged_of exchanged.now).levels)) }
-    ensures begin { IfOk result (λ begin. begin ≡ begin_behind link.now (exchanged_of exchanged.now).command end (exchanged_of exchanged.now).levels) }
+        ++ moments_text (sent_signals (exchanged_of exchanged.now))
+        (answer_moments link.now (exchanged_of exchanged.now) (answer_begin link.now end)
+        (exchanged_of exchanged.now).levels)) }
+    ensures begin { IfOk result
+        (λ begin. begin ≡ begin_behind link.now (exchanged_of exchanged.now).command end
+        (exchanged_of exchanged.now).levels) }
 {
     let begin = answer_begin(link, end);
     let unheard = Signals {
@@ -113,7 +117,12 @@ impl Dump {
     ) -> Result<(), OutOfMemory>
         ensures text { OnOk result (string_bytes text.new ≡ string_bytes text.old
             ++ exchange_text self.old.link self.old.dump (exchanged_of exchanged.now)) }
-        ensures behind { OnOk result (self.new ≡ record self.old { dump = dump_behind self.old.link self.old.dump (exchanged_of exchanged.now) }) }
+        ensures behind { OnOk result
+            (self.new ≡ record
+            self.old {
+              dump = dump_behind self.old.link self.old.dump
+                  (exchanged_of exchanged.now);
+            }) }
     {
         set_command(&mut self.next, &mut self.line, exchanged.command)?;
         set_reply(&mut self.reply, &mut self.line, exchanged.given)?;

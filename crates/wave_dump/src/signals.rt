@@ -71,7 +71,8 @@ fn tag_digit(level: Option<bool>) -> char
 
 /// Writes the level of the reader, where it changes.
 fn push_reader(text: &mut String, old: bool, new: bool) -> Result<(), OutOfMemory>
-    ensures { OnOk result (string_bytes text.new ≡ string_bytes text.old ++ text_with (change_line (same_bool old new) (reader_line new))) }
+    ensures { OnOk result (string_bytes text.new ≡ string_bytes text.old
+        ++ text_with (change_line (same_bool old new) (reader_line new))) }
 {
     if old == new {
         return Ok(());
@@ -82,7 +83,8 @@ fn push_reader(text: &mut String, old: bool, new: bool) -> Result<(), OutOfMemor
 
 /// Writes the level of the tags, where it changes.
 fn push_tag(text: &mut String, old: Option<bool>, new: Option<bool>) -> Result<(), OutOfMemory>
-    ensures { OnOk result (string_bytes text.new ≡ string_bytes text.old ++ text_with (change_line (same_level old new) (tag_line new))) }
+    ensures { OnOk result (string_bytes text.new ≡ string_bytes text.old
+        ++ text_with (change_line (same_level old new) (tag_line new))) }
 {
     if same_level(old, new) {
         return Ok(());
@@ -93,7 +95,8 @@ fn push_tag(text: &mut String, old: Option<bool>, new: Option<bool>) -> Result<(
 
 /// Writes the number of the exchange, where it changes.
 fn push_exchange(text: &mut String, old: u64, new: u64) -> Result<(), OutOfMemory>
-    ensures { OnOk result (string_bytes text.new ≡ string_bytes text.old ++ text_with (change_line (old == new) (exchange_line new))) }
+    ensures { OnOk result (string_bytes text.new ≡ string_bytes text.old
+        ++ text_with (change_line (old == new) (exchange_line new))) }
 {
     if old == new {
         return Ok(());
@@ -105,7 +108,8 @@ fn push_exchange(text: &mut String, old: u64, new: u64) -> Result<(), OutOfMemor
 
 /// Writes how many tags reply, where it changes.
 fn push_replies(text: &mut String, old: u32, new: u32) -> Result<(), OutOfMemory>
-    ensures { OnOk result (string_bytes text.new ≡ string_bytes text.old ++ text_with (change_line (old == new) (replies_line new))) }
+    ensures { OnOk result (string_bytes text.new ≡ string_bytes text.old
+        ++ text_with (change_line (old == new) (replies_line new))) }
 {
     if old == new {
         return Ok(());
@@ -147,7 +151,8 @@ pub(crate) fn push_changes(
     old: &Signals<'_>,
     new: &Signals<'_>,
 ) -> Result<(), OutOfMemory>
-    ensures { OnOk result (string_bytes text.new ≡ string_bytes text.old ++ text_with (change_lines (signals_of old.now) (signals_of new.now))) }
+    ensures { OnOk result (string_bytes text.new ≡ string_bytes text.old
+        ++ text_with (change_lines (signals_of old.now) (signals_of new.now))) }
 {
     push_reader(text, old.reader, new.reader)?;
     push_tag(text, old.tag, new.tag)?;
@@ -159,7 +164,8 @@ pub(crate) fn push_changes(
 
 /// Writes a time.
 pub(crate) fn push_time(text: &mut String, time: u64) -> Result<(), OutOfMemory>
-    ensures { OnOk result (string_bytes text.new ≡ string_bytes text.old ++ text_with (time_line time ∷ [])) }
+    ensures { OnOk result (string_bytes text.new ≡ string_bytes text.old
+        ++ text_with (time_line time ∷ [])) }
 {
     text.push('#')?;
     push_long_number(text, time)?;
@@ -173,7 +179,8 @@ pub(crate) fn push_moment(
     old: &Signals<'_>,
     new: &Signals<'_>,
 ) -> Result<(), OutOfMemory>
-    ensures { OnOk result (string_bytes text.new ≡ string_bytes text.old ++ text_at time (change_lines (signals_of old.now) (signals_of new.now))) }
+    ensures { OnOk result (string_bytes text.new ≡ string_bytes text.old
+        ++ text_at time (change_lines (signals_of old.now) (signals_of new.now))) }
 {
     if are_same(old, new) {
         return Ok(());

@@ -12,7 +12,8 @@ use reply_text::push_reply;
 
 /// Adds a field, behind `_` if it isn't the first one.
 fn push_field(text: &mut String, field: &str, first: bool) -> Result<(), OutOfMemory>
-    ensures { OnOk result (string_bytes text.new ≡ string_bytes text.old ++ (if first then field.now else 95 ∷ field.now)) }
+    ensures { OnOk result (string_bytes text.new ≡ string_bytes text.old
+        ++ (if first then field.now else 95 ∷ field.now)) }
 {
     if first {
         return text.push_str(field);

@@ -18,7 +18,8 @@ pub(crate) fn push_frame(
     sent: &Signals<'_>,
 ) -> Result<u64, OutOfMemory>
     ensures text { OnOk result (string_bytes text.new ≡ string_bytes text.old
-        ++ moments_text (signals_of old.now) (frame_moments (signals_of sent.now) begin false intervals.now)) }
+        ++ moments_text (signals_of old.now)
+        (frame_moments (signals_of sent.now) begin false intervals.now)) }
     ensures end { IfOk result (λ end. end ≡ frame_end begin intervals.now) }
 {
     let mut time = begin;
@@ -48,7 +49,9 @@ pub(crate) fn push_stream(
     heard: &Signals<'_>,
 ) -> Result<(), OutOfMemory>
     ensures { OnOk result (string_bytes text.new ≡ string_bytes text.old
-        ++ moments_text (signals_of sent.now) (stream_moments link.now (signals_of sent.now) (signals_of heard.now) begin 0 levels.now.items)) }
+        ++ moments_text (signals_of sent.now)
+        (stream_moments link.now (signals_of sent.now)
+        (signals_of heard.now) begin 0 levels.now.items)) }
 {
     let count = levels.len();
     let mut number = 0;

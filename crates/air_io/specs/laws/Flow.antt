@@ -2,9 +2,9 @@
 use Rattle.std.proofs.Common.{ℕ, List, [], ◌++◌, Option, Some, None, refl, sym, ap, ◌∙◌, append_assoc}
 use Rattle.std.specs.Option.{option_map}
 use Rattle.std.proofs.lemmas.List.{append-nil}
-use Rattle.air_io.specs.Flow.{Reads, Adds}
+use Rattle.air_io.specs.Flow.{TakesBytes, Adds}
 
-pub Reads-more : (old between new : Option (List ℕ)) (bytes more : List ℕ) → Reads old between bytes → Reads between new more → Reads old new (bytes ++ more)
+pub Reads-more : (old between new : Option (List ℕ)) (bytes more : List ℕ) → TakesBytes old between bytes → TakesBytes between new more → TakesBytes old new (bytes ++ more)
 Reads-more old between None bytes more first second = first ∙ ap (option_map (λ rest. bytes ++ rest)) second
 Reads-more old between (Some rest) bytes more first second =
     first ∙ ap (option_map (λ rest. bytes ++ rest)) second ∙ ap Some (sym (append_assoc bytes more rest))

@@ -1,12 +1,12 @@
 -- What is counted of lines is counted line by line.
 use Rattle.std.proofs.Common.{◌≡◌, true, List, [], ◌∷◌, ◌++◌, refl, sym, ◌∙◌, ap, subst, arith}
-use Rattle.air_world.specs.Counting.{Counts, Fits, counted_line, counted_lines}
+use Rattle.air_world.specs.Counting.{CountsLines, Fits, counted_line, counted_lines}
 use Rattle.report_lines.specs.Kept.{is_of_exchanges, is_of_trace}
 use Rattle.report_lines.specs.ReportLine.{ReportLine, BlfLine, ExchangeLine, MissedLine, AnswerLine, GivenLine, TxLine, RxLine, ListLine, OpLine, RoundLine, SeenLine, TagLine, DoneLine}
 use Rattle.runs.specs.declared.summary.Summary.{Summary}
 
 -- nothing is counted where nothing is told
-pub counts-nothing : (summary : Summary) → Counts [] summary summary
+pub counts-nothing : (summary : Summary) → CountsLines [] summary summary
 counts-nothing summary = record { counted = λ fits. refl }
 
 -- what is counted of lines, and of lines behind them
@@ -31,8 +31,8 @@ fits-before counted (OpLine round slot index result) fits = fits
 fits-before counted DoneLine fits = fits
 
 -- who counts a line more counts it behind the lines before
-pub counts-more : (lines : List ReportLine) (first old new : Summary) (line : ReportLine) → Counts lines first old → (Fits (counted_line old line) → new ≡ counted_line old line)
-    → Counts (lines ++ line ∷ []) first new
+pub counts-more : (lines : List ReportLine) (first old new : Summary) (line : ReportLine) → CountsLines lines first old → (Fits (counted_line old line) → new ≡ counted_line old line)
+    → CountsLines (lines ++ line ∷ []) first new
 counts-more lines first old new line counts more = record {
   counted = λ fits.
       let joined = counted-append first lines (line ∷ []) in

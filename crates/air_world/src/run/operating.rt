@@ -6,8 +6,8 @@ ghost use Rattle.access_ops.specs.declared.op_next.Answer.TheVariants.{Got as Go
 ghost use Rattle.access_ops.specs.laws.OperationLaws.{Expects};
 ghost use Rattle.air_events.specs.Streams.{longest_stream};
 ghost use Rattle.air_model.specs.Past.{Item, Start, next_record, past_behind_command};
-ghost use Rattle.air_world.specs.Playing.{IsAt, IsBegun, IsUnderway, StandsAt};
-ghost use Rattle.air_world.specs.Telling.{Passes, lines_behind};
+ghost use Rattle.air_world.specs.Playing.{RunIsAt, IsAtFirstOperation, RunIsUnderway, StandsAt};
+ghost use Rattle.air_world.specs.Telling.{PassesOn, lines_to_tell};
 ghost use Rattle.line_codes.specs.Codes.{table_of};
 ghost use Rattle.reply_wire.specs.Received.{IsReceived};
 ghost use Rattle.report_lines.specs.ReportLine.{ReportLine, OpLine};
@@ -38,13 +38,16 @@ impl<'a, L: Ledger> Run<'a, L> {
         begun: OpRun,
         report: &mut R,
     )
-        requires underway { IsUnderway 129 air.old self.old }
+        requires underway { RunIsUnderway 129 air.old self.old }
         requires few { length operations.now.ops ≤ 32 }
-        requires begun { IsBegun begun operations.now }
-        ensures { (start : Start) (earlier : ℕ) (past : List Item) (epc : List ℕ) (rn : ℕ) → IsAt start earlier past air.old self.old
+        requires begun { IsAtFirstOperation begun operations.now }
+        ensures { (start : Start) (earlier : ℕ) (past : List Item) (epc : List ℕ) (rn : ℕ)
+            → RunIsAt start earlier past air.old self.old
             → OpRunStandsFor begun operations.now epc rn []
-            → StandsAt (Passes R.hears (lines_behind start past) report.old report.new) start earlier
-            (past_behind_dialogue start round slot 1 (dialogue_of operations.now epc rn) past) air.new self.new }
+            → StandsAt (PassesOn R.hears (lines_to_tell start past) report.old report.new) start
+            earlier
+            (past_behind_dialogue start round slot 1 (dialogue_of operations.now epc rn) past)
+            air.new self.new }
     {
         let mut run = begun;
         let mut next = OpNext::End;
@@ -82,15 +85,21 @@ impl<'a, L: Ledger> Run<'a, L> {
         answer: &mut Answer,
         report: &mut R,
     )
-        requires underway { IsUnderway 1 air.old self.old }
+        requires underway { RunIsUnderway 1 air.old self.old }
         requires expects { Expects command.now expect.now extended }
-        ensures plays { (start : Start) (earlier : ℕ) (past : List Item) (round slot : ℕ) → IsAt start earlier past air.old self.old
-            → IsAt start earlier (past_behind_command start round slot command.now past) air.new self.new }
+        ensures plays { (start : Start) (earlier : ℕ) (past : List Item) (round slot : ℕ)
+            → RunIsAt start earlier past air.old self.old
+            → RunIsAt start earlier
+            (past_behind_command start round slot command.now past) air.new self.new }
         ensures expected { IsAnswerFor expect.now answer.new }
-        ensures heard { (start : Start) (earlier : ℕ) (past : List Item) (round slot : ℕ) → IsAt start earlier past air.old self.old
-            → reception_in answer.new ≡ operation_reception start round slot command.now expect.now extended past }
-        ensures told { (start : Start) (earlier : ℕ) (past : List Item) (round slot : ℕ) (before : List ReportLine) → IsAt start earlier past air.old self.old
-            → Passes R.hears before report.old report.new (before ++ exchange_lines start.link (next_record start round slot command.now past)) }
+        ensures heard { (start : Start) (earlier : ℕ) (past : List Item) (round slot : ℕ)
+            → RunIsAt start earlier past air.old self.old
+            → reception_in answer.new
+            ≡ operation_reception start round slot command.now expect.now extended past }
+        ensures told { (start : Start) (earlier : ℕ) (past : List Item) (round slot : ℕ)
+            (before : List ReportLine) → RunIsAt start earlier past air.old self.old
+            → PassesOn R.hears before report.old report.new
+            (before ++ exchange_lines start.link (next_record start round slot command.now past)) }
     {
         answers_are_replies();
         steps_keep_tags_legal();
@@ -110,7 +119,9 @@ fn given(is_answered: bool, answer: &Answer) -> Option<&Answer>
 
 /// Tells the result of the operation with this number, counted from 1.
 fn tell_result<R: Listener>(round: u32, slot: u32, index: u32, ended: &OpResult, report: &mut R)
-    ensures { (before : List ReportLine) → Passes R.hears before report.old report.new (before ++ OpLine round slot index ended.now ∷ []) }
+    ensures { (before : List ReportLine)
+        → PassesOn R.hears before report.old report.new
+        (before ++ OpLine round slot index ended.now ∷ []) }
 {
     report.tell(&Line::Op {
         round,
@@ -125,7 +136,8 @@ fn hear(air: &Air, expect: &Expect, extended: bool, bits: &mut Bits, answer: &mu
     requires room { longest_stream ≤ bits.old.capacity }
     ensures room { bits.new.capacity ≡ bits.old.capacity }
     ensures received { (received : Received) × (answer.new ≡ GotAnswer received)
-        × IsReceived (table_of air.now.link.code) (extended || air.now.link.trext) expect.now air.now.stream received }
+        × IsReceived (table_of air.now.link.code)
+        (extended || air.now.link.trext) expect.now air.now.stream received }
 {
     // The room of what was received before is taken over as it is.
     if let Answer::Got(received) = answer {

@@ -3,7 +3,7 @@ ghost use Rattle.std.specs.Prelude.{◌≡◌, ℕ, ◌<◌, ◌≤◌, ◌++◌
 ghost use Rattle.air_channel.specs.Air.{AirValue};
 ghost use Rattle.air_model.specs.Past.{Record};
 ghost use Rattle.air_world.specs.Saying.{AnswersCommand, AreOfDifferentTags, AreShort, IsBehind};
-ghost use Rattle.air_world.specs.Telling.{Passes};
+ghost use Rattle.air_world.specs.Telling.{PassesOn};
 ghost use Rattle.pie_line.specs.Link.{LinkValue};
 ghost use Rattle.reply_grammar.specs.Table.{longest_reply};
 ghost use Rattle.report_lines.specs.ReportLine.{ReportLine, ExchangeLine, GivenLine, MissedLine};
@@ -27,7 +27,8 @@ use wave_dump::{Exchanged, Gave};
 fn read(command: &Command, answer: &[bool], bits: &mut Bits) -> Reply
     requires { length answer.now ≤ bits.old.capacity }
     ensures room { bits.new.capacity ≡ bits.old.capacity }
-    ensures reply { (sent : Sent) → AnswersCommand command.now sent → answer.now ≡ bits_sent (Some sent) → result ≡ sent.reply }
+    ensures reply { (sent : Sent) → AnswersCommand command.now sent
+        → answer.now ≡ bits_sent (Some sent) → result ≡ sent.reply }
 {
     bits.clear();
     bits.put_all_reserved(answer);
@@ -36,7 +37,7 @@ fn read(command: &Command, answer: &[bool], bits: &mut Bits) -> Reply
 
 /// Tells which command was sent, and which tags missed it.
 fn tell_command<R: Listener>(exchange: u64, command: &Command, entry: &Entry, report: &mut R)
-    ensures { (before : List ReportLine) → Passes R.hears before report.old report.new
+    ensures { (before : List ReportLine) → PassesOn R.hears before report.old report.new
         (before ++ ExchangeLine exchange command.now ∷ map (MissedLine exchange) entry.now.missed) }
 {
     report.tell(&Line::Exchange { exchange, command });
@@ -59,8 +60,10 @@ fn tell_answers<R: Listener>(
     requires room { longest_reply ≤ bits.old.capacity }
     requires short { AreShort answers.now.items }
     ensures room { bits.new.capacity ≡ bits.old.capacity }
-    ensures told { (replies : List Replied) (before : List ReportLine) → answers.now.items ≡ answers_of replies → AreReplies (AnswersCommand command.now) replies
-        → Passes R.hears before report.old report.new (before ++ map (answer_line exchange) replies) }
+    ensures told { (replies : List Replied) (before : List ReportLine)
+        → answers.now.items ≡ answers_of replies → AreReplies (AnswersCommand command.now) replies
+        → PassesOn R.hears before report.old report.new
+        (before ++ map (answer_line exchange) replies) }
 {
     for place in 0..answers.len() {
         tell_answer(answers, place, exchange, command, bits, report);
@@ -80,8 +83,11 @@ fn tell_answer<R: Listener>(
     requires room { longest_reply ≤ bits.old.capacity }
     requires short { AreShort answers.now.items }
     ensures room { bits.new.capacity ≡ bits.old.capacity }
-    ensures told { (replied : Replied) (before : List ReportLine) → slice_get answers.now.items place ≡ Some (answer_of replied) → AnswersCommand command.now replied.sent
-        → Passes R.hears before report.old report.new (before ++ answer_line exchange replied ∷ []) }
+    ensures told { (replied : Replied) (before : List ReportLine)
+        → slice_get answers.now.items place ≡ Some (answer_of replied)
+        → AnswersCommand command.now replied.sent
+        → PassesOn R.hears before report.old report.new
+        (before ++ answer_line exchange replied ∷ []) }
 {
     let Some(answer) = answers.get(place) else {
         unreachable!();
@@ -100,8 +106,10 @@ fn reply_of(answers: &Answers, tag: u32, command: &Command, bits: &mut Bits) -> 
     requires room { longest_reply ≤ bits.old.capacity }
     requires short { AreShort answers.now.items }
     ensures room { bits.new.capacity ≡ bits.old.capacity }
-    ensures reply { (replies : List Replied) (place : ℕ) (replied : Replied) → answers.now.items ≡ answers_of replies → AreReplies (AnswersCommand command.now) replies
-        → AreOfDifferentTags replies → slice_get replies place ≡ Some replied → tag ≡ replied.number → result ≡ replied.sent.reply }
+    ensures reply { (replies : List Replied) (place : ℕ) (replied : Replied)
+        → answers.now.items ≡ answers_of replies → AreReplies (AnswersCommand command.now) replies
+        → AreOfDifferentTags replies → slice_get replies place ≡ Some replied → tag ≡ replied.number
+        → result ≡ replied.sent.reply }
 {
     for place in 0..answers.len() {
         let Some(answer) = answers.get(place) else {
@@ -120,7 +128,8 @@ fn gave(air: &Air, got: Got, command: &Command, bits: &mut Bits) -> Gave
     requires room { longest_reply ≤ bits.old.capacity }
     requires short { AreShort air.now.answers }
     ensures room { bits.new.capacity ≡ bits.old.capacity }
-    ensures gave { (link : LinkValue) (sent : Record) → IsBehind link sent air.now got → command.now ≡ sent.command → result ≡ gave_of link sent.given }
+    ensures gave { (link : LinkValue) (sent : Record) → IsBehind link sent air.now got
+        → command.now ≡ sent.command → result ≡ gave_of link sent.given }
 {
     match got {
         Got::Silence => Gave::Silence,
@@ -142,8 +151,10 @@ fn tell_given<R: Listener>(
     requires room { longest_reply ≤ bits.old.capacity }
     requires short { AreShort air.now.answers }
     ensures room { bits.new.capacity ≡ bits.old.capacity }
-    ensures told { (link : LinkValue) (sent : Record) (before : List ReportLine) → IsBehind link sent air.now got → exchange ≡ sent.exchange → command.now ≡ sent.command
-        → Passes R.hears before report.old report.new (before ++ GivenLine (exchanged_by link sent) ∷ []) }
+    ensures told { (link : LinkValue) (sent : Record) (before : List ReportLine)
+        → IsBehind link sent air.now got → exchange ≡ sent.exchange → command.now ≡ sent.command
+        → PassesOn R.hears before report.old report.new
+        (before ++ GivenLine (exchanged_by link sent) ∷ []) }
 {
     let given = gave(air, got, command, bits);
     report.tell(&Line::Given(Exchanged {
@@ -170,8 +181,10 @@ pub(crate) fn tell_said<R: Listener>(
     requires room { longest_reply ≤ bits.old.capacity }
     requires short { AreShort air.now.answers }
     ensures room { bits.new.capacity ≡ bits.old.capacity }
-    ensures told { (link : LinkValue) (sent : Record) (before : List ReportLine) → IsBehind link sent air.now got → exchange ≡ sent.exchange → command.now ≡ sent.command
-        → entry.now ≡ sent.entry → Passes R.hears before report.old report.new (before ++ said_lines link sent) }
+    ensures told { (link : LinkValue) (sent : Record) (before : List ReportLine)
+        → IsBehind link sent air.now got → exchange ≡ sent.exchange → command.now ≡ sent.command
+        → entry.now ≡ sent.entry
+        → PassesOn R.hears before report.old report.new (before ++ said_lines link sent) }
 {
     if !report.wants_exchanges() {
         return;
@@ -183,8 +196,9 @@ pub(crate) fn tell_said<R: Listener>(
 
 /// Tells of the waves of the last exchange of an air, to a listener that wants them: the frame that was sent, and the stream that came.
 pub(crate) fn tell_waves<R: Listener>(air: &Air, exchange: u64, report: &mut R)
-    ensures { (got : Got) (link : LinkValue) (sent : Record) (before : List ReportLine) → IsBehind link sent air.now got → exchange ≡ sent.exchange
-        → Passes R.hears before report.old report.new (before ++ wave_lines link sent) }
+    ensures { (got : Got) (link : LinkValue) (sent : Record) (before : List ReportLine)
+        → IsBehind link sent air.now got → exchange ≡ sent.exchange
+        → PassesOn R.hears before report.old report.new (before ++ wave_lines link sent) }
 {
     if !report.wants_frames() {
         return;

@@ -1,8 +1,8 @@
 //! The steps of a run.
 ghost use Rattle.std.specs.Prelude.{◌≡◌, ℕ, List, None, All, length};
 ghost use Rattle.air_model.specs.Past.{Item, Start, past_behind_command};
-ghost use Rattle.air_world.specs.Playing.{IsAt, IsPlayable, StandsAt, IsBetweenSteps};
-ghost use Rattle.air_world.specs.Telling.{Ends, IsCutOff, Passes, lines_behind};
+ghost use Rattle.air_world.specs.Playing.{RunIsAt, IsPlayable, StandsAt, IsBetweenSteps};
+ghost use Rattle.air_world.specs.Telling.{EndsOrFails, IsCutOff, PassesOn, lines_to_tell};
 ghost use Rattle.runs.specs.History.{past_behind, past_behind_step};
 ghost use Rattle.runs.specs.NextItem.{expectation_of};
 
@@ -24,9 +24,13 @@ impl<'a, L: Ledger> Run<'a, L> {
     ) -> Result<(), PlayFault>
         requires between { IsBetweenSteps (length steps.now) air.old self.old }
         requires steps { All (IsPlayable (length air.old.tags)) steps.now }
-        ensures { (start : Start) (earlier : ℕ) (past : List Item) → IsAt start earlier past air.old self.old
-            → Ends result (StandsAt (Passes R.hears (lines_behind start past) report.old report.new) start earlier (past_behind start steps.now past) air.new self.new)
-            (IsCutOff R.hears R.failed (lines_behind start past) report.old report.new (lines_behind start (past_behind start steps.now past))) }
+        ensures { (start : Start) (earlier : ℕ) (past : List Item)
+            → RunIsAt start earlier past air.old self.old
+            → EndsOrFails result
+            (StandsAt (PassesOn R.hears (lines_to_tell start past) report.old report.new) start
+            earlier (past_behind start steps.now past) air.new self.new)
+            (IsCutOff R.hears R.failed (lines_to_tell start past) report.old report.new
+            (lines_to_tell start (past_behind start steps.now past))) }
     {
         round_laws();
         for step in steps {
@@ -44,9 +48,13 @@ impl<'a, L: Ledger> Run<'a, L> {
     ) -> Result<(), PlayFault>
         requires between { IsBetweenSteps 1 air.old self.old }
         requires step { IsPlayable (length air.old.tags) step.now }
-        ensures { (start : Start) (earlier : ℕ) (past : List Item) → IsAt start earlier past air.old self.old
-            → Ends result (StandsAt (Passes R.hears (lines_behind start past) report.old report.new) start earlier (past_behind_step start step.now past) air.new self.new)
-            (IsCutOff R.hears R.failed (lines_behind start past) report.old report.new (lines_behind start (past_behind_step start step.now past))) }
+        ensures { (start : Start) (earlier : ℕ) (past : List Item)
+            → RunIsAt start earlier past air.old self.old
+            → EndsOrFails result
+            (StandsAt (PassesOn R.hears (lines_to_tell start past) report.old report.new) start
+            earlier (past_behind_step start step.now past) air.new self.new)
+            (IsCutOff R.hears R.failed (lines_to_tell start past) report.old report.new
+            (lines_to_tell start (past_behind_step start step.now past))) }
     {
         match step {
             Step::Select(command) => self.send_alone(air, command, report),
@@ -71,9 +79,13 @@ impl<'a, L: Ledger> Run<'a, L> {
     ) -> Result<(), PlayFault>
         requires between { IsBetweenSteps 1 air.old self.old }
         requires unanswered { expectation_of command.now ≡ None }
-        ensures { (start : Start) (earlier : ℕ) (past : List Item) → IsAt start earlier past air.old self.old
-            → Ends result (StandsAt (Passes R.hears (lines_behind start past) report.old report.new) start earlier (past_behind_command start 0 0 command.now past) air.new self.new)
-            (IsCutOff R.hears R.failed (lines_behind start past) report.old report.new (lines_behind start (past_behind_command start 0 0 command.now past))) }
+        ensures { (start : Start) (earlier : ℕ) (past : List Item)
+            → RunIsAt start earlier past air.old self.old
+            → EndsOrFails result
+            (StandsAt (PassesOn R.hears (lines_to_tell start past) report.old report.new) start
+            earlier (past_behind_command start 0 0 command.now past) air.new self.new)
+            (IsCutOff R.hears R.failed (lines_to_tell start past) report.old report.new
+            (lines_to_tell start (past_behind_command start 0 0 command.now past))) }
     {
         self.send(air, command, report);
         check(report)

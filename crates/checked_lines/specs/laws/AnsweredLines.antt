@@ -4,8 +4,8 @@ use Rattle.std.specs.List.{AllZip, flat_map}
 use Rattle.std.proofs.lemmas.List.Elements.{All-nil, All-push}
 use Rattle.std.proofs.lemmas.Grind.{flat_map-append}
 use Rattle.text_fields.specs.Lines.{Lacks, lines_of, fields_of, line_feed, text_with}
-use Rattle.text_fields.specs.laws.LineLaws.{pieces_between-cut, some_line, some_piece, whole_piece}
-use Rattle.text_fields.specs.laws.ListLaws.{flat_map_push, zip_push}
+use Rattle.text_fields.proofs.LineLaws.{pieces_between-cut, some_line, some_piece, whole_piece}
+use Rattle.text_fields.proofs.ListLaws.{flat_map_push, zip_push}
 use Rattle.checked_lines.specs.LineRules.{LineRules, AskFor, AskForSome, Answers, IsFirstFault, text_rules}
 use Rattle.checked_lines.specs.TextRules.{Faulty, HasOutcomeFrom}
 use Rattle.checked_lines.specs.Answered.{AddsLineFor, AsksTo, AnswersTo}

@@ -4,7 +4,7 @@ use Rattle.std.specs.Prelude.{All}
 use Rattle.std.specs.List.{AllZip}
 use Rattle.std.proofs.lemmas.List.Elements.{All-head, All-tail}
 use Rattle.text_fields.specs.Lines.{Lacks, fields_of, line_feed, lines_of, text_with}
-use Rattle.text_fields.specs.laws.LineLaws.{pieces_between-cut}
+use Rattle.text_fields.proofs.LineLaws.{pieces_between-cut}
 use Rattle.checked_lines.specs.LineRules.{LineRules, AskForSome, IsFaultText, IsFirstFault, text_rules}
 use Rattle.checked_lines.specs.TextRules.{HasOutcomeFrom, Lead, Whole}
 use Rattle.checked_lines.specs.declared.fault.FaultyLine.{FaultyLine}

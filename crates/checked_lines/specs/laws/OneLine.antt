@@ -15,7 +15,7 @@ abbrev pub HaveOneAnswer : {R A : Type 0} → LineRules R A → Type 0
 HaveOneAnswer {R} {A} rules = (line : List ℕ) (request : R) (one other : A) → rules.asks line request → rules.answers request one → rules.answers request other → one ≡ other
 
 -- the answer is one to what the line asks for
-pub record IsAnswered {R A : Type 0} (rules : LineRules R A) (line : List ℕ) (answer : A) : Type 0 where
+pub record LineIsAnswered {R A : Type 0} (rules : LineRules R A) (line : List ℕ) (answer : A) : Type 0 where
   pub request : R
   pub asks : rules.asks line request
   pub right : rules.answers request answer

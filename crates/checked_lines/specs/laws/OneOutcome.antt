@@ -2,7 +2,7 @@
 use Rattle.std.proofs.Common.{◌≡◌, ◌⊎◌, ℕ, ◌+◌, List, [], ◌∷◌, refl, sym, ◌∙◌, ap, ap₂, subst, inl, inr}
 use Rattle.text_fields.specs.FaultLine.{fault_line}
 use Rattle.text_fields.specs.Lines.{line_feed, lines_of}
-use Rattle.text_fields.specs.laws.LineLaws.{some_piece}
+use Rattle.text_fields.proofs.LineLaws.{some_piece}
 use Rattle.checked_lines.specs.FaultWords.{reason_word}
 use Rattle.checked_lines.specs.declared.fault.FaultReason.{FaultReason}
 use Rattle.checked_lines.specs.TextRules.{TextRules, Outcome, Whole, Faulty, EndsIn, StopsAt, HasOutcome, HasOutcomeFrom, IsFaultText, IsFirstFault, IsText}

@@ -3,7 +3,7 @@ use Rattle.std.proofs.Common.{◌≡◌, ◌≢◌, ℕ, ◌+◌, List, [], ◌�
 use Rattle.std.proofs.lemmas.List.Splits.{join_with_byte-slice_split}
 use Rattle.std.specs.List.{join_with_byte}
 use Rattle.text_fields.specs.Lines.{line_feed, lines_of}
-use Rattle.text_fields.specs.laws.LineLaws.{some_piece}
+use Rattle.text_fields.proofs.LineLaws.{some_piece}
 use Rattle.checked_lines.specs.TextRules.{TextRules, Outcome, Whole, Faulty, HasOutcomeFrom, Lead}
 
 -- Of these lines, of which the first has the number `first` and stands at `from`, those before the one of this number lead to this standing,

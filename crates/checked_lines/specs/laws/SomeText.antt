@@ -2,13 +2,13 @@
 use Rattle.std.proofs.Common.{◌≡◌, ◌⊎◌, ℕ, ◌+◌, List, [], ◌∷◌, ◌++◌, refl, sym, ◌∙◌, ap, subst, inl, inr}
 use Rattle.text_fields.specs.Lines.{line_feed, lines_of}
 use Rattle.text_fields.specs.FaultLine.{fault_line}
-use Rattle.text_fields.specs.laws.LineLaws.{some_piece}
+use Rattle.text_fields.proofs.LineLaws.{some_piece}
 use Rattle.checked_lines.specs.FaultWords.{reason_word}
 use Rattle.checked_lines.specs.LineRules.{LineRules, Answers, IsFaultText, text_rules}
 use Rattle.checked_lines.specs.TextRules.{Faulty, HasOutcomeFrom}
 use Rattle.checked_lines.specs.declared.fault.FaultReason.{FaultReason}
 use Rattle.checked_lines.specs.declared.fault.FaultReason.TheVariants.{End}
-use Rattle.checked_lines.specs.laws.OneLine.{AsksOrIsFaulty, HaveAnswers, IsAnswered}
+use Rattle.checked_lines.specs.laws.OneLine.{AsksOrIsFaulty, HaveAnswers, LineIsAnswered}
 use Rattle.checked_lines.specs.laws.ReadingOn.{leads_on, stops_here}
 
 -- the bytes have a text
@@ -25,7 +25,7 @@ module _ {R A : Type 0} (rules : LineRules R A) where
   one_later number (first ∷ next ∷ lines) line reason (inr more) = inr (tt, more.1, one_later (number + 1) (next ∷ lines) line reason more.2)
 
   -- a line that is answered, and what stands behind it
-  text_behind : (bytes line behind : List ℕ) (answer : A) → lines_of bytes ≡ line ∷ lines_of behind → IsAnswered rules line answer → HasText rules behind → HasText rules bytes
+  text_behind : (bytes line behind : List ℕ) (answer : A) → lines_of bytes ≡ line ∷ lines_of behind → LineIsAnswered rules line answer → HasText rules behind → HasText rules bytes
   text_behind bytes line behind answer lines answered (text, inl found) = (
     rules.line_of answer ++ text,
     inl (record {

@@ -20,7 +20,7 @@ use Rattle.command_fields.specs.declared.choices.MaskBank.TheVariants as mask_ba
 use Rattle.command_fields.specs.declared.choices.FlagName.TheVariants as flags
 use Rattle.bit_strings.specs.declared.code.Code.TheVariants as lines_of
 use Rattle.command_grammar.specs.Commands.{Part, code_field, code_of, plain_field, named_field, with_crc16, IsWord, bits_of_select_target, bits_of_mask_bank, bits_of_bank}
-use Rattle.command_grammar.specs.reading.Readers.{Reading, ◌>>=◌, bits_at, field_at, choice_at, count_at, words_at, ebv_at, kind_values, query_rep_at, ack_at, query_at, query_adjust_at, select_at, req_rn_at, read_at, write_at, kill_at, lock_at, access_at, block_write_at, block_erase_at, fields_at}
+use Rattle.command_grammar.specs.reading.Readers.{Reading, ◌>>=◌, reading_bits, reading_number, choice_at, count_at, words_at, ebv_at, kind_values, query_rep_at, ack_at, query_at, query_adjust_at, select_at, req_rn_at, read_at, write_at, kill_at, lock_at, access_at, block_write_at, block_erase_at, fields_at}
 use Rattle.command_grammar.proofs.reading.ExactFields.{exact_field}
 use Rattle.command_grammar.proofs.reading.NumberFields.{bit_field, bits_field, count_field, number_field}
 use Rattle.command_grammar.proofs.reading.WordFields.{some_words, words_field}
@@ -35,7 +35,7 @@ positive (suc width) = omega (arith, positive width)
 -- ---- a field and then the others, by its kind
 
 number_then : (width : ℕ) (pre : List Part) (k : ℕ × List Bool → List Bool → Reading Command)
-    → ((value : ℕ) → value < 2 ^ width → ReadsOn (pre ++ part None (field_of value width) ∷ []) (λ whole rest. k (value, rest) whole)) → ReadsOn pre (λ whole bits. field_at width bits >>= λ x. k x whole)
+    → ((value : ℕ) → value < 2 ^ width → ReadsOn (pre ++ part None (field_of value width) ∷ []) (λ whole rest. k (value, rest) whole)) → ReadsOn pre (λ whole bits. reading_number width bits >>= λ x. k x whole)
 number_then width pre k second =
     reads_field_then pre (number_field width None) k
     (λ value bits h. subst (λ (l : List Bool). ReadsOn (pre ++ part None l ∷ []) (λ whole rest. k (value, rest) whole)) (sym h.1) (second value h.0)) (record { value = 0; bits = field_of 0 width; spelled = (positive width, refl) })
@@ -53,7 +53,7 @@ count_then pre k second =
     (λ value bits h. subst (λ (l : List Bool). ReadsOn (pre ++ part (Some reasons.Count) l ∷ []) (λ whole rest. k (value, rest) whole)) (sym h.0.1) (second value h.0.0 h.1)) (record { value = 1; bits = field_of 1 8; spelled = ((omega arith, refl), refl) })
 
 mask_then : (width : ℕ) (pre : List Part) (k : List Bool × List Bool → List Bool → Reading Command)
-    → ((value : List Bool) → length value ≡ width → ReadsOn (pre ++ part None value ∷ []) (λ whole rest. k (value, rest) whole)) → (some : List Bool) → length some ≡ width → ReadsOn pre (λ whole bits. bits_at width bits >>= λ x. k x whole)
+    → ((value : List Bool) → length value ≡ width → ReadsOn (pre ++ part None value ∷ []) (λ whole rest. k (value, rest) whole)) → (some : List Bool) → length some ≡ width → ReadsOn pre (λ whole bits. reading_bits width bits >>= λ x. k x whole)
 mask_then width pre k second some wide =
     reads_field_then pre (bits_field width None) k
     (λ value bits h. subst (λ (l : List Bool). ReadsOn (pre ++ part None l ∷ []) (λ whole rest. k (value, rest) whole)) (sym h.1) (second value h.0)) (record { value = some; bits = some; spelled = (wide, refl) })

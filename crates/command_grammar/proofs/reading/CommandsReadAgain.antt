@@ -11,7 +11,7 @@ use Rattle.command_grammar.specs.declared.kinds.CommandKind.{CommandKind}
 use Rattle.command_grammar.specs.declared.kinds.CommandKind.TheVariants as kinds
 use Rattle.command_grammar.specs.declared.refusal.Reason.TheVariants as reasons
 use Rattle.command_grammar.specs.Commands.{Part, code_of, parts_of, IsLegalCommand}
-use Rattle.command_grammar.specs.reading.Readers.{Reading, ◌>>=◌, field_at, count_at, ebv_at, query_rep_at, ack_at, query_at, query_adjust_at, select_at, req_rn_at, read_at, write_at, kill_at, lock_at, access_at, block_write_at, block_erase_at, fields_at}
+use Rattle.command_grammar.specs.reading.Readers.{Reading, ◌>>=◌, reading_number, count_at, ebv_at, query_rep_at, ack_at, query_at, query_adjust_at, select_at, req_rn_at, read_at, write_at, kill_at, lock_at, access_at, block_write_at, block_erase_at, fields_at}
 use Rattle.command_grammar.proofs.reading.ExactFields.{exact_field}
 use Rattle.command_grammar.proofs.reading.NumberFields.{bit_field, bits_field, count_field, number_field}
 use Rattle.command_grammar.proofs.reading.WordFields.{words_field}
@@ -21,7 +21,7 @@ use Rattle.command_grammar.proofs.reading.FieldsInOrder.{part, Goes, goes_whole,
 use Rattle.command_grammar.proofs.reading.CommandFields.{reading}
 
 goes_number : (width : ℕ) (pre more : List Part) (k : ℕ × List Bool → List Bool → Reading Command) (command : Command) (value : ℕ)
-    → value < 2 ^ width → Goes (pre ++ part None (field_of value width) ∷ []) more (λ whole rest. k (value, rest) whole) command → Goes pre (part None (field_of value width) ∷ more) (λ whole bits. field_at width bits >>= λ x. k x whole) command
+    → value < 2 ^ width → Goes (pre ++ part None (field_of value width) ∷ []) more (λ whole rest. k (value, rest) whole) command → Goes pre (part None (field_of value width) ∷ more) (λ whole bits. reading_number width bits >>= λ x. k x whole) command
 goes_number width pre more k command value small goes = goes_then pre more (number_field width None) k command (record { value = value; bits = field_of value width; spelled = (small, refl) }) goes
 
 goes_pointer : (pre more : List Part) (k : ℕ × List Bool → List Bool → Reading Command) (command : Command) (value : ℕ)

@@ -8,7 +8,7 @@ use Rattle.bit_strings.specs.Numbers.{value_of, field_of}
 use Rattle.bit_strings.specs.laws.Numbers.{length-field_of, value_of-within, value_of-field, field_of-value_of}
 use Rattle.bit_strings.specs.Ebv.{IsEbv, number_of_digits, blocks_of, IsShortest, ebv_of}
 use Rattle.bit_strings.specs.laws.Ebv.{AreSevens, seven-head, seven-tail, IsEbv-ebv_of, same-ebv, below-ebv}
-use Rattle.command_grammar.specs.reading.Readers.{Block, ◌>>=◌, bit_at, field_at, block_at, block_within_at, last_digit_at, blocks_at, ebv_at, exactly_at}
+use Rattle.command_grammar.specs.reading.Readers.{Block, ◌>>=◌, bit_at, reading_number, block_at, block_within_at, last_digit_at, blocks_at, ebv_at, exactly_at}
 use Rattle.command_grammar.specs.declared.refusal.Reason.{Reason}
 use Rattle.command_grammar.specs.declared.refusal.Reason.TheVariants as reasons
 use Rattle.command_grammar.proofs.reading.ExactFields.{reads_exactly}
@@ -40,8 +40,8 @@ unfolding block_at
 reads_block value name =
     reads_as (Pair (λ more l. l ≡ more ∷ []) (Digit value)) (IsBlock value) name (block_at value) (join_block value)
     (λ block bits h. record { first = block.more; front = block.more ∷ []; back = field_of h.0 7; left = refl; right = (h.0, ap (block_of block.more) (sym h.2), (h.1, refl)); whole = h.3 })
-    (reads_then (λ more l. l ≡ more ∷ []) (Digit value) name bit_at (λ more bits. field_at 7 bits >>= λ digit. Ok (block_of more (value * 128 + digit.0), digit.1)) (reads_bit name)
-    (λ more front h. reads_map (number_field 7 name) (Digit value more) (λ bits. field_at 7 bits >>= λ digit. Ok (block_of more (value * 128 + digit.0), digit.1)) (λ digit. block_of more (value * 128 + digit)) (λ bits. refl)
+    (reads_then (λ more l. l ≡ more ∷ []) (Digit value) name bit_at (λ more bits. reading_number 7 bits >>= λ digit. Ok (block_of more (value * 128 + digit.0), digit.1)) (reads_bit name)
+    (λ more front h. reads_map (number_field 7 name) (Digit value more) (λ bits. reading_number 7 bits >>= λ digit. Ok (block_of more (value * 128 + digit.0), digit.1)) (λ digit. block_of more (value * 128 + digit)) (λ bits. refl)
     (λ digit bits h. (digit, refl, h)) (λ block bits h. (h.0, h.2, h.1)))
     (λ more front h. (block_of more (value * 128 + 0), field_of 0 7, (0, refl, (omega arith, refl)))))
 
@@ -91,7 +91,7 @@ reads_last_digit =
     reads_as (Pair {A = Unit {0}} (λ value bits. bits ≡ false ∷ []) (λ value. IsNumber 7)) IsLast (Some reasons.Ebv) last_digit_at
     (λ digit bits p. (p.right.0, p.whole ∙ ap (λ (l : List Bool). l ++ p.back) p.left ∙ ap (λ (l : List Bool). false ∷ l) p.right.1))
     (λ digit bits h. record { first = tt; front = false ∷ []; back = field_of digit 7; left = refl; right = (h.0, refl); whole = h.1 })
-    (reads_then {A = Unit {0}} (λ value bits. bits ≡ false ∷ []) (λ value. IsNumber 7) (Some reasons.Ebv) (exactly_at (false ∷ []) reasons.Ebv) (λ value. field_at 7) (reads_exactly reasons.Ebv (false ∷ []))
+    (reads_then {A = Unit {0}} (λ value bits. bits ≡ false ∷ []) (λ value. IsNumber 7) (Some reasons.Ebv) (exactly_at (false ∷ []) reasons.Ebv) (λ value. reading_number 7) (reads_exactly reasons.Ebv (false ∷ []))
     (λ value front h. reads_field 7 (Some reasons.Ebv)) (λ value front h. (0, field_of 0 7, (omega arith, refl))))
 
 -- ---- blocks, of which at most so many follow the first

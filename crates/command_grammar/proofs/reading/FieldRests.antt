@@ -5,7 +5,7 @@ use Rattle.std.proofs.lemmas.Bool.{cases_lt, le-ltb, lt-ltb}
 use Rattle.std.proofs.lemmas.List.{length-take}
 use Rattle.bit_strings.specs.Numbers.{digit_of, value_of}
 use Rattle.command_grammar.specs.declared.refusal.Reason.{Reason}
-use Rattle.command_grammar.specs.reading.Readers.{Short, Reading, ◌>>=◌, Choice, pick, none, fork, bits_at, field_at, choice_at, words_at, next_at}
+use Rattle.command_grammar.specs.reading.Readers.{Short, Reading, ◌>>=◌, Choice, pick, none, fork, reading_bits, reading_number, choice_at, words_at, next_at}
 use Rattle.command_grammar.specs.reading.FieldStages.{number_from, mask_from}
 
 -- ---- choices
@@ -33,7 +33,7 @@ enough n width x y long = rw (le-ltb n width long) refl
 too_few : {A : Type 0} (n width : ℕ) (x y : Reading A) → n < width → cond (ltb n width) x y ≡ x
 too_few n width x y short = rw (lt-ltb n width short) refl
 
-bits-cons : (width : ℕ) (bit : Bool) (bits : List Bool) → bits_at (suc width) (bit ∷ bits) ≡ (bits_at width bits >>= λ x. Ok (bit ∷ x.0, x.1))
+bits-cons : (width : ℕ) (bit : Bool) (bits : List Bool) → reading_bits (suc width) (bit ∷ bits) ≡ (reading_bits width bits >>= λ x. Ok (bit ∷ x.0, x.1))
 bits-cons width bit bits =
     elim (cases_lt (length bits) width) [
       | inl short ↦
@@ -47,7 +47,7 @@ bits-cons width bit bits =
 abbrev valued : Reading (List Bool) → Reading ℕ
 valued r = r >>= λ x. Ok (value_of x.0, x.1)
 
-field-bits : (width : ℕ) (bits : List Bool) → field_at width bits ≡ valued (bits_at width bits)
+field-bits : (width : ℕ) (bits : List Bool) → reading_number width bits ≡ valued (reading_bits width bits)
 field-bits width bits = either (ltb (length bits) width) (take width bits, drop width bits)
   where
     either : (b : Bool) (x : List Bool × List Bool) → cond b (Err Short) (Ok (value_of x.0, x.1)) ≡ valued (cond b (Err Short) (Ok x))
@@ -58,7 +58,7 @@ field-bits width bits = either (ltb (length bits) width) (take width bits, drop 
 abbrev pub numbered : ℕ → ℕ → Reading (List Bool) → Reading ℕ
 numbered value width r = r >>= λ x. Ok (value * 2 ^ width + value_of x.0, x.1)
 
-numbered-cons : (value width : ℕ) (bit : Bool) (bits : List Bool) → numbered (2 * value + digit_of bit) width (bits_at width bits) ≡ numbered value (suc width) (bits_at width bits >>= λ x. Ok (bit ∷ x.0, x.1))
+numbered-cons : (value width : ℕ) (bit : Bool) (bits : List Bool) → numbered (2 * value + digit_of bit) width (reading_bits width bits) ≡ numbered value (suc width) (reading_bits width bits >>= λ x. Ok (bit ∷ x.0, x.1))
 numbered-cons value width bit bits =
     elim (cases_lt (length bits) width) [
       | inl short ↦
@@ -75,13 +75,13 @@ numbered-cons value width bit bits =
           ∙ sym (ap (λ (r : Reading (List Bool)). numbered value (suc width) (r >>= λ x. Ok (bit ∷ x.0, x.1))) e)
     ]
 
-no_bits : (bits : List Bool) → bits_at 0 bits ≡ Ok ([], bits)
+no_bits : (bits : List Bool) → reading_bits 0 bits ≡ Ok ([], bits)
 no_bits bits = enough (length bits) 0 (Err Short) (Ok (take 0 bits, drop 0 bits)) (omega arith)
 
-bits-none : (width : ℕ) → bits_at (suc width) [] ≡ Err Short
+bits-none : (width : ℕ) → reading_bits (suc width) [] ≡ Err Short
 bits-none width = too_few 0 (suc width) (Err Short) (Ok (take (suc width) [], drop (suc width) [])) (omega arith)
 
-pub number-on : (behind value : ℕ) (bits : List Bool) → number_from behind value bits ≡ numbered value (suc behind) (bits_at (suc behind) bits)
+pub number-on : (behind value : ℕ) (bits : List Bool) → number_from behind value bits ≡ numbered value (suc behind) (reading_bits (suc behind) bits)
 number-on zero value [] = refl
 number-on zero value (bit ∷ bits) =
     let sum : 2 * value + digit_of bit ≡ (2 * value + digit_of bit) * 2 ^ 0 + value_of [] = omega arith in
@@ -93,10 +93,10 @@ number-on (suc behind) value (bit ∷ bits) =
     ∙ numbered-cons value (suc behind) bit bits ∙ ap (λ (r : Reading (List Bool)). numbered value (suc (suc behind)) r) (sym (bits-cons (suc behind) bit bits))
 
 -- a number of which no bit was read
-pub number-start : (width behind value : ℕ) (bits : List Bool) → behind + 1 ≡ width → value ≡ 0 → number_from behind value bits ≡ field_at width bits
+pub number-start : (width behind value : ℕ) (bits : List Bool) → behind + 1 ≡ width → value ≡ 0 → number_from behind value bits ≡ reading_number width bits
 number-start width behind value bits whole nothing =
     let wide : suc behind ≡ width = omega arith in
-    ap (λ n. number_from behind n bits) nothing ∙ number-on behind 0 bits ∙ from_zero (bits_at (suc behind) bits) ∙ sym (field-bits (suc behind) bits) ∙ ap (λ n. field_at n bits) wide
+    ap (λ n. number_from behind n bits) nothing ∙ number-on behind 0 bits ∙ from_zero (reading_bits (suc behind) bits) ∙ sym (field-bits (suc behind) bits) ∙ ap (λ n. reading_number n bits) wide
   where
     from_zero : (r : Reading (List Bool)) → numbered 0 (suc behind) r ≡ valued r
     from_zero (Ok x) = let sum : 0 * 2 ^ suc behind + value_of x.0 ≡ value_of x.0 = omega arith in ap (λ n. Ok (n, x.1)) sum
@@ -116,20 +116,20 @@ masked-cons : (mask : List Bool) (bit : Bool) (r : Reading (List Bool)) → mask
 masked-cons mask bit (Ok x) = ap (λ (l : List Bool). Ok (l, x.1)) (append_assoc mask (bit ∷ []) x.0)
 masked-cons mask bit (Err stop) = refl
 
-mask-on : (behind : ℕ) (mask bits : List Bool) → mask_from behind mask bits ≡ masked mask (bits_at (suc behind) bits)
+mask-on : (behind : ℕ) (mask bits : List Bool) → mask_from behind mask bits ≡ masked mask (reading_bits (suc behind) bits)
 mask-on zero mask [] = refl
 mask-on zero mask (bit ∷ bits) =
     ap (λ (l : List Bool). Ok (l, bits)) (sym (append-nil (mask ++ bit ∷ []))) ∙ ap (λ (r : Reading (List Bool)). masked (mask ++ bit ∷ []) r) (sym (no_bits bits))
-    ∙ masked-cons mask bit (bits_at 0 bits) ∙ ap (λ (r : Reading (List Bool)). masked mask r) (sym (bits-cons 0 bit bits))
+    ∙ masked-cons mask bit (reading_bits 0 bits) ∙ ap (λ (r : Reading (List Bool)). masked mask r) (sym (bits-cons 0 bit bits))
 mask-on (suc behind) mask [] = ap (λ (r : Reading (List Bool)). masked mask r) (sym (bits-none (suc behind)))
 mask-on (suc behind) mask (bit ∷ bits) =
-    mask-on behind (mask ++ bit ∷ []) bits ∙ masked-cons mask bit (bits_at (suc behind) bits) ∙ ap (λ (r : Reading (List Bool)). masked mask r) (sym (bits-cons (suc behind) bit bits))
+    mask-on behind (mask ++ bit ∷ []) bits ∙ masked-cons mask bit (reading_bits (suc behind) bits) ∙ ap (λ (r : Reading (List Bool)). masked mask r) (sym (bits-cons (suc behind) bit bits))
 
 -- a mask of which no bit was read
-pub mask-start : (width behind : ℕ) (bits : List Bool) → behind + 1 ≡ width → mask_from behind [] bits ≡ bits_at width bits
+pub mask-start : (width behind : ℕ) (bits : List Bool) → behind + 1 ≡ width → mask_from behind [] bits ≡ reading_bits width bits
 mask-start width behind bits whole =
     let wide : suc behind ≡ width = omega arith in
-    mask-on behind [] bits ∙ from_none (bits_at (suc behind) bits) ∙ ap (λ n. bits_at n bits) wide
+    mask-on behind [] bits ∙ from_none (reading_bits (suc behind) bits) ∙ ap (λ n. reading_bits n bits) wide
   where
     from_none : (r : Reading (List Bool)) → masked [] r ≡ r
     from_none (Ok x) = refl
@@ -141,7 +141,7 @@ mask-short (suc behind) mask = refl
 
 -- ---- words
 
-pub words-more : (count left : ℕ) (bits : List Bool) → left + 1 ≡ count → words_at count bits ≡ (field_at 16 bits >>= λ word. (words_at left word.1 >>= λ words. Ok (word.0 ∷ words.0, words.1)))
+pub words-more : (count left : ℕ) (bits : List Bool) → left + 1 ≡ count → words_at count bits ≡ (reading_number 16 bits >>= λ word. (words_at left word.1 >>= λ words. Ok (word.0 ∷ words.0, words.1)))
 unfolding words_at
 words-more zero left bits same = absurd (omega arith)
 words-more (suc count) left bits same =

@@ -16,9 +16,9 @@ use Rattle.command_grammar.specs.declared.reader.stage.NumberField.TheVariants a
 use Rattle.command_grammar.specs.declared.reader.stage.Stage.TheVariants as stages
 use Rattle.command_grammar.specs.declared.refusal.Reason.{Reason}
 use Rattle.command_grammar.specs.declared.refusal.Reason.TheVariants as reasons
-use Rattle.command_grammar.specs.reading.Readers.{Stop, Bad, Reading, ◌>>=◌, bits_at, field_at, exactly_at, count_at, words_at, ebv_at, before, crc5_at, crc16_at}
+use Rattle.command_grammar.specs.reading.Readers.{Stop, Bad, Reading, ◌>>=◌, reading_bits, reading_number, exactly_at, count_at, words_at, ebv_at, before, crc5_at, crc16_at}
 use Rattle.command_grammar.specs.reading.FieldStages.{number_then, words_then, mask_from, ebv_from, stage_from}
-use Rattle.command_grammar.specs.reading.FieldRanges.{width_of, IsFront}
+use Rattle.command_grammar.specs.reading.FieldRanges.{width_of, IsNumberFront}
 use Rattle.command_grammar.proofs.reading.KnownBits.{exactly-more, exactly-bad, exactly-none, same_bits, other_bits}
 use Rattle.command_grammar.proofs.reading.EbvFronts.{ebv_none, ebv_more, ebv_done, ebv_refused}
 use Rattle.command_grammar.proofs.CheckNumbers.{crc5-field, crc16-field}
@@ -27,7 +27,7 @@ use Rattle.command_grammar.proofs.reading.FieldRests.{number-start, mask-start, 
 -- ---- numbers
 
 pub number_stage : (field : NumberField) (width : ℕ) (number : NumberFront) (v : Fields) (bits : List Bool) → number.behind + 1 ≡ width → number.value ≡ 0
-    → stage_from (stages.Number field number) v bits ≡ (field_at width bits >>= λ n. number_then field n.0 v n.1)
+    → stage_from (stages.Number field number) v bits ≡ (reading_number width bits >>= λ n. number_then field n.0 v n.1)
 number_stage field width number v bits whole nothing = ap (λ (r : Reading ℕ). r >>= λ n. number_then field n.0 v n.1) (number-start width number.behind number.value bits whole nothing)
 
 few_bits : (field : NumberField) → width_of field ≤ 20
@@ -48,7 +48,7 @@ pub small_digit : (bit : Bool) → digit_of bit ≤ 1
 small_digit true = omega arith
 small_digit false = omega arith
 
-pub small_front : (field : NumberField) (number : NumberFront) → IsFront (width_of field) number → number.value < 2 ^ 30
+pub small_front : (field : NumberField) (number : NumberFront) → IsNumberFront (width_of field) number → number.value < 2 ^ 30
 small_front field number front = omega (arith, front.small, pow_below front.read 30 (omega (arith, front.rest, few_bits field)))
 
 -- with one bit more the value fits the bits read
@@ -76,14 +76,14 @@ pub more_words : (left less : ℕ) (number : NumberFront) (v : Fields) (bits : L
     → words_then left v bits ≡ stage_from (stages.Number (number_fields.Word less) number) v bits
 more_words left less number v bits same whole nothing =
     ap (λ (r : Reading (List ℕ)). r >>= λ x. Ok (record v { words = v.words ++ x.0 }, x.1)) (words-more left less bits same)
-    ∙ two (field_at 16 bits) (λ word. words_at less word.1) (λ word words. (word.0 ∷ words.0, words.1)) (λ x. Ok (record v { words = v.words ++ x.0 }, x.1))
+    ∙ two (reading_number 16 bits) (λ word. words_at less word.1) (λ word words. (word.0 ∷ words.0, words.1)) (λ x. Ok (record v { words = v.words ++ x.0 }, x.1))
     ∙ sym (number_stage (number_fields.Word less) 16 number v bits whole nothing)
 
 pub first_words : (count less : ℕ) (number : NumberFront) (v : Fields) (bits : List Bool) → less + 1 ≡ count → number.behind + 1 ≡ 16 → number.value ≡ 0
     → (words_at count bits >>= λ x. Ok (record v { words = x.0 }, x.1)) ≡ stage_from (stages.Number (number_fields.FirstWord less) number) v bits
 first_words count less number v bits same whole nothing =
     ap (λ (r : Reading (List ℕ)). r >>= λ x. Ok (record v { words = x.0 }, x.1)) (words-more count less bits same)
-    ∙ two (field_at 16 bits) (λ word. words_at less word.1) (λ word words. (word.0 ∷ words.0, words.1)) (λ x. Ok (record v { words = x.0 }, x.1))
+    ∙ two (reading_number 16 bits) (λ word. words_at less word.1) (λ word words. (word.0 ∷ words.0, words.1)) (λ x. Ok (record v { words = x.0 }, x.1))
     ∙ sym (number_stage (number_fields.FirstWord less) 16 number v bits whole nothing)
 
 nonzero : (n less : ℕ) → less + 1 ≡ n → (n == 0) ≡ false
@@ -116,7 +116,7 @@ next_words left word words v bits same = behind (words_at left bits) ∙ ap (λ 
 abbrev masked : Fields → Reading (List Bool) → Reading Fields
 masked v r = r >>= λ x. Ok (record v { mask = x.0 }, x.1)
 
-pub some_mask : (count less : ℕ) (v : Fields) (bits : List Bool) → less + 1 ≡ count → v.mask ≡ [] → masked v (bits_at count bits) ≡ stage_from (stages.Mask less) v bits
+pub some_mask : (count less : ℕ) (v : Fields) (bits : List Bool) → less + 1 ≡ count → v.mask ≡ [] → masked v (reading_bits count bits) ≡ stage_from (stages.Mask less) v bits
 some_mask count less v bits same nothing =
     ap (masked v) (sym (mask-start count less bits same) ∙ ap (λ (m : List Bool). mask_from less m bits) (sym nothing))
 
@@ -209,9 +209,9 @@ counted (Err stop) k = refl
 pub words_start : (number : NumberFront) (v : Fields) (whole bits : List Bool) → number.behind + 1 ≡ 8 → number.value ≡ 0 → stage_from (stages.Number number_fields.WordsLength number) v bits ≡ (count_at bits >>= λ n. (words_at n.0 n.1 >>= λ x. Ok (record v { words = x.0 }, x.1)))
 unfolding count_at
 words_start number v whole bits width nothing =
-    number_stage number_fields.WordsLength 8 number v bits width nothing ∙ counted (field_at 8 bits) (λ n. words_at n.0 n.1 >>= λ x. Ok (record v { words = x.0 }, x.1))
+    number_stage number_fields.WordsLength 8 number v bits width nothing ∙ counted (reading_number 8 bits) (λ n. words_at n.0 n.1 >>= λ x. Ok (record v { words = x.0 }, x.1))
 
 pub count_start : (number : NumberFront) (v : Fields) (whole bits : List Bool) → number.behind + 1 ≡ 8 → number.value ≡ 0 → stage_from (stages.Number number_fields.WordCount number) v bits ≡ (count_at bits >>= λ n. Ok (record v { word_count = n.0 }, n.1))
 unfolding count_at
 count_start number v whole bits width nothing =
-    number_stage number_fields.WordCount 8 number v bits width nothing ∙ counted (field_at 8 bits) (λ n. Ok (record v { word_count = n.0 }, n.1))
+    number_stage number_fields.WordCount 8 number v bits width nothing ∙ counted (reading_number 8 bits) (λ n. Ok (record v { word_count = n.0 }, n.1))

@@ -8,7 +8,7 @@ use Rattle.bit_strings.specs.Numbers.{value_of, field_of}
 use Rattle.bit_strings.specs.laws.Numbers.{length-field_of, value_of-field, field_of-value_of, value_of-within}
 use Rattle.command_grammar.specs.declared.refusal.Reason.{Reason}
 use Rattle.command_grammar.specs.declared.refusal.Reason.TheVariants as reasons
-use Rattle.command_grammar.specs.reading.Readers.{Stop, Short, Bad, Reading, ◌>>=◌, bit_at, bits_at, field_at, count_at}
+use Rattle.command_grammar.specs.reading.Readers.{Stop, Short, Bad, Reading, ◌>>=◌, bit_at, reading_bits, reading_number, count_at}
 use Rattle.command_grammar.proofs.reading.Readers.{FieldKind, Reads, SpelledField, Stuck, reads_map, reads_but}
 
 -- ---- one bit
@@ -45,7 +45,7 @@ enough bits width x y long = rw (le-ltb (length bits) width long) refl
 too_few : (bits : List Bool) (width : ℕ) → {A : Type 0} → (x y : Reading A) → length bits < width → cond (ltb (length bits) width) x y ≡ x
 too_few bits width x y short = rw (lt-ltb (length bits) width short) refl
 
-pub reads_bits : (width : ℕ) (name : Option Reason) → Reads (λ value bits. (length value ≡ width) × (bits ≡ value)) name (bits_at width)
+pub reads_bits : (width : ℕ) (name : Option Reason) → Reads (λ value bits. (length value ≡ width) × (bits ≡ value)) name (reading_bits width)
 reads_bits width name = record {
   again = λ value bits rest h.
       let long : width ≤ length (bits ++ rest) = omega (arith, h.0, ap length h.1, length-append bits rest) in
@@ -89,7 +89,7 @@ reads_bits width name = record {
   length_front bits width long = omega (arith, length-take width bits)
 
 abbrev pub bits_field : ℕ → Option Reason → FieldKind (List Bool)
-bits_field width name = record { Spells = λ value bits. (length value ≡ width) × (bits ≡ value); name = name; read = bits_at width; reads = reads_bits width name }
+bits_field width name = record { Spells = λ value bits. (length value ≡ width) × (bits ≡ value); name = name; read = reading_bits width; reads = reads_bits width name }
 
 -- ---- a number
 
@@ -109,15 +109,15 @@ as_number false x = refl
 abbrev pub IsNumber : ℕ → ℕ → List Bool → Type 0
 IsNumber width value bits = (value < 2 ^ width) × (bits ≡ field_of value width)
 
-pub reads_field : (width : ℕ) (name : Option Reason) → Reads (IsNumber width) name (field_at width)
+pub reads_field : (width : ℕ) (name : Option Reason) → Reads (IsNumber width) name (reading_number width)
 reads_field width name =
-    reads_map (bits_field width name) (IsNumber width) (field_at width) value_of
+    reads_map (bits_field width name) (IsNumber width) (reading_number width) value_of
     (λ bits. as_number (ltb (length bits) width) (take width bits, drop width bits))
     (λ value bits h. (value_of-within value width (omega (arith, h.0)), h.1 ∙ sym (field_of-value_of value) ∙ ap (λ n. field_of (value_of value) n) h.0))
     (λ value bits h. (bits, ((ap length h.1 ∙ length-field_of value width), refl), ap value_of h.1 ∙ value_of-field value width h.0))
 
 abbrev pub number_field : ℕ → Option Reason → FieldKind ℕ
-number_field width name = record { Spells = IsNumber width; name = name; read = field_at width; reads = reads_field width name }
+number_field width name = record { Spells = IsNumber width; name = name; read = reading_number width; reads = reads_field width name }
 
 -- ---- a number of words that is not 0
 

@@ -6,7 +6,7 @@ use Rattle.bit_strings.specs.Numbers.{field_of}
 use Rattle.bit_strings.specs.Words.{bits_of_words}
 use Rattle.command_grammar.specs.Commands.{IsWord}
 use Rattle.command_grammar.specs.declared.refusal.Reason.{Reason}
-use Rattle.command_grammar.specs.reading.Readers.{◌>>=◌, field_at, words_at}
+use Rattle.command_grammar.specs.reading.Readers.{◌>>=◌, reading_number, words_at}
 use Rattle.command_grammar.proofs.reading.Readers.{FieldKind, Reads, Pair, reads_then, reads_as, reads_map, reads_nothing}
 use Rattle.command_grammar.proofs.reading.NumberFields.{IsNumber, reads_field}
 
@@ -45,7 +45,7 @@ reads_words zero name =
     (reads_nothing [] name)
 reads_words (suc count) name =
     reads_as (Pair (IsNumber 16) (Behind count)) (AreWords (suc count)) name (words_at (suc count)) (join_words count) (split_words count)
-    (reads_then (IsNumber 16) (Behind count) name (field_at 16) (λ word bits. words_at count bits >>= λ words. Ok (word ∷ words.0, words.1)) (reads_field 16 name)
+    (reads_then (IsNumber 16) (Behind count) name (reading_number 16) (λ word bits. words_at count bits >>= λ words. Ok (word ∷ words.0, words.1)) (reads_field 16 name)
     (λ word front h. reads_map (record { Spells = AreWords count; name = name; read = words_at count; reads = reads_words count name }) (Behind count word) (λ bits. words_at count bits >>= λ words. Ok (word ∷ words.0, words.1)) (λ (words : List ℕ). word ∷ words) (λ bits. refl)
     (λ words bits h. (words, refl, h)) (λ all bits h. (h.0, h.2, sym h.1)))
     (λ word front h. let w = some_words count in (word ∷ w.0, w.1, (w.0, refl, w.2))))

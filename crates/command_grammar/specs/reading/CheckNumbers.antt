@@ -10,10 +10,10 @@ use Rattle.command_grammar.specs.declared.refusal.Reason.{Reason}
 use Rattle.command_grammar.specs.declared.refusal.Reason.TheVariants as reasons
 
 -- the register stands for these bits
-abbrev pub Counts : Check → List Bool → Type 0
-Counts (Short crc) bits = crc ≡ value_of (crc5_of bits)
-Counts (Long crc) bits = RegisterStandsFor crc bits
-Counts Over bits = Unit {0}
+abbrev pub IsRegisterOf : Check → List Bool → Type 0
+IsRegisterOf (Short crc) bits = crc ≡ value_of (crc5_of bits)
+IsRegisterOf (Long crc) bits = RegisterStandsFor crc bits
+IsRegisterOf Over bits = Unit {0}
 
 -- which one is kept
 abbrev pub check_kept : Check → Option Reason

@@ -25,14 +25,14 @@ width_of (number_fields.FirstWord left) = 16
 width_of (number_fields.Word left) = 16
 
 -- a number of which some bits were read
-pub record IsFront (width : ℕ) (number : NumberFront) : Type 0 where
+pub record IsNumberFront (width : ℕ) (number : NumberFront) : Type 0 where
   pub read : ℕ
   pub rest : read + number.behind + 1 ≡ width
   pub small : number.value < 2 ^ read
 
 -- ... of at most 20 bits, as each number of a field is
 abbrev pub IsSmall : NumberFront → Type 0
-IsSmall number = (width : ℕ) × (width ≤ 20) × IsFront width number
+IsSmall number = (width : ℕ) × (width ≤ 20) × IsNumberFront width number
 
 -- words that are still to come have room
 abbrev pub IsSoundNumber : NumberField → Fields → Type 0
@@ -50,18 +50,18 @@ IsSoundNumber (number_fields.FirstWord left) v = left + 1 ≤ 255
 IsSoundNumber (number_fields.Word left) v = length v.words + left + 1 ≤ 255
 
 -- what was read of a field is in its range, and what is still to come has room
-abbrev pub IsSound : Stage → Fields → Type 0
-IsSound (stages.Bit field) v = Unit {0}
-IsSound (stages.Pair field first) v = Unit {0}
-IsSound (stages.Triple field front) v = Unit {0}
-IsSound (stages.Number field number) v = IsFront (width_of field) number × IsSoundNumber field v
-IsSound (stages.Ebv front) v = Unit {0}
-IsSound (stages.Mask behind) v = length v.mask + behind + 1 ≤ 255
-IsSound (stages.Known reason number) v = number.behind ≤ 15
+abbrev pub AreFieldsInRange : Stage → Fields → Type 0
+AreFieldsInRange (stages.Bit field) v = Unit {0}
+AreFieldsInRange (stages.Pair field first) v = Unit {0}
+AreFieldsInRange (stages.Triple field front) v = Unit {0}
+AreFieldsInRange (stages.Number field number) v = IsNumberFront (width_of field) number × IsSoundNumber field v
+AreFieldsInRange (stages.Ebv front) v = Unit {0}
+AreFieldsInRange (stages.Mask behind) v = length v.mask + behind + 1 ≤ 255
+AreFieldsInRange (stages.Known reason number) v = number.behind ≤ 15
 
 -- ... behind a bit of it
 abbrev pub IsSoundNext : Next → Fields → Type 0
-IsSoundNext (next.Stay stage) v = IsSound stage v
+IsSoundNext (next.Stay stage) v = AreFieldsInRange stage v
 IsSoundNext next.Done v = Unit {0}
 IsSoundNext (next.Refused reason) v = Unit {0}
 

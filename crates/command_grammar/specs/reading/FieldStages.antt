@@ -2,7 +2,7 @@
 use Rattle.std.specs.Prelude.{ℕ, zero, suc, ◌+◌, ◌*◌, Bool, List, [], ◌∷◌, ◌++◌, length, Option, Some, None, Ok, Err, ◌==◌, if◌then◌else◌}
 use Rattle.bit_strings.specs.Numbers.{digit_of, field_of}
 use Rattle.command_grammar.specs.declared.reader.fields.Fields.{Fields}
-use Rattle.command_grammar.specs.reading.Readers.{Reading, ◌>>=◌, bit_at, bits_at, Choice, child, next_at, m_values, sel_values, query_target_values, updn_values, select_target_values, mask_bank_values, bank_values, exactly_at, words_at, ebv_at, Bad}
+use Rattle.command_grammar.specs.reading.Readers.{Reading, ◌>>=◌, bit_at, reading_bits, Choice, child, next_at, m_values, sel_values, query_target_values, updn_values, select_target_values, mask_bank_values, bank_values, exactly_at, words_at, ebv_at, Bad}
 use Rattle.command_grammar.specs.declared.reader.stage.BitField.{BitField}
 use Rattle.command_grammar.specs.declared.reader.stage.BitField.TheVariants as bit_fields
 use Rattle.command_grammar.specs.declared.reader.stage.PairField.{PairField}
@@ -76,7 +76,7 @@ number_then number_fields.WordCount n v bits = if n == 0 then Err (Bad (length b
 number_then number_fields.Covered n v bits = Ok (record v { covered = n }, bits)
 number_then number_fields.Payload n v bits = Ok (record v { payload = n }, bits)
 number_then number_fields.Rn n v bits = Ok (record v { rn = n }, bits)
-number_then number_fields.MaskLength n v bits = bits_at n bits >>= λ x. Ok (record v { mask = x.0 }, x.1)
+number_then number_fields.MaskLength n v bits = reading_bits n bits >>= λ x. Ok (record v { mask = x.0 }, x.1)
 number_then number_fields.WordsLength n v bits = if n == 0 then Err (Bad (length bits + 1) reasons.Count) else words_at n bits >>= λ x. Ok (record v { words = x.0 }, x.1)
 number_then (number_fields.FirstWord left) n v bits = words_at left bits >>= λ x. Ok (record v { words = n ∷ x.0 }, x.1)
 number_then (number_fields.Word left) n v bits = words_at left bits >>= λ x. Ok (record v { words = v.words ++ n ∷ x.0 }, x.1)

@@ -4,10 +4,10 @@ use Rattle.std.specs.Prelude.{◌≡◌, ℕ, ◌+◌, Bool, List, [], ◌∷◌
 use Rattle.command_grammar.specs.Commands.{IsCommandRefusedAt}
 use Rattle.command_grammar.specs.reading.Readers.{Stop, ◌>>=◌, next_at, all_of, Bad}
 use Rattle.command_grammar.specs.reading.Codes.{bits_of_front, behind_code}
-use Rattle.command_grammar.specs.reading.CommandFields.{fields_of, command_of, only_whole, run}
+use Rattle.command_grammar.specs.reading.CommandFields.{command_fields_of, command_of, only_whole, run}
 use Rattle.command_grammar.specs.reading.FieldStages.{stage_from}
-use Rattle.command_grammar.specs.reading.FieldRanges.{IsSound, IsEdge}
-use Rattle.command_grammar.specs.reading.CheckNumbers.{Counts, check_kept, AreServed}
+use Rattle.command_grammar.specs.reading.FieldRanges.{AreFieldsInRange, IsEdge}
+use Rattle.command_grammar.specs.reading.CheckNumbers.{IsRegisterOf, check_kept, AreServed}
 use Rattle.command_grammar.specs.declared.commands.Command.{Command}
 use Rattle.command_grammar.specs.declared.reader.check.Check.{Check}
 use Rattle.command_grammar.specs.declared.kinds.CommandKind.{CommandKind}
@@ -23,15 +23,15 @@ use Rattle.command_grammar.specs.declared.refusal.Reason.TheVariants as reasons
 
 -- what reading gives from a position on; `whole` has all bits from the code on
 abbrev pub resume : CommandKind → Position → List Field → Fields → List Bool → List Bool → Result Command Stop
-resume kind (positions.Code front) behind v whole bits = next_at (behind_code front) reasons.Code bits >>= λ x. run (fields_of x.0) x.0 v whole x.1
+resume kind (positions.Code front) behind v whole bits = next_at (behind_code front) reasons.Code bits >>= λ x. run (command_fields_of x.0) x.0 v whole x.1
 resume kind (positions.Within stage) behind v whole bits = stage_from stage v bits >>= λ x. run behind kind x.0 whole x.1
 resume kind positions.Whole behind v whole bits = only_whole (command_of kind v) bits
 
 -- in the code its bits are known, and behind it the command's check number goes along
-abbrev pub IsCounted : Position → Check → List Bool → Type 0
-IsCounted (positions.Code front) check bits = bits ≡ bits_of_front front
-IsCounted (positions.Within stage) check bits = Counts check bits
-IsCounted positions.Whole check bits = Unit {0}
+abbrev pub CheckGoesAlong : Position → Check → List Bool → Type 0
+CheckGoesAlong (positions.Code front) check bits = bits ≡ bits_of_front front
+CheckGoesAlong (positions.Within stage) check bits = IsRegisterOf check bits
+CheckGoesAlong positions.Whole check bits = Unit {0}
 
 -- the check number that goes along is the one that the fields ask for
 abbrev pub IsServed : Position → Check → List Field → Type 0
@@ -42,14 +42,14 @@ IsServed positions.Whole check behind = Unit {0}
 -- the state stands for these bits: whatever comes behind them, reading goes on from the state
 pub record StateStandsFor (s : State) (bits : List Bool) : Type 0 where
   pub count : s.pushed ≡ length bits
-  pub counted : IsCounted s.position s.check bits
+  pub counted : CheckGoesAlong s.position s.check bits
   pub served : IsServed s.position s.check s.behind.now
   pub reads : (rest : List Bool) → all_of (bits ++ rest) ≡ resume s.kind s.position s.behind.now s.fields (bits ++ rest) rest
 
 -- what was read of the field is in its range
 abbrev pub IsSoundPosition : Position → Fields → Type 0
 IsSoundPosition (positions.Code front) v = Unit {0}
-IsSoundPosition (positions.Within stage) v = IsSound stage v
+IsSoundPosition (positions.Within stage) v = AreFieldsInRange stage v
 IsSoundPosition positions.Whole v = Unit {0}
 
 -- the bit ends a run, or is none of a run
@@ -59,9 +59,9 @@ IsEdgePosition (positions.Within stage) bit = IsEdge stage bit
 IsEdgePosition positions.Whole bit = Unit {0}
 
 -- what comes of one bit more: a state that stands for the bits, or a refusal at the bit, whatever follows
-abbrev pub Goes : Option Reason → State → List Bool → Bool → Type 0
-Goes None s bits bit = StateStandsFor s (bits ++ bit ∷ [])
-Goes (Some reason) s bits bit = (rest : List Bool) → all_of (bits ++ bit ∷ rest) ≡ Err (Bad (length rest + 1) reason)
+abbrev pub TakesBit : Option Reason → State → List Bool → Bool → Type 0
+TakesBit None s bits bit = StateStandsFor s (bits ++ bit ∷ [])
+TakesBit (Some reason) s bits bit = (rest : List Bool) → all_of (bits ++ bit ∷ rest) ≡ Err (Bad (length rest + 1) reason)
 
 -- what was read, and the refusal, with its place and reason, where there was one
 pub record FramerValue : Type 0 where

@@ -46,12 +46,12 @@ bit_at [] = Err Short
 bit_at (bit ∷ rest) = Ok (bit, rest)
 
 -- so many bits
-abbrev pub bits_at : ℕ → List Bool → Reading (List Bool)
-bits_at width bits = if nat_lt (length bits) width then Err Short else Ok (take width bits, drop width bits)
+abbrev pub reading_bits : ℕ → List Bool → Reading (List Bool)
+reading_bits width bits = if nat_lt (length bits) width then Err Short else Ok (take width bits, drop width bits)
 
 -- a number
-abbrev pub field_at : ℕ → List Bool → Reading ℕ
-field_at width bits = if nat_lt (length bits) width then Err Short else Ok (value_of (take width bits), drop width bits)
+abbrev pub reading_number : ℕ → List Bool → Reading ℕ
+reading_number width bits = if nat_lt (length bits) width then Err Short else Ok (value_of (take width bits), drop width bits)
 
 -- what a field of a few bits may be: by its bits, the next one 0 or 1
 pub data Choice (A : Type 0) : Type 0 where
@@ -134,13 +134,13 @@ exactly_at (wanted ∷ others) reason bits = bit_at bits >>= λ next. (if differ
 
 -- a number of words that is not 0
 unfoldable pub count_at : List Bool → Reading ℕ
-count_at bits = field_at 8 bits >>= λ count. (if count.0 == 0 then Err (Bad (length count.1 + 1) reasons.Count) else Ok count)
+count_at bits = reading_number 8 bits >>= λ count. (if count.0 == 0 then Err (Bad (length count.1 + 1) reasons.Count) else Ok count)
 
 -- so many words
 unfoldable pub words_at : ℕ → List Bool → Reading (List ℕ)
 words_at zero bits = Ok ([], bits)
 words_at (suc count) bits = do
-  word ← field_at 16 bits
+  word ← reading_number 16 bits
   words ← words_at count word.1
   Ok (word.0 ∷ words.0, words.1)
 
@@ -153,7 +153,7 @@ pub record Block : Type 0 where
 unfoldable pub block_at : ℕ → List Bool → Reading Block
 block_at value bits = do
   more ← bit_at bits
-  digit ← field_at 7 more.1
+  digit ← reading_number 7 more.1
   Ok (record { more = more.0; number = value * 128 + digit.0 }, digit.1)
 
 -- a block of a vector before its fourth; no vector begins with one that says only that another follows
@@ -165,7 +165,7 @@ block_within_at value bits = block_at value bits >>= λ block.
 unfoldable pub last_digit_at : List Bool → Reading ℕ
 last_digit_at bits = do
   more ← exactly_at (false ∷ []) reasons.Ebv bits
-  field_at 7 more.1
+  reading_number 7 more.1
 
 -- the blocks of a vector from one on, behind which at most so many may follow
 unfoldable pub blocks_at : ℕ → ℕ → List Bool → Reading ℕ
@@ -189,12 +189,12 @@ crc16_at whole bits = exactly_at (crc16_of (before whole bits)) reasons.Crc16 bi
 -- the fields behind the code, of the command of each kind
 unfoldable pub query_rep_at : List Bool → Reading Command
 query_rep_at bits = do
-  session ← field_at 2 bits
+  session ← reading_number 2 bits
   Ok (commands.QueryRep session.0, session.1)
 
 unfoldable pub ack_at : List Bool → Reading Command
 ack_at bits = do
-  rn ← field_at 16 bits
+  rn ← reading_number 16 bits
   Ok (commands.Ack rn.0, rn.1)
 
 unfoldable pub query_at : List Bool → List Bool → Reading Command
@@ -203,33 +203,33 @@ query_at whole bits = do
   m ← choice_at m_values reasons.Code dr.1
   trext ← bit_at m.1
   sel ← choice_at sel_values reasons.Code trext.1
-  session ← field_at 2 sel.1
+  session ← reading_number 2 sel.1
   target ← choice_at query_target_values reasons.Code session.1
-  q ← field_at 4 target.1
+  q ← reading_number 4 target.1
   check ← crc5_at whole q.1
   Ok (commands.Query dr.0 m.0 trext.0 sel.0 session.0 target.0 q.0, check.1)
 
 unfoldable pub query_adjust_at : List Bool → Reading Command
 query_adjust_at bits = do
-  session ← field_at 2 bits
+  session ← reading_number 2 bits
   updn ← choice_at updn_values reasons.UpDn session.1
   Ok (commands.QueryAdjust session.0 updn.0, updn.1)
 
 unfoldable pub select_at : List Bool → List Bool → Reading Command
 select_at whole bits = do
   target ← choice_at select_target_values reasons.Target bits
-  action ← field_at 3 target.1
+  action ← reading_number 3 target.1
   bank ← choice_at mask_bank_values reasons.Bank action.1
   pointer ← ebv_at bank.1
-  count ← field_at 8 pointer.1
-  mask ← bits_at count.0 count.1
+  count ← reading_number 8 pointer.1
+  mask ← reading_bits count.0 count.1
   truncate ← exactly_at (false ∷ []) reasons.Truncate mask.1
   check ← crc16_at whole truncate.1
   Ok (commands.Select target.0 action.0 bank.0 pointer.0 mask.0, check.1)
 
 unfoldable pub req_rn_at : List Bool → List Bool → Reading Command
 req_rn_at whole bits = do
-  rn ← field_at 16 bits
+  rn ← reading_number 16 bits
   check ← crc16_at whole rn.1
   Ok (commands.ReqRn rn.0, check.1)
 
@@ -237,8 +237,8 @@ unfoldable pub read_at : List Bool → List Bool → Reading Command
 read_at whole bits = do
   bank ← choice_at bank_values reasons.Code bits
   pointer ← ebv_at bank.1
-  count ← field_at 8 pointer.1
-  rn ← field_at 16 count.1
+  count ← reading_number 8 pointer.1
+  rn ← reading_number 16 count.1
   check ← crc16_at whole rn.1
   Ok (commands.Read bank.0 pointer.0 count.0 rn.0, check.1)
 
@@ -246,30 +246,30 @@ unfoldable pub write_at : List Bool → List Bool → Reading Command
 write_at whole bits = do
   bank ← choice_at bank_values reasons.Code bits
   pointer ← ebv_at bank.1
-  covered ← field_at 16 pointer.1
-  rn ← field_at 16 covered.1
+  covered ← reading_number 16 pointer.1
+  rn ← reading_number 16 covered.1
   check ← crc16_at whole rn.1
   Ok (commands.Write bank.0 pointer.0 covered.0 rn.0, check.1)
 
 unfoldable pub kill_at : List Bool → List Bool → Reading Command
 kill_at whole bits = do
-  covered ← field_at 16 bits
+  covered ← reading_number 16 bits
   zeros ← exactly_at (false ∷ false ∷ false ∷ []) reasons.KillBits covered.1
-  rn ← field_at 16 zeros.1
+  rn ← reading_number 16 zeros.1
   check ← crc16_at whole rn.1
   Ok (commands.Kill covered.0 rn.0, check.1)
 
 unfoldable pub lock_at : List Bool → List Bool → Reading Command
 lock_at whole bits = do
-  payload ← field_at 20 bits
-  rn ← field_at 16 payload.1
+  payload ← reading_number 20 bits
+  rn ← reading_number 16 payload.1
   check ← crc16_at whole rn.1
   Ok (commands.Lock payload.0 rn.0, check.1)
 
 unfoldable pub access_at : List Bool → List Bool → Reading Command
 access_at whole bits = do
-  covered ← field_at 16 bits
-  rn ← field_at 16 covered.1
+  covered ← reading_number 16 bits
+  rn ← reading_number 16 covered.1
   check ← crc16_at whole rn.1
   Ok (commands.Access covered.0 rn.0, check.1)
 
@@ -279,7 +279,7 @@ block_write_at whole bits = do
   pointer ← ebv_at bank.1
   count ← count_at pointer.1
   words ← words_at count.0 count.1
-  rn ← field_at 16 words.1
+  rn ← reading_number 16 words.1
   check ← crc16_at whole rn.1
   Ok (commands.BlockWrite bank.0 pointer.0 words.0 rn.0, check.1)
 
@@ -288,7 +288,7 @@ block_erase_at whole bits = do
   bank ← choice_at bank_values reasons.Code bits
   pointer ← ebv_at bank.1
   count ← count_at pointer.1
-  rn ← field_at 16 count.1
+  rn ← reading_number 16 count.1
   check ← crc16_at whole rn.1
   Ok (commands.BlockErase bank.0 pointer.0 count.0 rn.0, check.1)
 

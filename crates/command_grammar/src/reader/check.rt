@@ -1,8 +1,8 @@
 //! The check number that goes along with the bits of a command (6.3.1.5).
 ghost use Rattle.std.specs.Prelude.{◌≡◌, List, Bool, [], ◌∷◌, ◌++◌};
 ghost use Rattle.command_grammar.specs.Commands.{code_of};
-ghost use Rattle.command_grammar.specs.reading.CommandFields.{fields_of};
-ghost use Rattle.command_grammar.specs.reading.CheckNumbers.{Counts, check_kept, kept_behind, AreServed};
+ghost use Rattle.command_grammar.specs.reading.CommandFields.{command_fields_of};
+ghost use Rattle.command_grammar.specs.reading.CheckNumbers.{IsRegisterOf, check_kept, kept_behind, AreServed};
 
 use crate::kinds::CommandKind;
 use crate::reader::fields::Field;
@@ -22,8 +22,8 @@ pub(crate) enum Check {
 impl Check {
     /// The one that comes in a command of this kind, behind its code.
     pub(crate) fn of(kind: CommandKind) -> Check
-        ensures counts { Counts result (code_of kind) }
-        ensures serves { AreServed (check_kept result) (fields_of kind) }
+        ensures counts { IsRegisterOf result (code_of kind) }
+        ensures serves { AreServed (check_kept result) (command_fields_of kind) }
     {
         match kind {
             CommandKind::Query => {
@@ -54,7 +54,8 @@ impl Check {
     /// One bit more.
     #[inline(always)]
     pub(crate) fn push(&mut self, bit: bool)
-        ensures counts { (front : List Bool) → Counts self.old front → Counts self.new (front ++ bit ∷ []) }
+        ensures counts { (front : List Bool) → IsRegisterOf self.old front
+            → IsRegisterOf self.new (front ++ bit ∷ []) }
         ensures kept { check_kept self.new ≡ check_kept self.old }
     {
         match self {
@@ -67,7 +68,8 @@ impl Check {
     /// A field begins. With its own one the check number is over, so that its own bits are not counted, which are many in a
     /// short command.
     pub(crate) fn start(&mut self, field: Field)
-        ensures counts { (bits : List Bool) → Counts self.old bits → Counts self.new bits }
+        ensures counts { (bits : List Bool) → IsRegisterOf self.old bits
+            → IsRegisterOf self.new bits }
         ensures kept { check_kept self.new ≡ kept_behind (check_kept self.old) field }
     {
         if matches!(field, Field::Crc5 | Field::Crc16) {

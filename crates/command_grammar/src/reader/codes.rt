@@ -40,8 +40,11 @@ impl CodeFront {
     /// Takes the next bit where some codes go on with it, and gives whether it did.
     #[inline(always)]
     pub(crate) fn take_inside(&mut self, bit: bool) -> bool
-        ensures reads { IsTrue result → (rest : List Bool) → next_at (behind_code self.old) Reason.Code (bit ∷ rest) ≡ next_at (behind_code self.new) Reason.Code rest }
-        ensures keeps { IsTrue result → bits_of_front self.old ++ bit ∷ [] ≡ bits_of_front self.new }
+        ensures reads { IsTrue result → (rest : List Bool)
+            → next_at (behind_code self.old) Reason.Code (bit ∷ rest)
+            ≡ next_at (behind_code self.new) Reason.Code rest }
+        ensures keeps { IsTrue result
+            → bits_of_front self.old ++ bit ∷ [] ≡ bits_of_front self.new }
         ensures same { IsFalse result → self.new ≡ self.old }
     {
         match code_step(*self, bit) {

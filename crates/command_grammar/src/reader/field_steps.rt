@@ -20,7 +20,8 @@ use command_fields::{BlockWords, Mask};
 
 /// A field of one bit.
 pub(crate) fn take_bit(field: BitField, bit: bool, fields: &mut Fields) -> Next
-    ensures reads { (rest : List Bool) → bit_from field fields.old (bit ∷ rest) ≡ next_from result fields.new rest }
+    ensures reads { (rest : List Bool)
+        → bit_from field fields.old (bit ∷ rest) ≡ next_from result fields.new rest }
     ensures sound { IsSoundNext result fields.new }
 {
     match field {
@@ -38,7 +39,8 @@ pub(crate) fn take_pair(
     bit: bool,
     fields: &mut Fields,
 ) -> Next
-    ensures reads { (rest : List Bool) → pair_from field first fields.old (bit ∷ rest) ≡ next_from result fields.new rest }
+    ensures reads { (rest : List Bool)
+        → pair_from field first fields.old (bit ∷ rest) ≡ next_from result fields.new rest }
     ensures sound { IsSoundNext result fields.new }
 {
     let Some(first) = first else {
@@ -65,7 +67,8 @@ pub(crate) fn take_triple(
     bit: bool,
     fields: &mut Fields,
 ) -> Next
-    ensures reads { (rest : List Bool) → triple_from field front fields.old (bit ∷ rest) ≡ next_from result fields.new rest }
+    ensures reads { (rest : List Bool)
+        → triple_from field front fields.old (bit ∷ rest) ≡ next_from result fields.new rest }
     ensures sound { IsSoundNext result fields.new }
 {
     match (field, front, bit) {
@@ -99,7 +102,8 @@ pub(crate) fn take_triple(
 pub(crate) fn take_number(field: NumberField, value: u32, fields: &mut Fields) -> Next
     requires small { value < 2 ^ width_of field }
     requires sound { IsSoundNumber field fields.old }
-    ensures reads { (rest : List Bool) → number_then field value fields.old rest ≡ next_from result fields.new rest }
+    ensures reads { (rest : List Bool)
+        → number_then field value fields.old rest ≡ next_from result fields.new rest }
     ensures sound { IsSoundNext result fields.new }
 {
     match field {
@@ -164,8 +168,10 @@ pub(crate) fn take_number(field: NumberField, value: u32, fields: &mut Fields) -
 
 /// What follows a word of a block, where so many others follow.
 fn next_word(left: u32) -> Next
-    ensures reads { (fields : Fields) (rest : List Bool) → words_then left fields rest ≡ next_from result fields rest }
-    ensures sound { (fields : Fields) → length fields.words + left ≤ 255 → IsSoundNext result fields }
+    ensures reads { (fields : Fields) (rest : List Bool)
+        → words_then left fields rest ≡ next_from result fields rest }
+    ensures sound { (fields : Fields) → length fields.words + left ≤ 255
+        → IsSoundNext result fields }
 {
     if left == 0 {
         return Next::Done;
@@ -175,7 +181,8 @@ fn next_word(left: u32) -> Next
 
 /// A bit of an extensible bit vector, behind those read.
 pub(crate) fn take_ebv(front: EbvFront, bit: bool, fields: &mut Fields) -> Next
-    ensures reads { (rest : List Bool) → stage_from (stages.Ebv front) fields.old (bit ∷ rest) ≡ next_from result fields.new rest }
+    ensures reads { (rest : List Bool)
+        → stage_from (stages.Ebv front) fields.old (bit ∷ rest) ≡ next_from result fields.new rest }
     ensures sound { IsSoundNext result fields.new }
 {
     match front.take(bit) {

@@ -1,7 +1,7 @@
 //! The fields that stand behind the codes of commands (6.3.2.11), and what was read of them.
 ghost use Rattle.std.specs.Prelude.{◌≡◌, ◌≢◌, ◌^◌, ◌<◌, ◌≤◌, Ok};
 ghost use Rattle.command_grammar.specs.declared.kinds.CommandKind.TheVariants as kinds;
-ghost use Rattle.command_grammar.specs.reading.CommandFields.{command_of, fields_of};
+ghost use Rattle.command_grammar.specs.reading.CommandFields.{command_of, command_fields_of};
 
 use crate::commands::Command;
 use crate::kinds::CommandKind;
@@ -66,7 +66,7 @@ pub(crate) enum Field {
 impl CommandKind {
     /// The fields behind the code, in their order.
     pub(crate) fn fields(self) -> &'static [Field]
-        ensures { result.now ≡ fields_of self }
+        ensures { result.now ≡ command_fields_of self }
     {
         match self {
             CommandKind::QueryRep => &[Field::Session],

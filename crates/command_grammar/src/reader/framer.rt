@@ -44,10 +44,13 @@ impl Framer {
     /// Takes one bit more, and says what the bits now are. After a refusal each push answers the same.
     #[inline(always)]
     pub fn push(&mut self, bit: bool) -> Pushed
-        ensures stands { (bits : List Bool) → FramerStandsFor self.old bits → FramerStandsFor self.new (bits ++ bit ∷ []) }
-        ensures judges { (bits : List Bool) → FramerStandsFor self.old bits → Judges result (bits ++ bit ∷ []) }
+        ensures stands { (bits : List Bool) → FramerStandsFor self.old bits
+            → FramerStandsFor self.new (bits ++ bit ∷ []) }
+        ensures judges { (bits : List Bool) → FramerStandsFor self.old bits
+            → Judges result (bits ++ bit ∷ []) }
         ensures remembers { self.new.refused ≡ refusal_in result }
-        ensures same { (place : ℕ) (reason : Reason) → self.old.refused ≡ Some (place, reason) → result ≡ Bad place reason }
+        ensures same { (place : ℕ) (reason : Reason) → self.old.refused ≡ Some (place, reason)
+            → result ≡ Bad place reason }
     {
         match self.refused {
             Some((place, reason)) => Pushed::Bad(place, reason),
@@ -66,8 +69,10 @@ impl Framer {
 
     /// The command that the bits are, the refusal, or `Short` where they only begin a command.
     pub fn finish(mut self) -> Result<Command, CommandRefusal>
-        ensures finishes { (bits : List Bool) → FramerStandsFor self bits → IsFinishAnswer result bits }
-        ensures only { (bits : List Bool) (command : Command) → FramerStandsFor self bits → SpellsCommand command bits → result ≡ Ok command }
+        ensures finishes { (bits : List Bool) → FramerStandsFor self bits
+            → IsFinishAnswer result bits }
+        ensures only { (bits : List Bool) (command : Command) → FramerStandsFor self bits
+            → SpellsCommand command bits → result ≡ Ok command }
     {
         let mut answer = Err(CommandRefusal::Short(0));
         self.finish_to(&mut answer);
@@ -78,8 +83,10 @@ impl Framer {
     /// afterwards. Neither the answer nor the Framer is copied or made anew, as both have room for the longest mask
     /// and the longest list of words.
     pub fn finish_to(&mut self, answer: &mut Result<Command, CommandRefusal>)
-        ensures finishes { (bits : List Bool) → FramerStandsFor self.old bits → IsFinishAnswer answer.new bits }
-        ensures only { (bits : List Bool) (command : Command) → FramerStandsFor self.old bits → SpellsCommand command bits → answer.new ≡ Ok command }
+        ensures finishes { (bits : List Bool) → FramerStandsFor self.old bits
+            → IsFinishAnswer answer.new bits }
+        ensures only { (bits : List Bool) (command : Command) → FramerStandsFor self.old bits
+            → SpellsCommand command bits → answer.new ≡ Ok command }
         ensures anew { FramerStandsFor self.new [] }
     {
         self.state.finish(self.refused, answer);

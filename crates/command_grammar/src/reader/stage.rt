@@ -3,8 +3,8 @@ ghost use Rattle.std.specs.Prelude.{◌≡◌, ◌+◌, ◌*◌, ◌≤◌, ◌<
 ghost use Rattle.bit_strings.specs.Numbers.{digit_of};
 ghost use Rattle.command_grammar.specs.reading.CommandFields.{field_from};
 ghost use Rattle.command_grammar.specs.reading.FieldStages.{number_from, stage_from, next_from};
-ghost use Rattle.command_grammar.specs.reading.FieldRanges.{IsFront, IsSound, IsSoundNext, IsEdge, next_bit};
-ghost use Rattle.command_grammar.specs.reading.CheckNumbers.{Counts, IsAsked, check_kept};
+ghost use Rattle.command_grammar.specs.reading.FieldRanges.{IsNumberFront, AreFieldsInRange, IsSoundNext, IsEdge, next_bit};
+ghost use Rattle.command_grammar.specs.reading.CheckNumbers.{IsRegisterOf, IsAsked, check_kept};
 ghost use Rattle.command_grammar.specs.declared.reader.fields.Fields.{Fields};
 ghost use Rattle.command_grammar.specs.declared.reader.stage.Stage.TheVariants as stages;
 ghost use Rattle.command_grammar.specs.declared.refusal.Reason.{Reason};
@@ -41,8 +41,11 @@ impl NumberFront {
     #[inline(always)]
     fn take_inside(&mut self, bit: bool) -> bool
         requires { self.old.value < 2 ^ 30 }
-        ensures reads { IsTrue result → (rest : List Bool) → number_from self.old.behind self.old.value (bit ∷ rest) ≡ number_from self.new.behind self.new.value rest }
-        ensures fits { IsTrue result → (width : ℕ) → IsFront width self.old → IsFront width self.new }
+        ensures reads { IsTrue result → (rest : List Bool)
+            → number_from self.old.behind self.old.value (bit ∷ rest)
+            ≡ number_from self.new.behind self.new.value rest }
+        ensures fits { IsTrue result → (width : ℕ) → IsNumberFront width self.old
+            → IsNumberFront width self.new }
         ensures last { IsFalse result → self.old.behind ≡ 0 }
         ensures same { IsFalse result → self.new ≡ self.old }
     {
@@ -76,7 +79,9 @@ impl NumberFront {
     #[inline(always)]
     fn take_known_inside(&mut self, bit: bool) -> bool
         requires { self.old.behind ≤ 15 }
-        ensures reads { IsTrue result → (reason : Reason) (fields : Fields) (rest : List Bool) → stage_from (stages.Known reason self.old) fields (bit ∷ rest) ≡ stage_from (stages.Known reason self.new) fields rest }
+        ensures reads { IsTrue result → (reason : Reason) (fields : Fields) (rest : List Bool)
+            → stage_from (stages.Known reason self.old) fields (bit ∷ rest)
+            ≡ stage_from (stages.Known reason self.new) fields rest }
         ensures few { self.new.behind ≤ self.old.behind }
         ensures last { IsFalse result → bit ≡ next_bit self.old → self.old.behind ≡ 0 }
         ensures same { IsFalse result → self.new ≡ self.old }
@@ -176,8 +181,9 @@ impl Stage {
     /// The beginning of a field, behind bits with this check number.
     pub(crate) fn start(field: Field, check: &Check) -> Stage
         requires { IsAsked (check_kept check.now) field }
-        ensures reads { (bits rest : List Bool) (fields : Fields) → Counts check.now bits → stage_from result fields rest ≡ field_from field fields (bits ++ rest) rest }
-        ensures sound { (fields : Fields) → IsSound result fields }
+        ensures reads { (bits rest : List Bool) (fields : Fields) → IsRegisterOf check.now bits
+            → stage_from result fields rest ≡ field_from field fields (bits ++ rest) rest }
+        ensures sound { (fields : Fields) → AreFieldsInRange result fields }
     {
         match field {
             Field::Dr => Stage::Bit(BitField::Dr),
@@ -223,9 +229,10 @@ impl Stage {
     /// of these isn't taken, nor one that differs from the known one, nor one elsewhere.
     #[inline(always)]
     pub(crate) fn take_inside(&mut self, bit: bool, fields: &mut Fields) -> bool
-        requires { IsSound self.old fields.old }
-        ensures reads { IsTrue result → (rest : List Bool) → stage_from self.old fields.old (bit ∷ rest) ≡ stage_from self.new fields.new rest }
-        ensures sound { IsTrue result → IsSound self.new fields.new }
+        requires { AreFieldsInRange self.old fields.old }
+        ensures reads { IsTrue result → (rest : List Bool)
+            → stage_from self.old fields.old (bit ∷ rest) ≡ stage_from self.new fields.new rest }
+        ensures sound { IsTrue result → AreFieldsInRange self.new fields.new }
         ensures edge { IsFalse result → IsEdge self.old bit }
         ensures same { IsFalse result → self.new ≡ self.old }
         ensures fields { IsFalse result → fields.new ≡ fields.old }
@@ -240,9 +247,10 @@ impl Stage {
 
     /// One bit more, of those that `take_inside` doesn't take.
     pub(crate) fn take(self, bit: bool, fields: &mut Fields) -> Next
-        requires sound { IsSound self fields.old }
+        requires sound { AreFieldsInRange self fields.old }
         requires edge { IsEdge self bit }
-        ensures reads { (rest : List Bool) → stage_from self fields.old (bit ∷ rest) ≡ next_from result fields.new rest }
+        ensures reads { (rest : List Bool)
+            → stage_from self fields.old (bit ∷ rest) ≡ next_from result fields.new rest }
         ensures sound { IsSoundNext result fields.new }
     {
         match self {
@@ -264,7 +272,9 @@ impl Stage {
 #[inline(always)]
 fn take_mask_inside(behind: &mut u32, bit: bool, fields: &mut Fields) -> bool
     requires { length fields.old.mask + behind.old + 1 ≤ 255 }
-    ensures reads { IsTrue result → (rest : List Bool) → stage_from (stages.Mask behind.old) fields.old (bit ∷ rest) ≡ stage_from (stages.Mask behind.new) fields.new rest }
+    ensures reads { IsTrue result → (rest : List Bool)
+        → stage_from (stages.Mask behind.old) fields.old (bit ∷ rest)
+        ≡ stage_from (stages.Mask behind.new) fields.new rest }
     ensures sound { IsTrue result → length fields.new.mask + behind.new + 1 ≤ 255 }
     ensures last { IsFalse result → behind.old ≡ 0 }
     ensures same { IsFalse result → behind.new ≡ behind.old }
@@ -282,7 +292,9 @@ fn take_mask_inside(behind: &mut u32, bit: bool, fields: &mut Fields) -> bool
 fn take_known(reason: Reason, wanted: NumberFront, bit: bool) -> Next
     requires few { wanted.behind ≤ 15 }
     requires edge { IsEdge (stages.Known reason wanted) bit }
-    ensures reads { (fields : Fields) (rest : List Bool) → stage_from (stages.Known reason wanted) fields (bit ∷ rest) ≡ next_from result fields rest }
+    ensures reads { (fields : Fields) (rest : List Bool)
+        → stage_from (stages.Known reason wanted) fields (bit ∷ rest)
+        ≡ next_from result fields rest }
     ensures sound { (fields : Fields) → IsSoundNext result fields }
 {
     if bit != wanted.next() {

@@ -2,8 +2,8 @@
 ghost use Rattle.std.specs.Prelude.{◌≡◌, ◌++◌, ◌∷◌, [], List, Bool, IsTrue, IsFalse, Ok, None};
 ghost use Rattle.command_grammar.specs.Commands.{Judges, IsFinishAnswer, SpellsCommand};
 ghost use Rattle.command_grammar.specs.reading.CommandFields.{run};
-ghost use Rattle.command_grammar.specs.reading.CheckNumbers.{Counts, AreServed, check_kept};
-ghost use Rattle.command_grammar.specs.reading.Framing.{StateStandsFor, Keeps, IsCounted, IsServed, IsEdgePosition, IsSoundPosition, IsOpen, Goes, refusal_in, resume};
+ghost use Rattle.command_grammar.specs.reading.CheckNumbers.{IsRegisterOf, AreServed, check_kept};
+ghost use Rattle.command_grammar.specs.reading.Framing.{StateStandsFor, Keeps, CheckGoesAlong, IsServed, IsEdgePosition, IsSoundPosition, IsOpen, TakesBit, refusal_in, resume};
 ghost use Rattle.command_grammar.specs.declared.commands.Command.{Command};
 
 use crate::commands::Command;
@@ -61,7 +61,8 @@ impl State {
     #[inline(always)]
     pub(crate) fn take(&mut self, bit: bool) -> Option<Reason>
         requires { IsOpen self.old None }
-        ensures goes { (bits : List Bool) → StateStandsFor self.old bits → Goes result self.new bits bit }
+        ensures goes { (bits : List Bool) → StateStandsFor self.old bits
+            → TakesBit result self.new bits bit }
         ensures sound { result ≡ None → IsSoundPosition self.new.position self.new.fields }
     {
         if self.take_inside(bit) {
@@ -74,7 +75,8 @@ impl State {
     #[inline(always)]
     fn take_inside(&mut self, bit: bool) -> bool
         requires { IsOpen self.old None }
-        ensures stands { IsTrue result → (front : List Bool) → StateStandsFor self.old front → StateStandsFor self.new (front ++ bit ∷ []) }
+        ensures stands { IsTrue result → (front : List Bool) → StateStandsFor self.old front
+            → StateStandsFor self.new (front ++ bit ∷ []) }
         ensures sound { IsTrue result → IsSoundPosition self.new.position self.new.fields }
         ensures edge { IsFalse result → IsEdgePosition self.old.position bit }
         ensures same { IsFalse result → self.new ≡ self.old }
@@ -104,7 +106,8 @@ impl State {
     fn take_edge(&mut self, bit: bool) -> Option<Reason>
         requires open { IsOpen self.old None }
         requires edge { IsEdgePosition self.old.position bit }
-        ensures goes { (bits : List Bool) → StateStandsFor self.old bits → Goes result self.new bits bit }
+        ensures goes { (bits : List Bool) → StateStandsFor self.old bits
+            → TakesBit result self.new bits bit }
         ensures sound { result ≡ None → IsSoundPosition self.new.position self.new.fields }
     {
         self.pushed += 1;
@@ -135,8 +138,12 @@ impl State {
     /// The next field begins, or the command is whole.
     fn begin(&mut self)
         requires { AreServed (check_kept self.old.check) self.old.behind.now }
-        ensures reads { (bits rest : List Bool) → Counts self.old.check bits → run self.old.behind.now self.old.kind self.old.fields (bits ++ rest) rest ≡ resume self.new.kind self.new.position self.new.behind.now self.new.fields (bits ++ rest) rest }
-        ensures counts { (bits : List Bool) → Counts self.old.check bits → IsCounted self.new.position self.new.check bits }
+        ensures reads { (bits rest : List Bool) → IsRegisterOf self.old.check bits
+            → run self.old.behind.now self.old.kind self.old.fields (bits ++ rest) rest
+            ≡ resume self.new.kind self.new.position self.new.behind.now self.new.fields
+            (bits ++ rest) rest }
+        ensures counts { (bits : List Bool) → IsRegisterOf self.old.check bits
+            → CheckGoesAlong self.new.position self.new.check bits }
         ensures serves { IsServed self.new.position self.new.check self.new.behind.now }
         ensures sound { IsSoundPosition self.new.position self.new.fields }
         ensures pushed { self.new.pushed ≡ self.old.pushed }
@@ -170,8 +177,10 @@ impl State {
         refused: Option<(u32, Reason)>,
         answer: &mut Result<Command, CommandRefusal>,
     )
-        ensures finishes { (bits : List Bool) → Keeps self.old refused bits → IsFinishAnswer answer.new bits }
-        ensures only { (bits : List Bool) (command : Command) → Keeps self.old refused bits → SpellsCommand command bits → answer.new ≡ Ok command }
+        ensures finishes { (bits : List Bool) → Keeps self.old refused bits
+            → IsFinishAnswer answer.new bits }
+        ensures only { (bits : List Bool) (command : Command) → Keeps self.old refused bits
+            → SpellsCommand command bits → answer.new ≡ Ok command }
         ensures anew { StateStandsFor self.new [] }
         ensures sound { IsSoundPosition self.new.position self.new.fields }
     {

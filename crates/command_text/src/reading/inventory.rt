@@ -15,8 +15,11 @@ use text_fields::{
 
 /// The session that the one field behind a name spells.
 pub(crate) fn read_session(fields: Fields) -> Option<Session>
-    ensures value { IfSome result (λ session. (fields.entry ≡ decimal session ∷ []) × (session ≤ 3)) }
-    ensures none { IfNone result (AreFilled 1 fields.entry → (session : ℕ) → session ≤ 3 → fields.entry ≢ decimal session ∷ []) }
+    ensures value { IfSome result
+        (λ session. (fields.entry ≡ decimal session ∷ []) × (session ≤ 3)) }
+    ensures none { IfNone result
+        (AreFilled 1 fields.entry → (session : ℕ) → session ≤ 3
+        → fields.entry ≢ decimal session ∷ []) }
 {
     session_of(one_field(fields)?)
 }
@@ -24,7 +27,8 @@ pub(crate) fn read_session(fields: Fields) -> Option<Session>
 /// The word that the one field behind a name spells.
 pub(crate) fn read_word(fields: Fields) -> Option<u16>
     ensures value { IfSome result (λ rn. fields.entry ≡ hex_word rn ∷ []) }
-    ensures none { IfNone result (AreFilled 1 fields.entry → (rn : ℕ) → IsWord rn → fields.entry ≢ hex_word rn ∷ []) }
+    ensures none { IfNone result
+        (AreFilled 1 fields.entry → (rn : ℕ) → IsWord rn → fields.entry ≢ hex_word rn ∷ []) }
 {
     word(one_field(fields)?)
 }
@@ -32,8 +36,11 @@ pub(crate) fn read_word(fields: Fields) -> Option<u16>
 /// Puts in place of another command the Query that the fields behind `query` spell (6.3.2.11.2.1 Query).
 pub(crate) fn read_query_to(fields: Fields, command: &mut Command) -> Option<()>
     ensures value { IsSome result → IsCommandBehind CommandKind.Query fields.entry command.new }
-    ensures none { IfNone result (AreFilled 7 fields.entry → (dr : Bool) (code : Code) (trext : Bool) (sel : Sel) (session : ℕ) (target : Side) (q : ℕ)
-        → session ≤ 3 → q ≤ 15 → fields.entry ≢ other_command_fields (Command.Query dr code trext sel session target q)) }
+    ensures none { IfNone result
+        (AreFilled 7 fields.entry
+        → (dr : Bool) (code : Code) (trext : Bool) (sel : Sel) (session : ℕ) (target : Side) (q : ℕ)
+        → session ≤ 3 → q ≤ 15
+        → fields.entry ≢ other_command_fields (Command.Query dr code trext sel session target q)) }
 {
     let (dr, code, trext, sel, session, target, q) = seven_fields(fields)?;
     *command = Command::Query {
@@ -50,8 +57,10 @@ pub(crate) fn read_query_to(fields: Fields, command: &mut Command) -> Option<()>
 
 /// Puts in place of another command the QueryAdjust that the fields behind `queryadjust` spell (6.3.2.11.2.2 QueryAdjust).
 pub(crate) fn read_query_adjust_to(fields: Fields, command: &mut Command) -> Option<()>
-    ensures value { IsSome result → IsCommandBehind CommandKind.QueryAdjust fields.entry command.new }
-    ensures none { IfNone result (AreFilled 2 fields.entry → (session : ℕ) (updn : UpDn) → session ≤ 3
+    ensures value { IsSome result
+        → IsCommandBehind CommandKind.QueryAdjust fields.entry command.new }
+    ensures none { IfNone result
+        (AreFilled 2 fields.entry → (session : ℕ) (updn : UpDn) → session ≤ 3
         → fields.entry ≢ other_command_fields (Command.QueryAdjust session updn)) }
 {
     let (session, updn) = two_fields(fields)?;

@@ -11,7 +11,9 @@ use text_fields::{Fields, action_of, five_fields, pointer_of};
 /// Puts in place of another command the Select that the fields behind `select` spell (6.3.2.11.1.1 Select).
 pub(crate) fn read_select_to(fields: Fields, command: &mut Command) -> Option<()>
     ensures value { IsSome result → IsCommandBehind CommandKind.Select fields.entry command.new }
-    ensures none { IfNone result (AreFilled 5 fields.entry → (target : FlagName) (action : ℕ) (bank : MaskBank) (pointer : ℕ) (mask : List Bool)
+    ensures none { IfNone result
+        (AreFilled 5 fields.entry
+        → (target : FlagName) (action : ℕ) (bank : MaskBank) (pointer : ℕ) (mask : List Bool)
         → action ≤ 7 → pointer < 2 ^ 28 → length mask ≤ 255
         → fields.entry ≢ other_command_fields (Command.Select target action bank pointer mask)) }
 {

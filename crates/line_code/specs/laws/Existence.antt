@@ -13,7 +13,7 @@ use Rattle.line_code.specs.Answer.{IsStreamAnswer}
 use Rattle.line_code.specs.declared.refusal.LineRefusal.{LineRefusal}
 use Rattle.line_code.specs.declared.refusal.LineRefusal.TheVariants.{Invalid, Unfinished}
 use Rattle.line_code.specs.laws.Lead.{seeks_more, seeks_size, seeks_bad, seeks_short, lead_all}
-use Rattle.line_code.specs.laws.Reading.{GoesOn, EndsBlock, reads_none, reads_bad, reads_more, reads_bit, reads_short, reads_whole, further, behind, behind_lead}
+use Rattle.line_code.specs.laws.Reading.{BlockGoesOn, EndsBlock, reads_none, reads_bad, reads_more, reads_bit, reads_short, reads_whole, further, behind, behind_lead}
 use Rattle.line_code.specs.laws.LevelTests.{each_bit, chosen}
 use Rattle.bit_strings.specs.laws.Family.{bad-in_front}
 
@@ -118,7 +118,7 @@ reads_on code trext levels front level more state bits r =
         | inl within ↦
             let Fits : Type 0 = (bit : Bool) × IsTrue (fits_of (further state z o) bit) in
             let fits : Fits = elim some [ inl both ↦ (true, both.1) | inr one ↦ (false, one) ] in
-            let on : GoesOn t state level =
+            let on : BlockGoesOn t state level =
             record {
               zero_fits = z;
               one_fits = o;

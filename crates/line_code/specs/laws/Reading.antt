@@ -94,7 +94,7 @@ behind t state bit =
     record { context = t.next state.context bit; place = 0; zero_fits = true; one_fits = true; taken = state.taken + 1; put = state.put + 1; last = Some bit }
 
 -- the next level is that of some bit that still fits, and the block goes on: which bits fit with the level
-pub record GoesOn (t : Table) (state : InsideValue) (level : Bool) : Type 0 where
+pub record BlockGoesOn (t : Table) (state : InsideValue) (level : Bool) : Type 0 where
   pub zero_fits : Bool
   pub one_fits : Bool
   pub begun : (bit : Bool) → state.place + 1 < length (t.block state.context bit)
@@ -103,7 +103,7 @@ pub record GoesOn (t : Table) (state : InsideValue) (level : Bool) : Type 0 wher
   pub some_fits : IsTrue (fits_of (further state zero_fits one_fits) some_bit)
 
 pub reads_more : (t : Table) (trext : Bool) (state : InsideValue) (levels bits : List Bool) (level : Bool) → Reads t trext state levels bits
-    → (on : GoesOn t state level) → Reads t trext (further state on.zero_fits on.one_fits) (levels ++ level ∷ []) bits
+    → (on : BlockGoesOn t state level) → Reads t trext (further state on.zero_fits on.one_fits) (levels ++ level ∷ []) bits
 reads_more t trext state levels bits level r on =
     let lead = t.lead trext in
     let before = blocks t t.start bits in

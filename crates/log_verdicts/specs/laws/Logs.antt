@@ -9,7 +9,7 @@ use Rattle.reply_grammar.specs.declared.expected.Reply.{Reply}
 use Rattle.reply_grammar.specs.declared.expected.Reply.TheVariants.{Rn16, Epc, Handle, Words, Header, Error}
 use Rattle.tag_machine.specs.TagValue.{TagValue}
 use Rattle.log_verdicts.specs.Log.{LogEntry, Seen, Exchange, Befalls}
-use Rattle.log_verdicts.specs.Explaining.{answer_to, outcome_of_heard}
+use Rattle.log_verdicts.specs.Explaining.{seen_answer_to, outcome_of_heard}
 
 -- what is heard is a command with its numbers in their ranges, or none
 abbrev pub IsLegalHeard : Option Command → Type 0
@@ -49,5 +49,5 @@ pub data Deed : Type 0 where
 -- the log that a tag makes, which answers what the tables say
 abbrev pub log_made : List Deed → TagValue → List LogEntry
 log_made [] tag = []
-log_made (Sends heard ∷ deeds) tag = Exchange heard (answer_to heard tag) ∷ log_made deeds (outcome_of_heard heard tag).tag
+log_made (Sends heard ∷ deeds) tag = Exchange heard (seen_answer_to heard tag) ∷ log_made deeds (outcome_of_heard heard tag).tag
 log_made (Brings event ∷ deeds) tag = Befalls event ∷ log_made deeds (tag_after_event event tag.state tag.body)

@@ -9,7 +9,7 @@ use Rattle.probe_lines.specs.ProbeLine.{SpellsProbeLine, SpellsTag}
 use Rattle.probe_lines.specs.ProbeText.{IsFaultyTagLine}
 
 -- fields say one line at most, or are faulty for one reason, and never both
-pub record LineLaws : Type 0 where
+pub record ProbeLineLaws : Type 0 where
   pub told : (fields : List (List ℕ)) (one other : ProbeLine) → SpellsProbeLine fields one → SpellsProbeLine fields other → one ≡ other
   pub not_faulty : (fields : List (List ℕ)) (line : ProbeLine) (fault : FieldsFault) → SpellsProbeLine fields line → IsFaultyProbeLine fields fault → ⊥
   pub one_fault : (fields : List (List ℕ)) (one other : FieldsFault) → IsFaultyProbeLine fields one → IsFaultyProbeLine fields other → one ≡ other

@@ -29,7 +29,8 @@ fn next_event(text: &mut String, event: Event, tag: u32) -> Result<(), OutOfMemo
 
 /// Writes a kind and the number behind it.
 fn next_numbered(text: &mut String, kind: &str, number: u32) -> Result<(), OutOfMemory>
-    ensures { OnOk result (string_bytes text.new ≡ string_bytes text.old ++ space ∷ line_with (kind.now ∷ decimal number ∷ [])) }
+    ensures { OnOk result (string_bytes text.new ≡ string_bytes text.old
+        ++ space ∷ line_with (kind.now ∷ decimal number ∷ [])) }
 {
     push_next_name(text, kind)?;
     push_next_number(text, number)
@@ -38,7 +39,9 @@ fn next_numbered(text: &mut String, kind: &str, number: u32) -> Result<(), OutOf
 /// Writes the kind of what the channel gives, and the field behind it.
 fn next_choice(text: &mut String, choice: &Choice) -> Result<(), OutOfMemory>
     ensures { OnOk result (string_bytes text.new ≡ string_bytes text.old
-        ++ space ∷ line_with (air_word (air_kind (happenings.Choice choice.now)) ∷ happening_fields (happenings.Choice choice.now))) }
+        ++ space ∷ line_with
+        (air_word (air_kind (happenings.Choice choice.now)) ∷ happening_fields
+        (happenings.Choice choice.now))) }
 {
     match choice {
         Choice::Pick(reply) => next_numbered(text, "pick", *reply),
@@ -89,7 +92,8 @@ pub fn push_air_choice(text: &mut String, exchange: u32, choice: &Choice) -> Res
 
 /// Writes `event KIND FIELDS`: what befalls the tag of this number between exchanges.
 pub fn push_event(text: &mut String, event: Event, tag: u32) -> Result<(), OutOfMemory>
-    ensures { OnOk result (string_bytes text.new ≡ string_bytes text.old ++ (line_text (lines.Event event tag) ++ line_feed ∷ [])) }
+    ensures { OnOk result (string_bytes text.new ≡ string_bytes text.old
+        ++ (line_text (lines.Event event tag) ++ line_feed ∷ [])) }
 {
     text.push_str("event")?;
     next_event(text, event, tag)?;

@@ -27,7 +27,8 @@ fn push_lengths(text: &mut String, link: &Link) -> Result<(), OutOfMemory>
 /// Writes what a Query says of the replies: DR, the code and TRext.
 fn next_replies(text: &mut String, link: &Link) -> Result<(), OutOfMemory>
     ensures { OnOk result (string_bytes text.new ≡ string_bytes text.old
-        ++ space ∷ line_with (flag_text link.now.dr ∷ code_word link.now.code ∷ flag_text link.now.trext ∷ [])) }
+        ++ space ∷ line_with
+        (flag_text link.now.dr ∷ code_word link.now.code ∷ flag_text link.now.trext ∷ [])) }
 {
     push_next_name(text, bit_name(link.dr()))?;
     push_next_name(text, name_of(link.code()))?;
@@ -36,7 +37,8 @@ fn next_replies(text: &mut String, link: &Link) -> Result<(), OutOfMemory>
 
 /// Writes `link TARI RTCAL TRCAL PW DR CODE TREXT`.
 pub fn push_link(text: &mut String, link: &Link) -> Result<(), OutOfMemory>
-    ensures { OnOk result (string_bytes text.new ≡ string_bytes text.old ++ (line_text (lines.Link link.now) ++ line_feed ∷ [])) }
+    ensures { OnOk result (string_bytes text.new ≡ string_bytes text.old
+        ++ (line_text (lines.Link link.now) ++ line_feed ∷ [])) }
 {
     push_lengths(text, link)?;
     next_replies(text, link)?;

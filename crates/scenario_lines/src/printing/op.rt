@@ -34,7 +34,8 @@ fn next_place(
 
 /// Writes the kind of an operation and the payload of its Lock.
 fn next_lock(text: &mut String, kind: &str, payload: &Payload) -> Result<(), OutOfMemory>
-    ensures { OnOk result (string_bytes text.new ≡ string_bytes text.old ++ space ∷ line_with (kind.now ∷ payload_digits payload.now ∷ [])) }
+    ensures { OnOk result (string_bytes text.new ≡ string_bytes text.old
+        ++ space ∷ line_with (kind.now ∷ payload_digits payload.now ∷ [])) }
 {
     push_next_name(text, kind)?;
     push_next_payload(text, payload)
@@ -42,7 +43,8 @@ fn next_lock(text: &mut String, kind: &str, payload: &Payload) -> Result<(), Out
 
 /// Writes the kind of an operation and its password.
 fn next_secret(text: &mut String, kind: &str, password: u32) -> Result<(), OutOfMemory>
-    ensures { OnOk result (string_bytes text.new ≡ string_bytes text.old ++ space ∷ line_with (kind.now ∷ password_text password ∷ [])) }
+    ensures { OnOk result (string_bytes text.new ≡ string_bytes text.old
+        ++ space ∷ line_with (kind.now ∷ password_text password ∷ [])) }
 {
     push_next_name(text, kind)?;
     push_next_password(text, password)
@@ -50,7 +52,8 @@ fn next_secret(text: &mut String, kind: &str, password: u32) -> Result<(), OutOf
 
 /// Writes the kind of an operation, and the fields behind it.
 fn next_op(text: &mut String, op: &Op) -> Result<(), OutOfMemory>
-    ensures { OnOk result (string_bytes text.new ≡ string_bytes text.old ++ space ∷ line_with (op_word (op_kind op.now) ∷ op_fields op.now)) }
+    ensures { OnOk result (string_bytes text.new ≡ string_bytes text.old
+        ++ space ∷ line_with (op_word (op_kind op.now) ∷ op_fields op.now)) }
 {
     match op {
         Op::Read {
@@ -93,7 +96,8 @@ fn next_op(text: &mut String, op: &Op) -> Result<(), OutOfMemory>
 
 /// Writes `only EPC`: the one EPC that the operations of a round are for.
 pub fn push_only(text: &mut String, epc: &EpcWords) -> Result<(), OutOfMemory>
-    ensures { OnOk result (string_bytes text.new ≡ string_bytes text.old ++ (line_text (lines.Only epc.now) ++ line_feed ∷ [])) }
+    ensures { OnOk result (string_bytes text.new ≡ string_bytes text.old
+        ++ (line_text (lines.Only epc.now) ++ line_feed ∷ [])) }
 {
     text.push_str("only")?;
     push_next_words(text, epc.as_slice())?;
@@ -102,7 +106,8 @@ pub fn push_only(text: &mut String, epc: &EpcWords) -> Result<(), OutOfMemory>
 
 /// Writes `op KIND FIELDS`: an operation of a round.
 pub fn push_op(text: &mut String, op: &Op) -> Result<(), OutOfMemory>
-    ensures { OnOk result (string_bytes text.new ≡ string_bytes text.old ++ (line_text (lines.Op op.now) ++ line_feed ∷ [])) }
+    ensures { OnOk result (string_bytes text.new ≡ string_bytes text.old
+        ++ (line_text (lines.Op op.now) ++ line_feed ∷ [])) }
 {
     text.push_str("op")?;
     next_op(text, op)?;

@@ -29,7 +29,8 @@ fn push_tags(text: &mut String, spec: &RoundSpec) -> Result<(), OutOfMemory>
 /// Writes a rule for Q as this version spells it. Version 1 has no spelling for a rule that doesn't move Qfp, and nothing
 /// is written for it.
 fn next_rule(text: &mut String, version: Version, rule: Rule) -> Result<(), OutOfMemory>
-    ensures { OnOk result (string_bytes text.new ≡ string_bytes text.old ++ space ∷ rule_text version rule) }
+    ensures { OnOk result (string_bytes text.new ≡ string_bytes text.old
+        ++ space ∷ rule_text version rule) }
 {
     match (version, rule) {
         (Version::One, Rule::Float(step)) => push_next_number(text, step),
@@ -45,7 +46,8 @@ fn next_rule(text: &mut String, version: Version, rule: Rule) -> Result<(), OutO
 
 /// Writes `round SEL SESSION TARGET Q RULE LIMIT`, the rule as this version spells it.
 pub fn push_round(text: &mut String, version: Version, spec: &RoundSpec) -> Result<(), OutOfMemory>
-    ensures { OnOk result (string_bytes text.new ≡ string_bytes text.old ++ (line_text (lines.Round version spec.now) ++ line_feed ∷ [])) }
+    ensures { OnOk result (string_bytes text.new ≡ string_bytes text.old
+        ++ (line_text (lines.Round version spec.now) ++ line_feed ∷ [])) }
 {
     push_tags(text, spec)?;
     push_next_number(text, u32::from(spec.q().get()))?;

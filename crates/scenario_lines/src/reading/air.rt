@@ -25,9 +25,13 @@ const MOST_LEVEL: u32 = 999_999;
 
 /// The levels of a raw stream, of which there is one at least, that the one field that is left spells.
 fn raw_levels<'a>(fields: Fields<'a>) -> Result<Digits<'a>, LineFault>
-    ensures ok { IfOk result (λ levels. (fields.entry ≡ binary levels ∷ []) × HasStreamLength levels) }
-    ensures only { (levels : List Bool) → HasStreamLength levels → fields.entry ≡ binary levels ∷ [] → IsOkAnd result (λ it. it ≡ levels) }
-    ensures refused { IfErr result (Misreads (AreFilled 1) (λ (levels : List Bool). binary levels ∷ []) HasStreamLength fields.entry) }
+    ensures ok { IfOk result
+        (λ levels. (fields.entry ≡ binary levels ∷ []) × HasStreamLength levels) }
+    ensures only { (levels : List Bool) → HasStreamLength levels → fields.entry ≡ binary levels ∷ []
+        → IsOkAnd result (λ it. it ≡ levels) }
+    ensures refused { IfErr result
+        (Misreads (AreFilled 1)
+        (λ (levels : List Bool). binary levels ∷ []) HasStreamLength fields.entry) }
 {
     let Some(field) = one_field(fields) else {
         return Err(LineFault::Shape);
@@ -44,7 +48,8 @@ fn raw_levels<'a>(fields: Fields<'a>) -> Result<Digits<'a>, LineFault>
 /// What the fields behind the kind of an air line spell.
 fn happening_behind<'a>(kind: AirKind, fields: Fields<'a>) -> Result<Happening<'a>, LineFault>
     ensures ok { IfOk result (IsHappeningText kind fields.entry) }
-    ensures only { (happening : Happening) → IsHappeningText kind fields.entry happening → IsOkAnd result (λ it. it ≡ happening) }
+    ensures only { (happening : Happening) → IsHappeningText kind fields.entry happening
+        → IsOkAnd result (λ it. it ≡ happening) }
     ensures refused { IfErr result (MisreadsHappening kind fields.entry) }
 {
     match kind {
@@ -77,10 +82,13 @@ fn happening_behind<'a>(kind: AirKind, fields: Fields<'a>) -> Result<Happening<'
 
 /// The number of an exchange and what is said of it, which the fields behind `air` spell.
 pub(crate) fn read_air<'a>(mut others: Fields<'a>) -> Result<(u32, Happening<'a>), LineFault>
-    ensures ok { IfOk result (λ it. (others.entry ≡ decimal it.0 ∷ air_word (air_kind it.1) ∷ happening_fields it.1)
+    ensures ok { IfOk result
+        (λ it. (others.entry ≡ decimal it.0 ∷ air_word (air_kind it.1) ∷ happening_fields it.1)
         × IsExchange it.0 × IsHappening it.1) }
-    ensures only { (exchange : ℕ) → (happening : Happening) → IsExchange exchange → IsHappening happening
-        → others.entry ≡ decimal exchange ∷ air_word (air_kind happening) ∷ happening_fields happening
+    ensures only { (exchange : ℕ) → (happening : Happening) → IsExchange exchange
+        → IsHappening happening
+        → others.entry ≡ decimal exchange ∷ air_word
+        (air_kind happening) ∷ happening_fields happening
         → IsOkAnd result (λ it. (it.0 ≡ exchange) × (it.1 ≡ happening)) }
     ensures refused { IfErr result (MisreadsAirLine others.entry) }
 {

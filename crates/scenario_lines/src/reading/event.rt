@@ -66,8 +66,11 @@ pub(crate) fn event_behind(kind: EventKind, fields: Fields) -> Result<(Event, u3
 
 /// The event and the number of its tag that the fields behind `event` spell.
 pub(crate) fn read_event(mut others: Fields) -> Result<(Event, u32), LineFault>
-    ensures ok { IfOk result (λ it. (others.entry ≡ event_word (event_kind it.0) ∷ event_fields it.0 it.1) × IsEvent it.0 it.1) }
-    ensures only { (event : Event) → (tag : ℕ) → IsEvent event tag → others.entry ≡ event_word (event_kind event) ∷ event_fields event tag
+    ensures ok { IfOk result
+        (λ it. (others.entry ≡ event_word (event_kind it.0) ∷ event_fields it.0 it.1)
+        × IsEvent it.0 it.1) }
+    ensures only { (event : Event) → (tag : ℕ) → IsEvent event tag
+        → others.entry ≡ event_word (event_kind event) ∷ event_fields event tag
         → IsOkAnd result (λ it. (it.0 ≡ event) × (it.1 ≡ tag)) }
     ensures refused { IfErr result (MisreadsEventLine others.entry) }
 {

@@ -15,8 +15,11 @@ use text_fields::{Fields, one_field};
 /// The version that the field behind `gen2` spells.
 pub(crate) fn read_version(others: Fields) -> Result<Version, LineFault>
     ensures ok { IfOk result (λ version. others.entry ≡ version_text version ∷ []) }
-    ensures only { (version : Version) → others.entry ≡ version_text version ∷ [] → result ≡ Ok version }
-    ensures refused { IfErr result (Misreads (AreFilled 1) (λ version. version_text version ∷ []) (λ (_ : Version). Unit {0}) others.entry) }
+    ensures only { (version : Version) → others.entry ≡ version_text version ∷ []
+        → result ≡ Ok version }
+    ensures refused { IfErr result
+        (Misreads (AreFilled 1) (λ version. version_text version ∷ [])
+        (λ (_ : Version). Unit {0}) others.entry) }
 {
     match one_field(others) {
         Some(b"1") => Ok(Version::One),
@@ -29,8 +32,11 @@ pub(crate) fn read_version(others: Fields) -> Result<Version, LineFault>
 /// What the channel gives by default where several tags reply, which the field behind `default` spells.
 pub(crate) fn read_default(others: Fields) -> Result<Several, LineFault>
     ensures ok { IfOk result (λ several. others.entry ≡ several_text several ∷ []) }
-    ensures only { (several : Several) → others.entry ≡ several_text several ∷ [] → result ≡ Ok several }
-    ensures refused { IfErr result (Misreads (AreFilled 1) (λ several. several_text several ∷ []) (λ (_ : Several). Unit {0}) others.entry) }
+    ensures only { (several : Several) → others.entry ≡ several_text several ∷ []
+        → result ≡ Ok several }
+    ensures refused { IfErr result
+        (Misreads (AreFilled 1) (λ several. several_text several ∷ [])
+        (λ (_ : Several). Unit {0}) others.entry) }
 {
     let Some(field) = one_field(others) else {
         return Err(LineFault::Shape);

@@ -28,8 +28,10 @@ pub(crate) struct Parameters {
 
 /// The parameters that the fields behind `link` spell.
 fn read_parameters(others: Fields) -> Result<Parameters, LineFault>
-    ensures ok { IfOk result (λ it. (others.entry ≡ link_fields (link_value it)) × IsLinkForm (link_value it)) }
-    ensures only { (link : LinkValue) → IsLinkForm link → others.entry ≡ link_fields link → IsOkAnd result (λ it. link_value it ≡ link) }
+    ensures ok { IfOk result
+        (λ it. (others.entry ≡ link_fields (link_value it)) × IsLinkForm (link_value it)) }
+    ensures only { (link : LinkValue) → IsLinkForm link → others.entry ≡ link_fields link
+        → IsOkAnd result (λ it. link_value it ≡ link) }
     ensures refused { IfErr result (Misreads (AreFilled 7) link_fields IsLinkForm others.entry) }
 {
     let Some((tari, rtcal, trcal, pw, dr, code, trext)) = seven_fields(others) else {
@@ -69,8 +71,10 @@ fn read_parameters(others: Fields) -> Result<Parameters, LineFault>
 
 /// The link that the fields behind `link` spell.
 pub(crate) fn read_link(others: Fields) -> Result<Link, LineFault>
-    ensures ok { IfOk result (λ link. (others.entry ≡ link_fields link) × IsLinkForm link × IsLegalLink link) }
-    ensures only { (link : LinkValue) → IsLinkForm link → IsLegalLink link → others.entry ≡ link_fields link → IsOkAnd result (λ it. it ≡ link) }
+    ensures ok { IfOk result
+        (λ link. (others.entry ≡ link_fields link) × IsLinkForm link × IsLegalLink link) }
+    ensures only { (link : LinkValue) → IsLinkForm link → IsLegalLink link
+        → others.entry ≡ link_fields link → IsOkAnd result (λ it. it ≡ link) }
     ensures refused { IfErr result (MisreadsLink others.entry) }
 {
     let of = read_parameters(others)?;

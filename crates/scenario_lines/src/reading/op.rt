@@ -25,8 +25,10 @@ use value_text::password_of;
 /// The EPC that the field behind `only` spells.
 pub(crate) fn read_only(others: Fields) -> Result<EpcWords, LineFault>
     ensures ok { IfOk result (λ epc. (others.entry ≡ hex_words epc ∷ []) × IsEpc epc) }
-    ensures only { (words : List ℕ) → IsEpc words → others.entry ≡ hex_words words ∷ [] → IsOkAnd result (λ epc. epc ≡ words) }
-    ensures refused { IfErr result (Misreads (AreFilled 1) (λ (words : List ℕ). hex_words words ∷ []) IsEpc others.entry) }
+    ensures only { (words : List ℕ) → IsEpc words → others.entry ≡ hex_words words ∷ []
+        → IsOkAnd result (λ epc. epc ≡ words) }
+    ensures refused { IfErr result
+        (Misreads (AreFilled 1) (λ (words : List ℕ). hex_words words ∷ []) IsEpc others.entry) }
 {
     let Some(field) = one_field(others) else {
         return Err(LineFault::Shape);
@@ -40,8 +42,11 @@ pub(crate) fn read_only(others: Fields) -> Result<EpcWords, LineFault>
 /// The operation of a kind at a place in a bank, by the last field of its line.
 fn op_at(kind: OpKind, bank: Bank, pointer: Pointer, last: &[u8]) -> Option<Op>
     requires { pointer < 2 ^ 28 }
-    ensures value { IfSome result (λ op. (op_kind op ≡ kind) × (op_fields op ≡ bank_word bank ∷ decimal pointer ∷ last.now ∷ []) × IsLegalOp op) }
-    ensures only { (op : Op) → op_kind op ≡ kind → op_fields op ≡ bank_word bank ∷ decimal pointer ∷ last.now ∷ [] → IsLegalOp op
+    ensures value { IfSome result
+        (λ op. (op_kind op ≡ kind)
+        × (op_fields op ≡ bank_word bank ∷ decimal pointer ∷ last.now ∷ []) × IsLegalOp op) }
+    ensures only { (op : Op) → op_kind op ≡ kind
+        → op_fields op ≡ bank_word bank ∷ decimal pointer ∷ last.now ∷ [] → IsLegalOp op
         → IsSomeAnd result (λ it. it ≡ op) }
 {
     match kind {
@@ -84,8 +89,10 @@ fn op_at(kind: OpKind, bank: Bank, pointer: Pointer, last: &[u8]) -> Option<Op>
 
 /// The operation of a kind that names no place, by the one field of its line.
 fn op_of(kind: OpKind, field: &[u8]) -> Option<Op>
-    ensures value { IfSome result (λ op. (op_kind op ≡ kind) × (op_fields op ≡ field.now ∷ []) × IsLegalOp op) }
-    ensures only { (op : Op) → op_kind op ≡ kind → op_fields op ≡ field.now ∷ [] → IsLegalOp op → IsSomeAnd result (λ it. it ≡ op) }
+    ensures value { IfSome result
+        (λ op. (op_kind op ≡ kind) × (op_fields op ≡ field.now ∷ []) × IsLegalOp op) }
+    ensures only { (op : Op) → op_kind op ≡ kind → op_fields op ≡ field.now ∷ [] → IsLegalOp op
+        → IsSomeAnd result (λ it. it ≡ op) }
 {
     match kind {
         OpKind::Lock => {
@@ -162,8 +169,10 @@ fn op_behind(kind: OpKind, fields: Fields) -> Result<Op, LineFault>
 
 /// The operation that the fields behind `op` spell.
 pub(crate) fn read_op(mut others: Fields) -> Result<Op, LineFault>
-    ensures ok { IfOk result (λ op. (others.entry ≡ op_word (op_kind op) ∷ op_fields op) × IsLegalOp op) }
-    ensures only { (op : Op) → IsLegalOp op → others.entry ≡ op_word (op_kind op) ∷ op_fields op → IsOkAnd result (λ it. it ≡ op) }
+    ensures ok { IfOk result
+        (λ op. (others.entry ≡ op_word (op_kind op) ∷ op_fields op) × IsLegalOp op) }
+    ensures only { (op : Op) → IsLegalOp op → others.entry ≡ op_word (op_kind op) ∷ op_fields op
+        → IsOkAnd result (λ it. it ≡ op) }
     ensures refused { IfErr result (MisreadsOpLine others.entry) }
 {
     let Some(kind) = others.next() else {

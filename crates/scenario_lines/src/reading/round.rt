@@ -1,7 +1,7 @@
 //! Round lines, read.
 ghost use Rattle.std.specs.Prelude.{◌≡◌, ◌++◌, ℕ, codes, IfOk, IfErr, IfSome, IsOkAnd, Some};
 ghost use Rattle.std.specs.Fmt.{decimal};
-ghost use Rattle.q_round.specs.SpecValue.{IsLegalRule, IsStep, SpecValue};
+ghost use Rattle.q_round.specs.SpecValue.{IsLegalRule, IsQfpStep, SpecValue};
 ghost use Rattle.q_round.specs.declared.rule.Rule.{Rule};
 ghost use Rattle.scenario_lines.specs.declared.version.Version.{Version};
 ghost use Rattle.scenario_lines.specs.LineForm.{IsRound};
@@ -17,24 +17,26 @@ use text_fields::{Fields, number, number_from, q_of, session_of, six_fields};
 
 /// By how much a slot moves Qfp, in thousandths, which a field spells.
 fn step_of(field: &[u8]) -> Option<u32>
-    ensures value { IfSome result (λ step. (field.now ≡ decimal step) × IsStep step) }
-    ensures only { (step : ℕ) → IsStep step → field.now ≡ decimal step → result ≡ Some step }
+    ensures value { IfSome result (λ step. (field.now ≡ decimal step) × IsQfpStep step) }
+    ensures only { (step : ℕ) → IsQfpStep step → field.now ≡ decimal step → result ≡ Some step }
 {
     number_from(field, 100, 500)
 }
 
 /// By how much a slot moves Qfp, in thousandths, which version 2 spells behind the name of the rule.
 fn float_of(field: &[u8]) -> Option<u32>
-    ensures value { IfSome result (λ step. (field.now ≡ codes "float-" ++ decimal step) × IsStep step) }
-    ensures only { (step : ℕ) → IsStep step → field.now ≡ codes "float-" ++ decimal step → result ≡ Some step }
+    ensures value { IfSome result (λ step. (field.now ≡ codes "float-" ++ decimal step) × IsQfpStep step) }
+    ensures only { (step : ℕ) → IsQfpStep step → field.now ≡ codes "float-" ++ decimal step → result ≡ Some step }
 {
     step_of(field.strip_prefix(b"float-")?)
 }
 
 /// The rule for Q that version 2 spells so.
 fn rule_named(field: &[u8]) -> Option<Rule>
-    ensures value { IfSome result (λ rule. (field.now ≡ rule_text Version.Two rule) × IsLegalRule rule) }
-    ensures only { (rule : Rule) → IsLegalRule rule → field.now ≡ rule_text Version.Two rule → result ≡ Some rule }
+    ensures value { IfSome result
+        (λ rule. (field.now ≡ rule_text Version.Two rule) × IsLegalRule rule) }
+    ensures only { (rule : Rule) → IsLegalRule rule → field.now ≡ rule_text Version.Two rule
+        → result ≡ Some rule }
 {
     match field {
         b"fixed" => Some(Rule::Fixed),
@@ -45,8 +47,10 @@ fn rule_named(field: &[u8]) -> Option<Rule>
 
 /// The rule for Q that a field spells, and the version that spells it so.
 fn rule_of(field: &[u8]) -> Option<(Version, Rule)>
-    ensures value { IfSome result (λ it. (field.now ≡ rule_text it.0 it.1) × IsLegalRule it.1 × HasRuleText it.0 it.1) }
-    ensures only { (version : Version) → (rule : Rule) → IsLegalRule rule → HasRuleText version rule → field.now ≡ rule_text version rule
+    ensures value { IfSome result
+        (λ it. (field.now ≡ rule_text it.0 it.1) × IsLegalRule it.1 × HasRuleText it.0 it.1) }
+    ensures only { (version : Version) → (rule : Rule) → IsLegalRule rule → HasRuleText version rule
+        → field.now ≡ rule_text version rule
         → result ≡ Some (version, rule) }
 {
     match step_of(field) {
@@ -58,7 +62,8 @@ fn rule_of(field: &[u8]) -> Option<(Version, Rule)>
 /// The parameters of a round that the fields behind `round` spell, and the version that spells its rule so.
 pub(crate) fn read_round(others: Fields) -> Result<(Version, RoundSpec), LineFault>
     ensures ok { IfOk result (λ it. (others.entry ≡ round_fields it.0 it.1) × IsRound it.0 it.1) }
-    ensures only { (version : Version) → (spec : SpecValue) → IsRound version spec → others.entry ≡ round_fields version spec
+    ensures only { (version : Version) → (spec : SpecValue) → IsRound version spec
+        → others.entry ≡ round_fields version spec
         → IsOkAnd result (λ it. (it.0 ≡ version) × (it.1 ≡ spec)) }
     ensures refused { IfErr result (MisreadsRound others.entry) }
 {

@@ -13,7 +13,8 @@ use text_fields::{Fields, action_of, five_fields, pointer_of};
 /// What the fields behind `select` name.
 pub(crate) fn read_select(others: Fields) -> Result<Selection, LineFault>
     ensures ok { IfOk result (λ it. (others.entry ≡ select_fields it) × IsSelection it) }
-    ensures only { (selection : Selection) → IsSelection selection → others.entry ≡ select_fields selection
+    ensures only { (selection : Selection) → IsSelection selection
+        → others.entry ≡ select_fields selection
         → IsOkAnd result (λ it. it ≡ selection) }
     ensures refused { IfErr result (Misreads (AreFilled 5) select_fields IsSelection others.entry) }
 {

@@ -6,7 +6,7 @@ ghost use Rattle.tag_memory.specs.Image.{pc_fits};
 ghost use Rattle.text_fields.specs.WordLists.{IsWordList};
 ghost use Rattle.scenario_lines.specs.TagForm.{IsTag, IsTagForm};
 ghost use Rattle.scenario_lines.specs.LineForm.{IsCopyCount};
-ghost use Rattle.scenario_lines.specs.Spelling.{copies_fields, tag_fields};
+ghost use Rattle.scenario_lines.specs.Spelling.{copies_fields, tag_spec_fields};
 ghost use Rattle.text_fields.specs.NamedFields.{AreFilled};
 ghost use Rattle.scenario_lines.specs.Reading.{Misreads, MisreadsCopies, MisreadsTag, tag_value};
 
@@ -36,10 +36,15 @@ pub(crate) struct Parts<'a> {
 
 /// The lists that four fields spell.
 fn lists_of<'a>(epc: &'a [u8], tid: &'a [u8], user: &'a [u8], words: &'a [u8]) -> Option<Lists<'a>>
-    ensures value { IfSome result (λ it. (epc.now ≡ hex_words it.epc) × IsWordList 1 32 it.epc × (tid.now ≡ hex_words it.tid) × IsWordList 2 16 it.tid
-        × (user.now ≡ hex_words it.user) × IsWordList 0 512 it.user × (words.now ≡ hex_words it.words) × IsWordList 1 256 it.words) }
-    ensures only { (e t u w : List ℕ) → IsWordList 1 32 e → IsWordList 2 16 t → IsWordList 0 512 u → IsWordList 1 256 w
-        → epc.now ≡ hex_words e → tid.now ≡ hex_words t → user.now ≡ hex_words u → words.now ≡ hex_words w
+    ensures value { IfSome result
+        (λ it. (epc.now ≡ hex_words it.epc) × IsWordList 1 32 it.epc × (tid.now ≡ hex_words it.tid)
+        × IsWordList 2 16 it.tid
+        × (user.now ≡ hex_words it.user) × IsWordList 0 512 it.user
+        × (words.now ≡ hex_words it.words) × IsWordList 1 256 it.words) }
+    ensures only { (e t u w : List ℕ) → IsWordList 1 32 e → IsWordList 2 16 t → IsWordList 0 512 u
+        → IsWordList 1 256 w
+        → epc.now ≡ hex_words e → tid.now ≡ hex_words t → user.now ≡ hex_words u
+        → words.now ≡ hex_words w
         → IsSomeAnd result (λ it. (it.epc ≡ e) × (it.tid ≡ t) × (it.user ≡ u) × (it.words ≡ w)) }
 {
     let epc = words_from(epc, 1, 32)?;
@@ -56,9 +61,11 @@ fn lists_of<'a>(epc: &'a [u8], tid: &'a [u8], user: &'a [u8], words: &'a [u8]) -
 
 /// The parts that the fields behind `tag` spell.
 fn read_parts<'a>(others: Fields<'a>) -> Result<Parts<'a>, LineFault>
-    ensures ok { IfOk result (λ it. (others.entry ≡ tag_fields (tag_value it)) × IsTagForm (tag_value it)) }
-    ensures only { (tag : TagSpec) → IsTagForm tag → others.entry ≡ tag_fields tag → IsOkAnd result (λ it. tag_value it ≡ tag) }
-    ensures refused { IfErr result (Misreads (AreFilled 7) tag_fields IsTagForm others.entry) }
+    ensures ok { IfOk result
+        (λ it. (others.entry ≡ tag_spec_fields (tag_value it)) × IsTagForm (tag_value it)) }
+    ensures only { (tag : TagSpec) → IsTagForm tag → others.entry ≡ tag_spec_fields tag
+        → IsOkAnd result (λ it. tag_value it ≡ tag) }
+    ensures refused { IfErr result (Misreads (AreFilled 7) tag_spec_fields IsTagForm others.entry) }
 {
     let Some((kill, access, locks, epc, tid, user, words)) = seven_fields(others) else {
         return Err(LineFault::Shape);
@@ -87,7 +94,8 @@ fn read_parts<'a>(others: Fields<'a>) -> Result<Parts<'a>, LineFault>
 fn whole_tag<'a>(parts: Parts<'a>) -> Result<TagText<'a>, LineFault>
     requires { IsTagForm (tag_value parts) }
     ensures ok { IfOk result (λ tag. (tag ≡ tag_value parts.entry) × IsTag tag) }
-    ensures refused { IfErr result (λ fault. (fault ≡ LineFault.Pc) × (pc_fits (tag_value parts.entry).image ≡ false)) }
+    ensures refused { IfErr result
+        (λ fault. (fault ≡ LineFault.Pc) × (pc_fits (tag_value parts.entry).image ≡ false)) }
 {
     let Parts {
         kill,
@@ -109,8 +117,9 @@ fn whole_tag<'a>(parts: Parts<'a>) -> Result<TagText<'a>, LineFault>
 
 /// The tag that the fields behind `tag` spell.
 pub fn read_tag<'a>(others: Fields<'a>) -> Result<TagText<'a>, LineFault>
-    ensures ok { IfOk result (λ tag. (others.entry ≡ tag_fields tag) × IsTag tag) }
-    ensures only { (tag : TagSpec) → IsTag tag → others.entry ≡ tag_fields tag → IsOkAnd result (λ it. it ≡ tag) }
+    ensures ok { IfOk result (λ tag. (others.entry ≡ tag_spec_fields tag) × IsTag tag) }
+    ensures only { (tag : TagSpec) → IsTag tag → others.entry ≡ tag_spec_fields tag
+        → IsOkAnd result (λ it. it ≡ tag) }
     ensures refused { IfErr result (MisreadsTag others.entry) }
 {
     whole_tag(read_parts(others)?)
@@ -118,8 +127,10 @@ pub fn read_tag<'a>(others: Fields<'a>) -> Result<TagText<'a>, LineFault>
 
 /// How many tags the fields behind `copies` stand for, and the tag that they spell.
 pub(crate) fn read_copies<'a>(mut others: Fields<'a>) -> Result<(u32, TagText<'a>), LineFault>
-    ensures ok { IfOk result (λ it. (others.entry ≡ copies_fields it.0 it.1) × IsCopyCount it.0 × IsTag it.1) }
-    ensures only { (count : ℕ) → (tag : TagSpec) → IsCopyCount count → IsTag tag → others.entry ≡ copies_fields count tag
+    ensures ok { IfOk result
+        (λ it. (others.entry ≡ copies_fields it.0 it.1) × IsCopyCount it.0 × IsTag it.1) }
+    ensures only { (count : ℕ) → (tag : TagSpec) → IsCopyCount count → IsTag tag
+        → others.entry ≡ copies_fields count tag
         → IsOkAnd result (λ it. (it.0 ≡ count) × (it.1 ≡ tag)) }
     ensures refused { IfErr result (MisreadsCopies others.entry) }
 {

@@ -6,14 +6,14 @@ use Rattle.scenario_lines.specs.declared.line.Line.{Line}
 use Rattle.scenario_lines.specs.declared.fault.LineFault.{LineFault}
 use Rattle.scenario_lines.specs.declared.fault.LineFault.TheVariants as line_faults
 use Rattle.scenario_lines.specs.LineForm.{IsLine}
-use Rattle.scenario_lines.specs.LineFaults.{BeginsWith, IsFaultyLine, SpellsLine}
+use Rattle.scenario_lines.specs.LineFaults.{BeginsWithKeyword, IsFaultyLine, SpellsLine}
 use Rattle.scenario_lines.specs.Spelling.{line_fields}
 
 pub record LineLaws : Type 0 where
   pub lines_are_field_texts : (line : Line) → IsLine line → All IsFieldText (line_fields line)
   pub lines_are_told_apart : (fields : List (List ℕ)) (one other : Line) → SpellsLine fields one → SpellsLine fields other → one ≡ other
-  pub lines_begin_with_one_keyword : (fields : List (List ℕ)) (one other : Keyword) → BeginsWith fields one → BeginsWith fields other → one ≡ other
+  pub lines_begin_with_one_keyword : (fields : List (List ℕ)) (one other : Keyword) → BeginsWithKeyword fields one → BeginsWithKeyword fields other → one ≡ other
   pub spelled_lines_are_not_faulty : (fields : List (List ℕ)) (line : Line) (fault : LineFault) → SpellsLine fields line → IsFaultyLine fields fault → ⊥
   pub lines_have_one_fault : (fields : List (List ℕ)) (one other : LineFault) → IsFaultyLine fields one → IsFaultyLine fields other → one ≡ other
-  pub lines_begin_or_are_faulty : (fields : List (List ℕ)) → ((keyword : Keyword) × BeginsWith fields keyword) ⊎ IsFaultyLine fields line_faults.Word
+  pub lines_begin_or_are_faulty : (fields : List (List ℕ)) → ((keyword : Keyword) × BeginsWithKeyword fields keyword) ⊎ IsFaultyLine fields line_faults.Word
   pub lines_say_something_or_are_faulty : (fields : List (List ℕ)) → ((line : Line) × SpellsLine fields line) ⊎ ((fault : LineFault) × IsFaultyLine fields fault)

@@ -34,7 +34,8 @@ impl Model for AirLines {
 
     ghost view = { λ a. record { count = a.count; closed = a.closed.items; exchange = a.exchange; latest = a.latest } };
 
-    ghost invariant = { λ a. AreFewAirLines (record { count = a.count; closed = a.closed.items; exchange = a.exchange; latest = a.latest }) };
+    ghost invariant = { λ a. AreFewAirLines
+        (record { count = a.count; closed = a.closed.items; exchange = a.exchange; latest = a.latest }) };
 }
 
 impl AirLines {

@@ -3,7 +3,7 @@ ghost use Rattle.std.specs.Prelude.{◌≡◌, ◌≢◌, ◌<◌, ◌≤◌, �
 ghost use Rattle.scenario.specs.Limits.{most_ops, most_steps, no_operations};
 ghost use Rattle.scenario.specs.ScenarioText.{step_lines};
 ghost use Rattle.scenario_lines.specs.declared.version.Version.TheVariants.{Two};
-ghost use Rattle.scenario_text.specs.StepLines.{IsBareRound, line_count, no_step_lines, steps_of, with_last, with_only, with_op, with_round, with_step};
+ghost use Rattle.scenario_text.specs.StepLines.{IsBareRound, step_line_count, no_step_lines, steps_of, with_last, with_only, with_op, with_round, with_step};
 
 use access_ops::{Op, OpList};
 use bit_strings::{List, OutOfMemory};
@@ -36,13 +36,13 @@ pub(crate) struct StepLines {
 
 impl Model for StepLines {
     ghost use Rattle.std.specs.Prelude.{◌≡◌};
-    ghost use Rattle.scenario_text.specs.StepLines.{AreFewStepLines, StepLinesValue, line_count};
+    ghost use Rattle.scenario_text.specs.StepLines.{AreFewStepLines, StepLinesValue, step_line_count};
 
     ghost Value = { StepLinesValue };
 
     ghost view = { λ a. record { closed = a.closed.items; round = a.round; operations = record { only = a.only; ops = a.ops.items } } };
 
-    ghost invariant = { λ a. (a.closed_lines ≡ line_count a.closed.items)
+    ghost invariant = { λ a. (a.closed_lines ≡ step_line_count a.closed.items)
         × AreFewStepLines (record { closed = a.closed.items; round = a.round; operations = record { only = a.only; ops = a.ops.items } }) };
 }
 
@@ -63,7 +63,8 @@ impl StepLines {
     /// How many lines say the last step, where that is a round: its own, that of the EPC which the
     /// operations are for, and theirs.
     fn round_lines(&self) -> u32
-        ensures lines { line_count (steps_of self.now) ≡ line_count self.now.closed + result }
+        ensures lines { step_line_count (steps_of self.now) ≡ step_line_count self.now.closed
+            + result }
         ensures small { result ≤ 2 + most_ops }
     {
         if self.round.is_none() {
@@ -83,7 +84,7 @@ impl StepLines {
     /// How many lines say the steps: one each, one for each operation, and one for each EPC that
     /// operations are for.
     pub(crate) fn line_count(&self) -> u32
-        ensures count { result ≡ line_count (steps_of self.now) }
+        ensures count { result ≡ step_line_count (steps_of self.now) }
         ensures small { result ≤ 34850 }
     {
         self.closed_lines + self.round_lines()
@@ -119,7 +120,13 @@ impl StepLines {
 
     /// Puts the last step behind the others, where it is a round: no more is said of its operations.
     fn end_round(&mut self, alloc: Global) -> Result<(), OutOfMemory>
-        ensures { OnOk result (self.new ≡ record { closed = steps_of self.old; round = None; operations = no_operations }) }
+        ensures { OnOk result
+            (self.new ≡ record {
+              closed = steps_of
+                  self.old;
+              round = None;
+              operations = no_operations;
+            }) }
     {
         let lines = self.round_lines();
         let round = self.round.take();
@@ -193,7 +200,9 @@ fn close(
     ops: Vec<Op>,
 ) -> Result<(), OutOfMemory>
     requires { length ops.items < 2 ^ 32 }
-    ensures ok { OnOk result (closed.new.items ≡ with_last closed.old.items round (record { only = only; ops = ops.items })) }
+    ensures ok { OnOk result
+        (closed.new.items ≡ with_last closed.old.items round
+        (record { only = only; ops = ops.items })) }
     ensures err { OnErr result (closed.new.items ≡ closed.old.items) }
 {
     if let Some(spec) = round {

@@ -44,7 +44,8 @@ impl Model for TagLines {
 
     ghost view = { λ a. a.groups.items };
 
-    ghost invariant = { λ a. (a.count ≡ length (tags_of a.groups.items)) × AreFewTagLines a.groups.items };
+    ghost invariant = { λ a. (a.count ≡ length (tags_of a.groups.items))
+        × AreFewTagLines a.groups.items };
 }
 
 impl TagLines {
@@ -103,7 +104,8 @@ impl TagLines {
     ) -> Result<(), OutOfMemory>
         requires some { 1 ≤ count }
         requires room { length (tags_of self.old) + count ≤ most_tags_of Two }
-        ensures { OnOk result (self.new ≡ self.old ++ (record { count = count; spec = tag.now }) ∷ []) }
+        ensures { OnOk result
+            (self.new ≡ self.old ++ (record { count = count; spec = tag.now }) ∷ []) }
     {
         let spec = tag.to_spec(alloc)?;
         self.groups.push(TagGroup { count, spec })?;

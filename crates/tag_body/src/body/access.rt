@@ -23,9 +23,16 @@ impl Body {
         out: &mut Bits,
     )
         requires { reply_room ≤ out.old.capacity }
-        ensures bits { out.new ≡ record out.old { items = spelling (read_answer (words_read self.now.memory self.now.locks level bank pointer count)) handle } }
-        ensures in_range { IsReply (read_answer (words_read self.now.memory self.now.locks level bank pointer count)) }
-        ensures few { HasFewWords (read_answer (words_read self.now.memory self.now.locks level bank pointer count)) }
+        ensures bits { out.new
+            ≡ record out.old {
+              items = spelling
+                  (read_answer (words_read self.now.memory self.now.locks level bank pointer count))
+                  handle;
+            } }
+        ensures in_range { IsReply
+            (read_answer (words_read self.now.memory self.now.locks level bank pointer count)) }
+        ensures few { HasFewWords
+            (read_answer (words_read self.now.memory self.now.locks level bank pointer count)) }
     {
         let parts = &*self.parts;
         match parts
@@ -45,8 +52,14 @@ impl Body {
         pointer: Pointer,
         word: u16,
     ) -> Result<(), ErrorCode>
-        ensures answer { change_answer result ≡ change_answer (banks_after_write self.old.memory self.old.locks level bank pointer (word ∷ [])) }
-        ensures after { self.new ≡ record self.old { memory = changed_or self.old.memory (banks_after_write self.old.memory self.old.locks level bank pointer (word ∷ [])) } }
+        ensures answer { change_answer result
+            ≡ change_answer
+            (banks_after_write self.old.memory self.old.locks level bank pointer (word ∷ [])) }
+        ensures after { self.new
+            ≡ record self.old {
+              memory = changed_or self.old.memory
+                  (banks_after_write self.old.memory self.old.locks level bank pointer (word ∷ []));
+            } }
     {
         let parts = &mut *self.parts;
         parts.memory.write(bank, pointer, word, level, &parts.locks)
@@ -60,8 +73,14 @@ impl Body {
         pointer: Pointer,
         words: &BlockWords,
     ) -> Result<(), ErrorCode>
-        ensures answer { change_answer result ≡ change_answer (banks_after_write self.old.memory self.old.locks level bank pointer words.now) }
-        ensures after { self.new ≡ record self.old { memory = changed_or self.old.memory (banks_after_write self.old.memory self.old.locks level bank pointer words.now) } }
+        ensures answer { change_answer result
+            ≡ change_answer
+            (banks_after_write self.old.memory self.old.locks level bank pointer words.now) }
+        ensures after { self.new
+            ≡ record self.old {
+              memory = changed_or self.old.memory
+                  (banks_after_write self.old.memory self.old.locks level bank pointer words.now);
+            } }
     {
         let parts = &mut *self.parts;
         parts
@@ -77,8 +96,14 @@ impl Body {
         pointer: Pointer,
         count: Count1,
     ) -> Result<(), ErrorCode>
-        ensures answer { change_answer result ≡ change_answer (banks_after_erase self.old.memory self.old.locks level bank pointer count) }
-        ensures after { self.new ≡ record self.old { memory = changed_or self.old.memory (banks_after_erase self.old.memory self.old.locks level bank pointer count) } }
+        ensures answer { change_answer result
+            ≡ change_answer
+            (banks_after_erase self.old.memory self.old.locks level bank pointer count) }
+        ensures after { self.new
+            ≡ record self.old {
+              memory = changed_or self.old.memory
+                  (banks_after_erase self.old.memory self.old.locks level bank pointer count);
+            } }
     {
         let parts = &mut *self.parts;
         parts
@@ -88,8 +113,13 @@ impl Body {
 
     /// Changes the pairs of lock bits by a Lock payload, or refuses and changes nothing.
     pub fn lock(&mut self, payload: Payload) -> Result<(), ErrorCode>
-        ensures answer { change_answer result ≡ change_answer (locks_after self.old.locks payload (has_user self.old)) }
-        ensures after { self.new ≡ record self.old { locks = changed_or self.old.locks (locks_after self.old.locks payload (has_user self.old)) } }
+        ensures answer { change_answer result
+            ≡ change_answer (locks_after self.old.locks payload (has_user self.old)) }
+        ensures after { self.new
+            ≡ record self.old {
+              locks = changed_or self.old.locks
+                  (locks_after self.old.locks payload (has_user self.old));
+            } }
     {
         let parts = &mut *self.parts;
         let has_user = parts.memory.size(Bank::User) > 0;

@@ -18,7 +18,9 @@ impl AnyTag {
     #[inline(never)]
     pub(crate) fn lock(self, payload: Payload, rn: u16, out: &mut Bits) -> Heard
         requires room { reply_room ≤ out.old.capacity }
-        ensures { GivesOutcome (lock payload rn (tag_value_of self).state (tag_value_of self).body) result out.old out.new }
+        ensures { GivesOutcome
+            (lock payload rn (tag_value_of self).state (tag_value_of self).body) result out.old
+            out.new }
     {
         let mut tag = match self.heeding(rn, None, out) {
             Ok(tag) => tag,

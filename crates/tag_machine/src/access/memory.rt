@@ -24,7 +24,9 @@ impl AnyTag {
         out: &mut Bits,
     ) -> Heard
         requires room { reply_room ≤ out.old.capacity }
-        ensures { GivesOutcome (read bank pointer count rn (tag_value_of self).state (tag_value_of self).body) result out.old out.new }
+        ensures { GivesOutcome
+            (read bank pointer count rn (tag_value_of self).state (tag_value_of self).body) result
+            out.old out.new }
     {
         match self.heeding(rn, None, out) {
             Ok(tag) => {
@@ -51,7 +53,9 @@ impl AnyTag {
         out: &mut Bits,
     ) -> Heard
         requires room { reply_room ≤ out.old.capacity }
-        ensures { GivesOutcome (write bank pointer covered rn (tag_value_of self).state (tag_value_of self).body) result out.old out.new }
+        ensures { GivesOutcome
+            (write bank pointer covered rn (tag_value_of self).state (tag_value_of self).body)
+            result out.old out.new }
     {
         let tag = match self.heeding(rn, None, out) {
             Ok(tag) => tag,
@@ -76,7 +80,9 @@ impl AnyTag {
         out: &mut Bits,
     ) -> Heard
         requires room { reply_room ≤ out.old.capacity }
-        ensures { GivesOutcome (block_write bank pointer words.now rn (tag_value_of self).state (tag_value_of self).body) result out.old out.new }
+        ensures { GivesOutcome
+            (block_write bank pointer words.now rn (tag_value_of self).state
+            (tag_value_of self).body) result out.old out.new }
     {
         match self.heeding(rn, None, out) {
             Ok(mut tag) => {
@@ -98,7 +104,9 @@ impl AnyTag {
         out: &mut Bits,
     ) -> Heard
         requires room { reply_room ≤ out.old.capacity }
-        ensures { GivesOutcome (block_erase bank pointer count rn (tag_value_of self).state (tag_value_of self).body) result out.old out.new }
+        ensures { GivesOutcome
+            (block_erase bank pointer count rn (tag_value_of self).state (tag_value_of self).body)
+            result out.old out.new }
     {
         match self.heeding(rn, None, out) {
             Ok(mut tag) => {
@@ -123,7 +131,8 @@ impl<S: WithHandle> Tag<S> {
         steps: &mut Steps<L>,
     ) -> Heard
         requires room { reply_room ≤ out.old.capacity }
-        ensures step { GivesOutcome (read bank pointer count rn self.state self.body) result out.old out.new }
+        ensures step { GivesOutcome
+            (read bank pointer count rn self.state self.body) result out.old out.new }
         ensures counted { steps.new ≡ steps.old + 1 }
     {
         self.one_step(steps).read(bank, pointer, count, rn, out)
@@ -142,7 +151,8 @@ impl<S: WithHandle> Tag<S> {
         steps: &mut Steps<L>,
     ) -> Heard
         requires room { reply_room ≤ out.old.capacity }
-        ensures step { GivesOutcome (write bank pointer covered rn self.state self.body) result out.old out.new }
+        ensures step { GivesOutcome
+            (write bank pointer covered rn self.state self.body) result out.old out.new }
         ensures counted { steps.new ≡ steps.old + 1 }
     {
         self.one_step(steps).write(bank, pointer, covered, rn, out)
@@ -160,7 +170,8 @@ impl<S: WithHandle> Tag<S> {
         steps: &mut Steps<L>,
     ) -> Heard
         requires room { reply_room ≤ out.old.capacity }
-        ensures step { GivesOutcome (block_write bank pointer words.now rn self.state self.body) result out.old out.new }
+        ensures step { GivesOutcome
+            (block_write bank pointer words.now rn self.state self.body) result out.old out.new }
         ensures counted { steps.new ≡ steps.old + 1 }
     {
         self.one_step(steps)
@@ -179,7 +190,8 @@ impl<S: WithHandle> Tag<S> {
         steps: &mut Steps<L>,
     ) -> Heard
         requires room { reply_room ≤ out.old.capacity }
-        ensures step { GivesOutcome (block_erase bank pointer count rn self.state self.body) result out.old out.new }
+        ensures step { GivesOutcome
+            (block_erase bank pointer count rn self.state self.body) result out.old out.new }
         ensures counted { steps.new ≡ steps.old + 1 }
     {
         self.one_step(steps)

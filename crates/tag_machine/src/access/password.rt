@@ -20,7 +20,8 @@ impl TagWithHandle {
     /// Keeps the value as a first half, and answers the handle.
     fn keep_half(self, password: Password, value: u16, out: &mut Bits) -> Heard
         requires room { reply_room ≤ out.old.capacity }
-        ensures { GivesOutcome (keep_half self.level password value self.held self.body) result out.old out.new }
+        ensures { GivesOutcome
+            (keep_half self.level password value self.held self.body) result out.old out.new }
     {
         let TagWithHandle { level, held, body } = self;
         let held = Held {
@@ -33,7 +34,8 @@ impl TagWithHandle {
     /// What both halves of a Kill give.
     fn kill_whole(self, password: u32, out: &mut Bits) -> Heard
         requires room { reply_room ≤ out.old.capacity }
-        ensures { GivesOutcome (kill_whole self.level password self.held self.body) result out.old out.new }
+        ensures { GivesOutcome
+            (kill_whole self.level password self.held self.body) result out.old out.new }
     {
         let TagWithHandle { level, held, body } = self;
         let own = body.parts.memory.kill_word();
@@ -83,7 +85,9 @@ impl AnyTag {
         out: &mut Bits,
     ) -> Heard
         requires room { reply_room ≤ out.old.capacity }
-        ensures { GivesOutcome (in_access rn (Some password) (password_outcome password covered) (tag_value_of self).state (tag_value_of self).body) result out.old out.new }
+        ensures { GivesOutcome
+            (in_access rn (Some password) (password_outcome password covered)
+            (tag_value_of self).state (tag_value_of self).body) result out.old out.new }
     {
         let tag = match self.heeding(rn, Some(password), out) {
             Ok(tag) => tag,
@@ -136,7 +140,8 @@ impl<S: WithHandle> Tag<S> {
         steps: &mut Steps<L>,
     ) -> Heard
         requires room { reply_room ≤ out.old.capacity }
-        ensures step { GivesOutcome (access covered rn self.state self.body) result out.old out.new }
+        ensures step { GivesOutcome
+            (access covered rn self.state self.body) result out.old out.new }
         ensures counted { steps.new ≡ steps.old + 1 }
     {
         self.one_step(steps)

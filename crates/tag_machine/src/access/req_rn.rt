@@ -42,7 +42,8 @@ impl TagWithHandle {
     /// Req_RN in open and secured: with the handle the tag draws a cover and answers it, and a first half stays.
     fn req_rn(self, rn: u16, out: &mut Bits) -> Heard
         requires { reply_room ≤ out.old.capacity }
-        ensures { GivesOutcome (req_rn_outcome self.level rn self.held self.body) result out.old out.new }
+        ensures { GivesOutcome
+            (req_rn_outcome self.level rn self.held self.body) result out.old out.new }
     {
         if self.held.handle != rn {
             return unanswered(self.tag(), out);
@@ -67,7 +68,8 @@ impl AnyTag {
     #[inline(never)]
     pub(crate) fn req_rn(self, rn: u16, out: &mut Bits) -> Heard
         requires room { reply_room ≤ out.old.capacity }
-        ensures { GivesOutcome (req_rn rn (tag_value_of self).state (tag_value_of self).body) result out.old out.new }
+        ensures { GivesOutcome
+            (req_rn rn (tag_value_of self).state (tag_value_of self).body) result out.old out.new }
     {
         match self {
             AnyTag::InReply(Tag { state, body }) => go_back(body, state.session, state.q, out),

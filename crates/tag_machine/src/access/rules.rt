@@ -35,7 +35,9 @@ pub struct TagWithHandle {
 impl Held {
     /// Whether an unfinished Kill or Access ends at a command that brings a half of this password, or no half.
     fn ends(&self, brought: Option<Password>) -> bool
-        ensures { (body : BodyValue) (outcome : Outcome) → unless_ended brought self.now body outcome ≡ (if result then back self.now.session self.now.q body else outcome) }
+        ensures { (body : BodyValue) (outcome : Outcome)
+            → unless_ended brought self.now body outcome
+            ≡ (if result then back self.now.session self.now.q body else outcome) }
     {
         match (self.half, brought) {
             (Some(_), None) => true,
@@ -48,7 +50,8 @@ impl Held {
 impl TagWithHandle {
     /// The tag.
     pub fn tag(self) -> AnyTag
-        ensures { tag_value_of result ≡ record { state = held_state self.level self.held; body = self.body } }
+        ensures { tag_value_of result
+            ≡ record { state = held_state self.level self.held; body = self.body } }
     {
         let TagWithHandle { level, held, body } = self;
         match level {
@@ -60,7 +63,9 @@ impl TagWithHandle {
     /// An answer that is the handle alone, with the same preamble.
     pub fn answer_handle(self, out: &mut Bits) -> Heard
         requires { reply_room ≤ out.old.capacity }
-        ensures { GivesOutcome (plain_answer (held_state self.level self.held) self.body (Handle self.held.handle) self.held.handle) result out.old out.new }
+        ensures { GivesOutcome
+            (plain_answer (held_state self.level self.held) self.body
+            (Handle self.held.handle) self.held.handle) result out.old out.new }
     {
         let handle = self.held.handle;
         answer_handle(self.tag(), handle, out)
@@ -70,7 +75,9 @@ impl TagWithHandle {
     /// was refused.
     pub fn answer_change(self, change: Result<(), ErrorCode>, out: &mut Bits) -> Heard
         requires { reply_room ≤ out.old.capacity }
-        ensures { GivesOutcome (extended_answer (held_state self.level self.held) self.body (change_answer change) self.held.handle) result out.old out.new }
+        ensures { GivesOutcome
+            (extended_answer (held_state self.level self.held) self.body
+            (change_answer change) self.held.handle) result out.old out.new }
     {
         let handle = self.held.handle;
         match change {
@@ -93,8 +100,15 @@ impl TagWithHandle {
         brought: Option<Password>,
         out: &mut Bits,
     ) -> Result<TagWithHandle, Heard>
-        ensures ok { IfOk result (λ tag. (tag ≡ self) × ((outcome : Outcome) → outcome_where_heeded rn brought self.level self.held self.body outcome ≡ outcome)) }
-        ensures err { IfErr result (λ heard. (outcome : Outcome) → GivesOutcome (outcome_where_heeded rn brought self.level self.held self.body outcome) heard out.old out.new) }
+        ensures ok { IfOk result
+            (λ tag. (tag ≡ self)
+            × ((outcome : Outcome)
+            → outcome_where_heeded rn brought self.level self.held self.body outcome ≡ outcome)) }
+        ensures err { IfErr result
+            (λ heard. (outcome : Outcome)
+            → GivesOutcome
+            (outcome_where_heeded rn brought self.level self.held self.body outcome) heard out.old
+            out.new) }
         ensures untouched { OnOk result (out.new ≡ out.old) }
     {
         if self.held.handle != rn {
@@ -108,8 +122,16 @@ impl TagWithHandle {
 
     /// The number under a cover, and the tag, which uses the cover up. Without a cover nothing changes, and there is no reply.
     pub fn uncover(self, covered: u16, out: &mut Bits) -> Result<(TagWithHandle, u16), Heard>
-        ensures ok { IfOk result (λ found. (found.0.level ≡ self.level) × (found.0.body ≡ self.body) × ((acts : Held → ℕ → Outcome) → uncover self.level self.held self.body covered self.held.cover acts ≡ acts found.0.held found.1)) }
-        ensures err { IfErr result (λ heard. (acts : Held → ℕ → Outcome) → GivesOutcome (uncover self.level self.held self.body covered self.held.cover acts) heard out.old out.new) }
+        ensures ok { IfOk result
+            (λ found. (found.0.level ≡ self.level) × (found.0.body ≡ self.body)
+            × ((acts : Held → ℕ → Outcome)
+            → uncover self.level self.held self.body covered self.held.cover acts
+            ≡ acts found.0.held found.1)) }
+        ensures err { IfErr result
+            (λ heard. (acts : Held → ℕ → Outcome)
+            → GivesOutcome
+            (uncover self.level self.held self.body covered self.held.cover acts) heard out.old
+            out.new) }
         ensures untouched { OnOk result (out.new ≡ out.old) }
     {
         let Some(cover) = self.held.cover else {
@@ -134,8 +156,15 @@ impl AnyTag {
         brought: Option<Password>,
         out: &mut Bits,
     ) -> Result<TagWithHandle, Heard>
-        ensures ok { IfOk result (λ tag. (acts : Level → Held → BodyValue → Outcome) → in_access rn brought acts (tag_value_of self).state (tag_value_of self).body ≡ acts tag.level tag.held tag.body) }
-        ensures err { IfErr result (λ heard. (acts : Level → Held → BodyValue → Outcome) → GivesOutcome (in_access rn brought acts (tag_value_of self).state (tag_value_of self).body) heard out.old out.new) }
+        ensures ok { IfOk result
+            (λ tag. (acts : Level → Held → BodyValue → Outcome)
+            → in_access rn brought acts (tag_value_of self).state (tag_value_of self).body
+            ≡ acts tag.level tag.held tag.body) }
+        ensures err { IfErr result
+            (λ heard. (acts : Level → Held → BodyValue → Outcome)
+            → GivesOutcome
+            (in_access rn brought acts (tag_value_of self).state (tag_value_of self).body) heard
+            out.old out.new) }
         ensures untouched { OnOk result (out.new ≡ out.old) }
     {
         match self {

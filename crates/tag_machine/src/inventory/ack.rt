@@ -18,7 +18,9 @@ use std::sync::ledger::Ledger;
 /// Answers an ACK: PC, EPC and CRC-16, with the preamble of the Query's TRext.
 fn answer_epc(tag: AnyTag, out: &mut Bits) -> Heard
     requires room { reply_room ≤ out.old.capacity }
-    ensures { GivesOutcome (plain_answer (tag_value_of tag).state (tag_value_of tag).body (epc_reply (tag_value_of tag).body) 0) result out.old out.new }
+    ensures { GivesOutcome
+        (plain_answer (tag_value_of tag).state (tag_value_of tag).body
+        (epc_reply (tag_value_of tag).body) 0) result out.old out.new }
 {
     let memory = tag.memory();
     encode_epc(memory.pc(), &memory.epc(), out);
@@ -33,7 +35,8 @@ impl AnyTag {
     #[inline(never)]
     pub(crate) fn ack(self, rn: u16, out: &mut Bits) -> Heard
         requires room { reply_room ≤ out.old.capacity }
-        ensures { GivesOutcome (ack rn (tag_value_of self).state (tag_value_of self).body) result out.old out.new }
+        ensures { GivesOutcome
+            (ack rn (tag_value_of self).state (tag_value_of self).body) result out.old out.new }
     {
         match self {
             AnyTag::InReply(Tag { state, body }) => {

@@ -16,7 +16,8 @@ impl AnyTag {
     /// NAK, in each state.
     #[inline(never)]
     pub(crate) fn nak(self, out: &mut Bits) -> Heard
-        ensures { GivesOutcome (nak (tag_value_of self).state (tag_value_of self).body) result out.old out.new }
+        ensures { GivesOutcome
+            (nak (tag_value_of self).state (tag_value_of self).body) result out.old out.new }
     {
         match self {
             AnyTag::InReply(Tag { state, body }) => go_back(body, state.session, state.q, out),

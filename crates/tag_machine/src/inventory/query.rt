@@ -46,7 +46,9 @@ impl AnyTag {
         out: &mut Bits,
     ) -> Heard
         requires room { reply_room ≤ out.old.capacity }
-        ensures { GivesOutcome (query sel session target q (tag_value_of self).state (tag_value_of self).body) result out.old out.new }
+        ensures { GivesOutcome
+            (query sel session target q (tag_value_of self).state (tag_value_of self).body) result
+            out.old out.new }
     {
         match self {
             AnyTag::Ready(Tag { state: _, body })
@@ -89,7 +91,8 @@ impl<S: Present> Tag<S> {
         steps: &mut Steps<L>,
     ) -> Heard
         requires room { reply_room ≤ out.old.capacity }
-        ensures step { GivesOutcome (query sel session target q self.state self.body) result out.old out.new }
+        ensures step { GivesOutcome
+            (query sel session target q self.state self.body) result out.old out.new }
         ensures counted { steps.new ≡ steps.old + 1 }
     {
         self.one_step(steps).query(sel, session, target, q, out)

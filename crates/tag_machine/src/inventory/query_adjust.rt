@@ -19,7 +19,9 @@ impl AnyTag {
     #[inline(always)]
     pub(crate) fn query_adjust(self, session: Session, updn: UpDn, out: &mut Bits) -> Heard
         requires room { reply_room ≤ out.old.capacity }
-        ensures { GivesOutcome (query_adjust session updn (tag_value_of self).state (tag_value_of self).body) result out.old out.new }
+        ensures { GivesOutcome
+            (query_adjust session updn (tag_value_of self).state (tag_value_of self).body) result
+            out.old out.new }
     {
         match self {
             AnyTag::Arbitrate(Tag { state, body }) => {
@@ -57,7 +59,8 @@ impl<S: InRound> Tag<S> {
         steps: &mut Steps<L>,
     ) -> Heard
         requires room { reply_room ≤ out.old.capacity }
-        ensures step { GivesOutcome (query_adjust session updn self.state self.body) result out.old out.new }
+        ensures step { GivesOutcome
+            (query_adjust session updn self.state self.body) result out.old out.new }
         ensures counted { steps.new ≡ steps.old + 1 }
     {
         self.one_step(steps).query_adjust(session, updn, out)

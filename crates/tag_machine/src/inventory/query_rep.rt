@@ -29,7 +29,9 @@ impl AnyTag {
     #[inline(always)]
     pub(crate) fn query_rep(self, session: Session, out: &mut Bits) -> Heard
         requires room { reply_room ≤ out.old.capacity }
-        ensures { GivesOutcome (query_rep session (tag_value_of self).state (tag_value_of self).body) result out.old out.new }
+        ensures { GivesOutcome
+            (query_rep session (tag_value_of self).state (tag_value_of self).body) result out.old
+            out.new }
     {
         match self {
             AnyTag::Arbitrate(Tag { state, body }) => {
@@ -92,7 +94,8 @@ impl<S: InRound> Tag<S> {
         steps: &mut Steps<L>,
     ) -> Heard
         requires room { reply_room ≤ out.old.capacity }
-        ensures step { GivesOutcome (query_rep session self.state self.body) result out.old out.new }
+        ensures step { GivesOutcome
+            (query_rep session self.state self.body) result out.old out.new }
         ensures counted { steps.new ≡ steps.old + 1 }
     {
         self.one_step(steps).query_rep(session, out)

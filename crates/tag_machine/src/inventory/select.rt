@@ -25,7 +25,8 @@ fn select_ready(
     mask: &Mask,
     out: &mut Bits,
 ) -> Heard
-    ensures { GivesOutcome (selected_ready target action bank pointer mask.now body) result out.old out.new }
+    ensures { GivesOutcome
+        (selected_ready target action bank pointer mask.now body) result out.old out.new }
 {
     body.select(target, action, bank, pointer, mask);
     unanswered(AnyTag::Ready(Tag { state: Ready, body }), out)
@@ -43,7 +44,9 @@ impl AnyTag {
         mask: &Mask,
         out: &mut Bits,
     ) -> Heard
-        ensures { GivesOutcome (select target action bank pointer mask.now (tag_value_of self).state (tag_value_of self).body) result out.old out.new }
+        ensures { GivesOutcome
+            (select target action bank pointer mask.now (tag_value_of self).state
+            (tag_value_of self).body) result out.old out.new }
     {
         match self {
             AnyTag::Ready(Tag { state: _, body })
@@ -80,7 +83,9 @@ impl<S: Present> Tag<S> {
         steps: &mut Steps<L>,
     ) -> Heard
         requires room { reply_room ≤ out.old.capacity }
-        ensures step { GivesOutcome (select target action bank pointer mask.now self.state self.body) result out.old out.new }
+        ensures step { GivesOutcome
+            (select target action bank pointer mask.now self.state self.body) result out.old
+            out.new }
         ensures counted { steps.new ≡ steps.old + 1 }
     {
         self.one_step(steps)

@@ -19,7 +19,8 @@ impl Tag<Arbitrate> {
 
     /// The slot counter.
     pub fn slot(&self) -> u16
-        ensures value { (session : ℕ) × (q : ℕ) × (self.now.state ≡ ArbitrateState session q result) }
+        ensures value { (session : ℕ) × (q : ℕ)
+            × (self.now.state ≡ ArbitrateState session q result) }
         ensures range { result < 2 ^ 15 }
     {
         self.state.slot.get()
@@ -28,7 +29,9 @@ impl Tag<Arbitrate> {
     /// Changes the slot counter, and nothing else.
     pub fn set_slot<L: Ledger>(&mut self, slot: u16, steps: &mut Steps<L>)
         requires { slot < 32768 }
-        ensures changed { (session : ℕ) × (q : ℕ) × (old : ℕ) × (self.old.state ≡ ArbitrateState session q old) × (self.new ≡ record self.old { state = ArbitrateState session q slot }) }
+        ensures changed { (session : ℕ) × (q : ℕ) × (old : ℕ)
+            × (self.old.state ≡ ArbitrateState session q old)
+            × (self.new ≡ record self.old { state = ArbitrateState session q slot }) }
         ensures counted { steps.new ≡ steps.old + 1 }
     {
         steps.tick();

@@ -2,7 +2,7 @@
 ghost use Rattle.std.specs.Prelude.{◌≡◌, ◌+◌, ◌-◌, ◌<◌, ◌≤◌, ◌↔◌, Ok, Err, IfOk, IfErr, OnOk, OnErr, true, [], ◌∷◌, length, replicate, slice_index};
 ghost use Rattle.reply_grammar.specs.Table.{AreWords};
 ghost use Rattle.tag_memory.specs.Memory.{AreSound, bank_of};
-ghost use Rattle.tag_memory.specs.Access.{field_at, may_read_word, may_write_word, all_words, open_end, words_read, with_words_at, banks_with_words_at, length_fits, banks_after_write, banks_after_erase};
+ghost use Rattle.tag_memory.specs.Access.{lock_field_at, may_read_word, may_write_word, all_words, open_end, words_read, with_words_at, banks_with_words_at, length_fits, banks_after_write, banks_after_erase};
 
 use super::{Memory, epc_fits, length_in_pc};
 use bit_strings::{Count1, Pointer};
@@ -23,7 +23,7 @@ fn erased_words(count: Count1) -> &'static [u16]
 
 /// The field whose pair of lock bits a word of a bank goes by.
 fn field_of_word(bank: Bank, place: usize) -> Field
-    ensures { result ≡ field_at bank place }
+    ensures { result ≡ lock_field_at bank place }
 {
     match bank {
         Bank::Reserved if place < 2 => Field::KillWord,
@@ -111,8 +111,10 @@ impl Memory {
         level: Level,
         locks: &Locks,
     ) -> Result<&[u16], ErrorCode>
-        ensures ok { IfOk result (λ words. words_read self.now locks.now level bank pointer count ≡ Ok words.now) }
-        ensures err { IfErr result (λ code. words_read self.now locks.now level bank pointer count ≡ Err code) }
+        ensures ok { IfOk result
+            (λ words. words_read self.now locks.now level bank pointer count ≡ Ok words.now) }
+        ensures err { IfErr result
+            (λ code. words_read self.now locks.now level bank pointer count ≡ Err code) }
         ensures some { IfOk result (λ words. 1 ≤ length words.now) }
         ensures few { IfOk result (λ words. length words.now ≤ 512) }
     {
@@ -146,8 +148,10 @@ impl Memory {
         locks: &Locks,
         out: &mut ReadWords,
     ) -> Result<(), ErrorCode>
-        ensures ok { OnOk result (words_read self.now locks.now level bank pointer count ≡ Ok out.new) }
-        ensures err { IfErr result (λ code. words_read self.now locks.now level bank pointer count ≡ Err code) }
+        ensures ok { OnOk result
+            (words_read self.now locks.now level bank pointer count ≡ Ok out.new) }
+        ensures err { IfErr result
+            (λ code. words_read self.now locks.now level bank pointer count ≡ Err code) }
         ensures some { OnOk result (1 ≤ length out.new) }
         ensures empty { OnErr result (out.new ≡ []) }
     {
@@ -194,8 +198,11 @@ impl Memory {
         locks: &Locks,
     ) -> Result<(), ErrorCode>
         requires { length words.now ≤ 255 }
-        ensures ok { OnOk result (banks_after_write self.old locks.now level bank pointer words.now ≡ Ok self.new) }
-        ensures err { IfErr result (λ code. (banks_after_write self.old locks.now level bank pointer words.now ≡ Err code) × (self.new ≡ self.old)) }
+        ensures ok { OnOk result
+            (banks_after_write self.old locks.now level bank pointer words.now ≡ Ok self.new) }
+        ensures err { IfErr result
+            (λ code. (banks_after_write self.old locks.now level bank pointer words.now ≡ Err code)
+            × (self.new ≡ self.old)) }
         ensures sound { AreSound self.new }
     {
         let from = pointer.get() as usize;
@@ -222,8 +229,11 @@ impl Memory {
         level: Level,
         locks: &Locks,
     ) -> Result<(), ErrorCode>
-        ensures ok { OnOk result (banks_after_write self.old locks.now level bank pointer (word ∷ []) ≡ Ok self.new) }
-        ensures err { IfErr result (λ code. (banks_after_write self.old locks.now level bank pointer (word ∷ []) ≡ Err code) × (self.new ≡ self.old)) }
+        ensures ok { OnOk result
+            (banks_after_write self.old locks.now level bank pointer (word ∷ []) ≡ Ok self.new) }
+        ensures err { IfErr result
+            (λ code. (banks_after_write self.old locks.now level bank pointer (word ∷ [])
+            ≡ Err code) × (self.new ≡ self.old)) }
         ensures sound { AreSound self.new }
     {
         self.change(bank, pointer, &[word], level, locks)
@@ -239,8 +249,11 @@ impl Memory {
         level: Level,
         locks: &Locks,
     ) -> Result<(), ErrorCode>
-        ensures ok { OnOk result (banks_after_write self.old locks.now level bank pointer words.now ≡ Ok self.new) }
-        ensures err { IfErr result (λ code. (banks_after_write self.old locks.now level bank pointer words.now ≡ Err code) × (self.new ≡ self.old)) }
+        ensures ok { OnOk result
+            (banks_after_write self.old locks.now level bank pointer words.now ≡ Ok self.new) }
+        ensures err { IfErr result
+            (λ code. (banks_after_write self.old locks.now level bank pointer words.now ≡ Err code)
+            × (self.new ≡ self.old)) }
         ensures sound { AreSound self.new }
     {
         self.change(bank, pointer, words.as_slice(), level, locks)
@@ -256,8 +269,11 @@ impl Memory {
         level: Level,
         locks: &Locks,
     ) -> Result<(), ErrorCode>
-        ensures ok { OnOk result (banks_after_erase self.old locks.now level bank pointer count ≡ Ok self.new) }
-        ensures err { IfErr result (λ code. (banks_after_erase self.old locks.now level bank pointer count ≡ Err code) × (self.new ≡ self.old)) }
+        ensures ok { OnOk result
+            (banks_after_erase self.old locks.now level bank pointer count ≡ Ok self.new) }
+        ensures err { IfErr result
+            (λ code. (banks_after_erase self.old locks.now level bank pointer count ≡ Err code)
+            × (self.new ≡ self.old)) }
         ensures sound { AreSound self.new }
     {
         self.change(bank, pointer, erased_words(count), level, locks)

@@ -1,7 +1,7 @@
 -- Profile: what `audit` writes for the bytes that it reads: a scenario and behind it a trace. The whole input is read before anything is
 -- written.
 use Rattle.std.specs.Prelude.{◌≡◌, ◌⊎◌, ℕ, true, List}
-use Rattle.air_audit.specs.FirstRefusal.{IsVerdict}
+use Rattle.air_audit.specs.FirstRefusal.{IsAuditVerdict}
 use Rattle.air_audit.specs.OwnTraces.{HasNoEventStep}
 use Rattle.air_audit.specs.ReceivedLists.{ListsWhatIsReceived}
 use Rattle.air_audit.specs.TraceBehind.{scenario_part, trace_part}
@@ -19,7 +19,7 @@ use Rattle.top_call.specs.words.Reported.{RefusesScenario}
 pub record SaysVerdict (scenario : Scenario) (trace text : List ℕ) : Type 0 where
   pub told : HasNoEventStep scenario.steps
   pub verdict : Verdict
-  pub right : IsVerdict (start_of scenario) trace verdict
+  pub right : IsAuditVerdict (start_of scenario) trace verdict
   pub line : text ≡ verdict_line verdict
 
 -- no trace tells of an event between two exchanges

@@ -3,7 +3,7 @@ use Rattle.std.specs.Prelude.{ℕ, true, List}
 use Rattle.checked_lines.specs.TextRules.{IsFaultText}
 use Rattle.scenario_lines.specs.declared.tag.TagSpec.{TagSpec}
 use Rattle.probe_lines.specs.Said.{Stimulus}
-use Rattle.probe_lines.specs.Answers.{Tells, tag_of}
+use Rattle.probe_lines.specs.Answers.{TellsEffects, probed_tag}
 use Rattle.probe_lines.specs.ProbeText.{IsProbe, IsProbeText, probe_rules}
 use Rattle.top_call.specs.Job.{Job}
 
@@ -12,7 +12,7 @@ pub record TellsProbe (bytes text : List ℕ) : Type 0 where
   pub tag : TagSpec
   pub said : List Stimulus
   pub is : IsProbe bytes tag said
-  pub tells : Tells (tag_of tag) said text
+  pub tells : TellsEffects (probed_tag tag) said text
 
 -- the text is the fault line of bytes that are no probe
 abbrev pub RefusesProbe : (bytes text : List ℕ) → Type 0

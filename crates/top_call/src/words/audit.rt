@@ -25,7 +25,8 @@ use std::alloc::Global;
 
 /// Reads the input to its end, and writes what is defined for it. The whole input is read before anything is written.
 pub fn answer<I: Source, O: Sink>(alloc: Global, input: &mut I, output: &mut O) -> Status
-    ensures { Tells audit_job (source_change I.left I.faults input.old input.new) (sink_change O.written O.faults output.old output.new) (output.new ≡ output.old) result }
+    ensures { Tells audit_job (source_change I.left I.faults input.old input.new)
+        (sink_change O.written O.faults output.old output.new) (output.new ≡ output.old) result }
 {
     match read_to_end(alloc, input, MOST_INPUT_BYTES) {
         Ok(bytes) => status_of(write_audited(alloc, bytes.as_slice(), output)),
@@ -37,7 +38,8 @@ pub fn answer<I: Source, O: Sink>(alloc: Global, input: &mut I, output: &mut O) 
 /// the first faulty line of the scenario.
 fn write_audited<O: Sink>(alloc: Global, input: &[u8], output: &mut O) -> Result<Wrote, WriteEnd>
     requires { length input.now ≤ input_limit }
-    ensures { EndsSo audit_job input.now (sink_change O.written O.faults output.old output.new) result }
+    ensures { EndsSo audit_job input.now
+        (sink_change O.written O.faults output.old output.new) result }
 {
     let (text, trace) = split_scenario(input);
     match read_scenario(alloc, text) {
@@ -63,7 +65,8 @@ fn audited_line(
 ) -> Result<ArrayVec<u8, 32>, OutOfMemory>
     requires scenario { IsScenario scenario }
     requires trace { length trace.now ≤ input_limit }
-    ensures { IfOk result (λ line. SaysEvent scenario line.items ⊎ SaysVerdict scenario trace.now line.items) }
+    ensures { IfOk result (λ line. SaysEvent scenario line.items
+        ⊎ SaysVerdict scenario trace.now line.items) }
 {
     if has_event_step(scenario.steps.as_slice()) {
         return Ok(event_text());

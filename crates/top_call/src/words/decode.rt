@@ -17,7 +17,8 @@ use std::alloc::Global;
 /// Answers the lines of the input as they come, and then writes what is defined for it. Nothing is written
 /// before the input is read to its end.
 pub fn answer<I: Source, O: Sink>(alloc: Global, input: &mut I, output: &mut O) -> Status
-    ensures { Tells decode_job (source_change I.left I.faults input.old input.new) (sink_change O.written O.faults output.old output.new) (output.new ≡ output.old) result }
+    ensures { Tells decode_job (source_change I.left I.faults input.old input.new)
+        (sink_change O.written O.faults output.old output.new) (output.new ≡ output.old) result }
 {
     match answer_source(alloc, input, MOST_INPUT_BYTES) {
         Ok(answered) => status_of(write_answered(&answered, output)),
@@ -30,7 +31,8 @@ fn write_answered<O: Sink>(
     answered: &Result<String, FaultyLine>,
     output: &mut O,
 ) -> Result<Wrote, WriteEnd>
-    ensures { (input : List ℕ) → IfOk answered.now (λ text. Decodes input (string_bytes text)) → IfErr answered.now (IsFirstFault input)
+    ensures { (input : List ℕ) → IfOk answered.now (λ text. Decodes input (string_bytes text))
+        → IfErr answered.now (IsFirstFault input)
         → EndsSo decode_job input (sink_change O.written O.faults output.old output.new) result }
 {
     match answered {

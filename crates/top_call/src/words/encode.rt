@@ -6,7 +6,7 @@ ghost use Rattle.encode_lines.specs.Request.{AsksForRequest};
 ghost use Rattle.encode_lines.specs.declared.request.Request.{Request};
 ghost use Rattle.top_call.specs.Job.{IsLawful};
 ghost use Rattle.top_call.specs.Outcome.{input_limit, AddsWhole, AddsFront, EndsSo, Tells, source_change, sink_change};
-ghost use Rattle.top_call.specs.UnwrittenBytes.{Sends, Loses};
+ghost use Rattle.top_call.specs.UnwrittenBytes.{WritesWaiting, Loses};
 ghost use Rattle.top_call.specs.words.Encoded.{encode_job};
 
 use crate::ending::{MOST_INPUT_BYTES, WriteEnd, Wrote, status_of, unread_status};
@@ -24,7 +24,8 @@ use text_fields::split_line;
 /// Reads the input to its end, and writes what is defined for it. The whole input is checked before a line is written;
 /// then each line is written as it is made.
 pub fn answer<I: Source, O: Sink>(alloc: Global, input: &mut I, output: &mut O) -> Status
-    ensures { Tells encode_job (source_change I.left I.faults input.old input.new) (sink_change O.written O.faults output.old output.new) (output.new ≡ output.old) result }
+    ensures { Tells encode_job (source_change I.left I.faults input.old input.new)
+        (sink_change O.written O.faults output.old output.new) (output.new ≡ output.old) result }
 {
     match read_to_end(alloc, input, MOST_INPUT_BYTES) {
         Ok(bytes) => status_of(write_encoded(alloc, bytes.as_slice(), output)),
@@ -36,7 +37,8 @@ pub fn answer<I: Source, O: Sink>(alloc: Global, input: &mut I, output: &mut O) 
 /// faulty line.
 fn write_encoded<O: Sink>(alloc: Global, input: &[u8], output: &mut O) -> Result<Wrote, WriteEnd>
     requires { length input.now ≤ input_limit }
-    ensures { EndsSo encode_job input.now (sink_change O.written O.faults output.old output.new) result }
+    ensures { EndsSo encode_job input.now
+        (sink_change O.written O.faults output.old output.new) result }
 {
     match check_lines(input) {
         Ok(()) => {
@@ -54,11 +56,15 @@ fn write_encoded<O: Sink>(alloc: Global, input: &[u8], output: &mut O) -> Result
 /// Writes a line for each line of an input.
 fn write_lines<O: Sink>(alloc: Global, input: &[u8], output: &mut O) -> Result<(), WriteEnd>
     requires { IsGrammatical input.now }
-    ensures ok { OnOk result (AddsWhole (Encodes input.now) (O.written output.old) (O.written output.new)) }
-    ensures failed { IsErrOf result WriteEnd.Fault → FaultsRose (O.faults output.old) (O.faults output.new) }
-    ensures memory { IsErrOf result WriteEnd.OutOfMemory → O.faults output.new ≡ O.faults output.old }
+    ensures ok { OnOk result
+        (AddsWhole (Encodes input.now) (O.written output.old) (O.written output.new)) }
+    ensures failed { IsErrOf result WriteEnd.Fault
+        → FaultsRose (O.faults output.old) (O.faults output.new) }
+    ensures memory { IsErrOf result WriteEnd.OutOfMemory
+        → O.faults output.new ≡ O.faults output.old }
     ensures steady { OnOk result (O.faults output.new ≡ O.faults output.old) }
-    ensures front { OnErr result (AddsFront (Encodes input.now) (O.written output.old) (O.written output.new)) }
+    ensures front { OnErr result
+        (AddsFront (Encodes input.now) (O.written output.old) (O.written output.new)) }
 {
     // By this law a line is written for each line that is left, so that there is a whole text.
     requests_have_a_line();
@@ -84,9 +90,12 @@ fn put_encoded<O: Sink>(
 ) -> Result<(), WriteEnd>
     requires { (request : Request) × AsksForRequest line.now request }
     ensures sent { OnOk result ((written : List ℕ) × EncodesLine line.now [] written
-        × Sends (page.old ++ written) page.new (O.written output.old) (O.written output.new)) }
-    ensures failed { IsErrOf result WriteEnd.Fault → FaultsRose (O.faults output.old) (O.faults output.new) }
-    ensures memory { IsErrOf result WriteEnd.OutOfMemory → O.faults output.new ≡ O.faults output.old }
+        × WritesWaiting (page.old ++ written) page.new (O.written output.old)
+        (O.written output.new)) }
+    ensures failed { IsErrOf result WriteEnd.Fault
+        → FaultsRose (O.faults output.old) (O.faults output.new) }
+    ensures memory { IsErrOf result WriteEnd.OutOfMemory
+        → O.faults output.new ≡ O.faults output.old }
     ensures steady { OnOk result (O.faults output.new ≡ O.faults output.old) }
     ensures lost { OnErr result ((written : List ℕ) × EncodesLine line.now [] written
         × Loses (page.old ++ written) (O.written output.old) (O.written output.new)) }

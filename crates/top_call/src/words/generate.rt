@@ -27,7 +27,8 @@ pub fn answer<I: Source, O: Sink>(
     output: &mut O,
 ) -> Status
     requires { tags ≤ most_made_tags }
-    ensures tells { Tells (gen_job seed tags) (source_change I.left I.faults _input.old _input.new) (sink_change O.written O.faults output.old output.new) (output.new ≡ output.old) result }
+    ensures tells { Tells (gen_job seed tags) (source_change I.left I.faults _input.old _input.new)
+        (sink_change O.written O.faults output.old output.new) (output.new ≡ output.old) result }
     ensures unread { (_input.new ≡ _input.old) × SpeaksOfNoInput result }
 {
     status_of(write_summary(alloc, seed, tags, output))
@@ -41,7 +42,8 @@ fn write_summary<O: Sink>(
     output: &mut O,
 ) -> Result<Wrote, WriteEnd>
     requires { tags ≤ most_made_tags }
-    ensures { EndsSo (gen_job seed tags) [] (sink_change O.written O.faults output.old output.new) result }
+    ensures { EndsSo (gen_job seed tags) []
+        (sink_change O.written O.faults output.old output.new) result }
 {
     let scenario = made_scenario(alloc, seed, tags)?;
     let summary = summarise(alloc, &scenario)?;
@@ -67,7 +69,8 @@ fn summary_text(summary: &Summary) -> ArrayVec<u8, 144>
 /// Adds the line of a count to a text that has room for it.
 fn push_count<const N: usize>(text: &mut ArrayVec<u8, N>, name: &[u8], count: u64)
     requires { length text.old.items + length name.now + 21 ≤ N }
-    ensures bytes { text.new.items ≡ text.old.items ++ (name.now ++ decimal count ++ line_feed ∷ []) }
+    ensures bytes { text.new.items ≡ text.old.items
+        ++ (name.now ++ decimal count ++ line_feed ∷ []) }
     ensures count { length text.new.items ≤ length text.old.items + length name.now + 21 }
 {
     let mut digits = Buffer::new();

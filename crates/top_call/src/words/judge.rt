@@ -16,7 +16,8 @@ use std::alloc::Global;
 
 /// Reads the input to its end, and writes what is defined for it. The whole input is read before anything is written.
 pub fn answer<I: Source, O: Sink>(alloc: Global, input: &mut I, output: &mut O) -> Status
-    ensures { Tells judge_job (source_change I.left I.faults input.old input.new) (sink_change O.written O.faults output.old output.new) (output.new ≡ output.old) result }
+    ensures { Tells judge_job (source_change I.left I.faults input.old input.new)
+        (sink_change O.written O.faults output.old output.new) (output.new ≡ output.old) result }
 {
     match read_to_end(alloc, input, MOST_INPUT_BYTES) {
         Ok(bytes) => status_of(write_judged(alloc, bytes.as_slice(), output)),
@@ -27,7 +28,8 @@ pub fn answer<I: Source, O: Sink>(alloc: Global, input: &mut I, output: &mut O) 
 /// Writes what is defined for the bytes of an input: what is judged of the log that they say, or the one line that reports the first faulty
 /// line.
 fn write_judged<O: Sink>(alloc: Global, input: &[u8], output: &mut O) -> Result<Wrote, WriteEnd>
-    ensures { EndsSo judge_job input.now (sink_change O.written O.faults output.old output.new) result }
+    ensures { EndsSo judge_job input.now
+        (sink_change O.written O.faults output.old output.new) result }
 {
     match judge_log(alloc, input) {
         Ok(verdict) => {

@@ -7,7 +7,7 @@ ghost use Rattle.sgtin_text.specs.SgtinText.{name_line};
 ghost use Rattle.top_call.specs.Job.{Defines, IsLawful};
 ghost use Rattle.top_call.specs.words.Named.{IsOfLines, AddsNames, IsCutAt, names_job};
 ghost use Rattle.top_call.specs.Outcome.{input_limit, AddsWhole, AddsFront, EndsSo, Tells, source_change, sink_change};
-ghost use Rattle.top_call.specs.UnwrittenBytes.{Sends, Loses};
+ghost use Rattle.top_call.specs.UnwrittenBytes.{WritesWaiting, Loses};
 
 use crate::ending::{MOST_INPUT_BYTES, WriteEnd, Wrote, status_of, unread_status};
 use crate::status::Status;
@@ -22,7 +22,8 @@ use text_fields::{fault_line, push_bytes, split_line};
 /// Reads the input to its end, and writes what is defined for it. The whole input is checked before a line is
 /// written.
 pub fn answer<I: Source, O: Sink>(alloc: Global, input: &mut I, output: &mut O) -> Status
-    ensures tells { Tells names_job (source_change I.left I.faults input.old input.new) (sink_change O.written O.faults output.old output.new) (output.new ≡ output.old) result }
+    ensures tells { Tells names_job (source_change I.left I.faults input.old input.new)
+        (sink_change O.written O.faults output.old output.new) (output.new ≡ output.old) result }
     ensures memory { result ≡ Status.OutOfMemory → output.new ≡ output.old }
 {
     match read_to_end(alloc, input, MOST_INPUT_BYTES) {
@@ -35,7 +36,8 @@ pub fn answer<I: Source, O: Sink>(alloc: Global, input: &mut I, output: &mut O) 
 /// reports that the last line has no line feed. It takes no memory.
 fn write_with_names<O: Sink>(input: &[u8], output: &mut O) -> Result<Wrote, WriteEnd>
     requires { length input.now ≤ input_limit }
-    ensures ends { EndsSo names_job input.now (sink_change O.written O.faults output.old output.new) result }
+    ensures ends { EndsSo names_job input.now
+        (sink_change O.written O.faults output.old output.new) result }
     ensures memory { result ≢ Err WriteEnd.OutOfMemory }
 {
     match cut_line(input) {
@@ -69,10 +71,12 @@ fn cut_line(input: &[u8]) -> Option<u32>
 /// Writes the lines of an input, each with its name behind it.
 fn write_named<O: Sink>(input: &[u8], output: &mut O) -> Result<(), WriteFailed>
     requires { IsOfLines input.now }
-    ensures ok { OnOk result (AddsWhole (AddsNames input.now) (O.written output.old) (O.written output.new)) }
+    ensures ok { OnOk result
+        (AddsWhole (AddsNames input.now) (O.written output.old) (O.written output.new)) }
     ensures failed { OnErr result (FaultsRose (O.faults output.old) (O.faults output.new)) }
     ensures steady { OnOk result (O.faults output.new ≡ O.faults output.old) }
-    ensures front { OnErr result (AddsFront (AddsNames input.now) (O.written output.old) (O.written output.new)) }
+    ensures front { OnErr result
+        (AddsFront (AddsNames input.now) (O.written output.old) (O.written output.new)) }
 {
     // By this law each line that is left has a name or has none, so that there is a whole text.
     lines_have_names();
@@ -88,7 +92,8 @@ fn write_named<O: Sink>(input: &[u8], output: &mut O) -> Result<(), WriteFailed>
 /// Lets a line wait on the page, and its name behind it.
 fn put_named<O: Sink>(line: &[u8], page: &mut Page, output: &mut O) -> Result<(), WriteFailed>
     ensures sent { OnOk result ((lines : List (List ℕ)) × BecomesLines line.now lines
-        × Sends (page.old ++ text_with lines) page.new (O.written output.old) (O.written output.new)) }
+        × WritesWaiting (page.old ++ text_with lines) page.new (O.written output.old)
+        (O.written output.new)) }
     ensures failed { OnErr result (FaultsRose (O.faults output.old) (O.faults output.new)) }
     ensures lost { OnErr result ((lines : List (List ℕ)) × BecomesLines line.now lines
         × Loses (page.old ++ text_with lines) (O.written output.old) (O.written output.new)) }

@@ -24,7 +24,8 @@ pub fn answer<I: Source, O: Sink>(
     input: &mut I,
     output: &mut O,
 ) -> Status
-    ensures { Tells (objects_job set) (source_change I.left I.faults input.old input.new) (sink_change O.written O.faults output.old output.new) (output.new ≡ output.old) result }
+    ensures { Tells (objects_job set) (source_change I.left I.faults input.old input.new)
+        (sink_change O.written O.faults output.old output.new) (output.new ≡ output.old) result }
 {
     let mut plain = PlainText::new(alloc);
     match answer_plain(alloc, set, input, &mut plain) {
@@ -43,7 +44,8 @@ fn answer_plain<I: Source, O: Sink>(
     input: &mut I,
     output: &mut O,
 ) -> Status
-    ensures { Tells (plain_job set) (source_change I.left I.faults input.old input.new) (sink_change O.written O.faults output.old output.new) (output.new ≡ output.old) result }
+    ensures { Tells (plain_job set) (source_change I.left I.faults input.old input.new)
+        (sink_change O.written O.faults output.old output.new) (output.new ≡ output.old) result }
 {
     match set {
         LineSet::Decode => decode::answer(alloc, input, output),
@@ -62,7 +64,8 @@ fn write_objects<O: Sink>(
     output: &mut O,
 ) -> Result<Wrote, WriteEnd>
     ensures { (bytes : List ℕ) → (plain_job set).writes bytes plain.now
-        → EndsSo (objects_job set) bytes (sink_change O.written O.faults output.old output.new) result }
+        → EndsSo (objects_job set) bytes
+        (sink_change O.written O.faults output.old output.new) result }
 {
     let text = objects_of(alloc, set, plain)?;
     write_all(output, text.as_slice())?;
@@ -72,7 +75,8 @@ fn write_objects<O: Sink>(
 /// Writes a fault line.
 fn write_fault<O: Sink>(line: &[u8], output: &mut O) -> Result<Wrote, WriteEnd>
     ensures { (set : LineSet) (bytes : List ℕ) → (plain_job set).refuses bytes line.now
-        → EndsSo (objects_job set) bytes (sink_change O.written O.faults output.old output.new) result }
+        → EndsSo (objects_job set) bytes
+        (sink_change O.written O.faults output.old output.new) result }
 {
     write_all(output, line)?;
     Ok(Wrote::FaultLine)
@@ -82,7 +86,8 @@ fn write_fault<O: Sink>(line: &[u8], output: &mut O) -> Result<Wrote, WriteEnd>
 /// for it.
 pub fn objects_are_lawful()
     ensures lawful { (set : LineSet) → IsLawful (objects_job set) }
-    ensures defined { (set : LineSet) (bytes plain : List ℕ) → Defines (plain_job set) bytes plain → (text : List ℕ) × Defines (objects_job set) bytes text }
+    ensures defined { (set : LineSet) (bytes plain : List ℕ) → Defines (plain_job set) bytes plain
+        → (text : List ℕ) × Defines (objects_job set) bytes text }
 {
     texts_have_objects();
     decode_is_lawful();

@@ -25,7 +25,8 @@ pub fn answer<I: Source, O: Sink>(text: &[u8], _input: &mut I, output: &mut O) -
 
 /// Writes the text.
 fn write_text<O: Sink>(text: &[u8], output: &mut O) -> Result<Wrote, WriteEnd>
-    ensures { EndsSo (text_job text.now) [] (sink_change O.written O.faults output.old output.new) result }
+    ensures { EndsSo (text_job text.now) []
+        (sink_change O.written O.faults output.old output.new) result }
 {
     write_all(output, text)?;
     Ok(Wrote::Text)

@@ -1,7 +1,7 @@
 //! A page of output: bytes that wait until they are written together.
 ghost use Rattle.std.specs.Prelude.{◌≡◌, ◌+◌, ◌≤◌, [], ◌++◌, length, OnOk, OnErr};
 ghost use Rattle.air_io.specs.Flow.{FaultsRose};
-ghost use Rattle.top_call.specs.UnwrittenBytes.{Sends, Loses};
+ghost use Rattle.top_call.specs.UnwrittenBytes.{WritesWaiting, Loses};
 
 use air_io::{Sink, WriteFailed, write_all};
 use arrayvec::ArrayVec;
@@ -59,7 +59,8 @@ impl Page {
     ///
     /// A write failed. A front of the bytes was written.
     pub fn flush<O: Sink>(&mut self, output: &mut O) -> Result<(), WriteFailed>
-        ensures sent { OnOk result (Sends self.old [] (O.written output.old) (O.written output.new)) }
+        ensures sent { OnOk result
+            (WritesWaiting self.old [] (O.written output.old) (O.written output.new)) }
         ensures empty { OnOk result (self.new ≡ []) }
         ensures failed { OnErr result (FaultsRose (O.faults output.old) (O.faults output.new)) }
         ensures lost { OnErr result (Loses self.old (O.written output.old) (O.written output.new)) }
@@ -77,9 +78,12 @@ impl Page {
     ///
     /// A write failed. A front of the bytes that waited and of the piece was written.
     pub fn put<O: Sink>(&mut self, piece: &[u8], output: &mut O) -> Result<(), WriteFailed>
-        ensures sent { OnOk result (Sends (self.old ++ piece.now) self.new (O.written output.old) (O.written output.new)) }
+        ensures sent { OnOk result
+            (WritesWaiting (self.old ++ piece.now) self.new (O.written output.old)
+            (O.written output.new)) }
         ensures failed { OnErr result (FaultsRose (O.faults output.old) (O.faults output.new)) }
-        ensures lost { OnErr result (Loses (self.old ++ piece.now) (O.written output.old) (O.written output.new)) }
+        ensures lost { OnErr result
+            (Loses (self.old ++ piece.now) (O.written output.old) (O.written output.new)) }
         ensures steady { OnOk result (O.faults output.new ≡ O.faults output.old) }
         ensures count { O.faults output.old ≤ O.faults output.new }
     {
@@ -106,9 +110,13 @@ impl Page {
         second: &[u8],
         output: &mut O,
     ) -> Result<(), WriteFailed>
-        ensures sent { OnOk result (Sends (self.old ++ (first.now ++ second.now)) self.new (O.written output.old) (O.written output.new)) }
+        ensures sent { OnOk result
+            (WritesWaiting (self.old ++ (first.now ++ second.now)) self.new (O.written output.old)
+            (O.written output.new)) }
         ensures failed { OnErr result (FaultsRose (O.faults output.old) (O.faults output.new)) }
-        ensures lost { OnErr result (Loses (self.old ++ (first.now ++ second.now)) (O.written output.old) (O.written output.new)) }
+        ensures lost { OnErr result
+            (Loses (self.old ++ (first.now ++ second.now)) (O.written output.old)
+            (O.written output.new)) }
         ensures steady { OnOk result (O.faults output.new ≡ O.faults output.old) }
         ensures count { O.faults output.old ≤ O.faults output.new }
     {

@@ -25,7 +25,8 @@ use text_fields::fault_line;
 
 /// Reads the input to its end, and writes what is defined for it.
 pub fn answer<I: Source, O: Sink>(alloc: Global, input: &mut I, output: &mut O) -> Status
-    ensures { Tells portals_job (source_change I.left I.faults input.old input.new) (sink_change O.written O.faults output.old output.new) (output.new ≡ output.old) result }
+    ensures { Tells portals_job (source_change I.left I.faults input.old input.new)
+        (sink_change O.written O.faults output.old output.new) (output.new ≡ output.old) result }
 {
     match read_to_end(alloc, input, MOST_INPUT_BYTES) {
         Ok(bytes) => status_of(write_portals(alloc, bytes.as_slice(), output)),
@@ -36,7 +37,8 @@ pub fn answer<I: Source, O: Sink>(alloc: Global, input: &mut I, output: &mut O) 
 /// Writes what is defined for the bytes of an input: the lines of the two portals of the scenario that they spell, or the
 /// one line that reports the first faulty line.
 fn write_portals<O: Sink>(alloc: Global, input: &[u8], output: &mut O) -> Result<Wrote, WriteEnd>
-    ensures { EndsSo portals_job input.now (sink_change O.written O.faults output.old output.new) result }
+    ensures { EndsSo portals_job input.now
+        (sink_change O.written O.faults output.old output.new) result }
 {
     match read_scenario(alloc, input) {
         Ok(scenario) => match portal_fault(&scenario) {

@@ -15,7 +15,8 @@ use std::alloc::Global;
 
 /// Reads the input to its end, and writes what is defined for it. The whole input is checked before a line is written.
 pub fn answer<I: Source, O: Sink>(alloc: Global, input: &mut I, output: &mut O) -> Status
-    ensures { Tells probe_job (source_change I.left I.faults input.old input.new) (sink_change O.written O.faults output.old output.new) (output.new ≡ output.old) result }
+    ensures { Tells probe_job (source_change I.left I.faults input.old input.new)
+        (sink_change O.written O.faults output.old output.new) (output.new ≡ output.old) result }
 {
     match read_to_end(alloc, input, MOST_INPUT_BYTES) {
         Ok(bytes) => status_of(write_probed(alloc, bytes.as_slice(), output)),
@@ -26,7 +27,8 @@ pub fn answer<I: Source, O: Sink>(alloc: Global, input: &mut I, output: &mut O) 
 /// Writes what is defined for the bytes of an input: what comes of what they say, line by line, or the one line that reports the first
 /// faulty line.
 fn write_probed<O: Sink>(alloc: Global, input: &[u8], output: &mut O) -> Result<Wrote, WriteEnd>
-    ensures { EndsSo probe_job input.now (sink_change O.written O.faults output.old output.new) result }
+    ensures { EndsSo probe_job input.now
+        (sink_change O.written O.faults output.old output.new) result }
 {
     match read_probe(input) {
         Ok(probe) => {

@@ -30,7 +30,8 @@ pub fn answer<I: Source, O: Sink>(
     input: &mut I,
     output: &mut O,
 ) -> Status
-    ensures { Tells (run_job mode) (source_change I.left I.faults input.old input.new) (sink_change O.written O.faults output.old output.new) (output.new ≡ output.old) result }
+    ensures { Tells (run_job mode) (source_change I.left I.faults input.old input.new)
+        (sink_change O.written O.faults output.old output.new) (output.new ≡ output.old) result }
 {
     match read_to_end(alloc, input, MOST_INPUT_BYTES) {
         Ok(bytes) => status_of(write_report(alloc, mode, bytes.as_slice(), output)),
@@ -46,7 +47,8 @@ fn write_report<O: Sink>(
     input: &[u8],
     output: &mut O,
 ) -> Result<Wrote, WriteEnd>
-    ensures { EndsSo (run_job mode) input.now (sink_change O.written O.faults output.old output.new) result }
+    ensures { EndsSo (run_job mode) input.now
+        (sink_change O.written O.faults output.old output.new) result }
 {
     match read_scenario(alloc, input) {
         Ok(scenario) => {
@@ -73,11 +75,16 @@ fn play_on<O: Sink>(
 ) -> Result<(), PlayFault>
     requires scenario { IsScenario scenario.now }
     requires fresh { air ≡ new_air (start_of scenario.now) }
-    ensures report { OnOk result (Adds (O.written output.old) (O.written output.new) (report_text_of mode scenario.now)) }
-    ensures write { IsErrOf result PlayFault.Write → FaultsRose (O.faults output.old) (O.faults output.new) }
-    ensures memory { IsErrOf result PlayFault.OutOfMemory → O.faults output.new ≡ O.faults output.old }
+    ensures report { OnOk result
+        (Adds (O.written output.old) (O.written output.new) (report_text_of mode scenario.now)) }
+    ensures write { IsErrOf result PlayFault.Write
+        → FaultsRose (O.faults output.old) (O.faults output.new) }
+    ensures memory { IsErrOf result PlayFault.OutOfMemory
+        → O.faults output.new ≡ O.faults output.old }
     ensures steady { OnOk result (O.faults output.new ≡ O.faults output.old) }
-    ensures part { OnErr result ((front : List ℕ) × (rest : List ℕ) × (report_text_of mode scenario.now ≡ front ++ rest) × Adds (O.written output.old) (O.written output.new) front) }
+    ensures part { OnErr result
+        ((front : List ℕ) × (rest : List ℕ) × (report_text_of mode scenario.now ≡ front ++ rest)
+        × Adds (O.written output.old) (O.written output.new) front) }
 {
     let mut air = air;
     play(alloc, scenario, &mut air, mode, output)

@@ -17,7 +17,8 @@ use std::alloc::Global;
 
 /// Reads the input to its end, and writes what is defined for it.
 pub fn answer<I: Source, O: Sink>(alloc: Global, input: &mut I, output: &mut O) -> Status
-    ensures { Tells upgrade_job (source_change I.left I.faults input.old input.new) (sink_change O.written O.faults output.old output.new) (output.new ≡ output.old) result }
+    ensures { Tells upgrade_job (source_change I.left I.faults input.old input.new)
+        (sink_change O.written O.faults output.old output.new) (output.new ≡ output.old) result }
 {
     match read_to_end(alloc, input, MOST_INPUT_BYTES) {
         Ok(bytes) => status_of(write_upgraded(alloc, bytes.as_slice(), output)),
@@ -28,7 +29,8 @@ pub fn answer<I: Source, O: Sink>(alloc: Global, input: &mut I, output: &mut O) 
 /// Writes what is defined for the bytes of an input: the text of version 2 of the scenario that they spell, or the one
 /// line that reports the first faulty line.
 fn write_upgraded<O: Sink>(alloc: Global, input: &[u8], output: &mut O) -> Result<Wrote, WriteEnd>
-    ensures { EndsSo upgrade_job input.now (sink_change O.written O.faults output.old output.new) result }
+    ensures { EndsSo upgrade_job input.now
+        (sink_change O.written O.faults output.old output.new) result }
 {
     match read_scenario(alloc, input) {
         Ok(scenario) => {

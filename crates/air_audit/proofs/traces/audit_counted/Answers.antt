@@ -2,7 +2,7 @@ use Rattle.std.proofs.Common.{◌≡◌, ◌∙◌, length, map, sym, subst}
 use Rattle.std.proofs.lemmas.List.{length-map}
 use Rattle.std.proofs.lemmas.Result.{IfOk-weaker}
 use Rattle.tag_machine.specs.Exchange.{AreLegalTags}
-use Rattle.air_audit.specs.FirstRefusal.{IsVerdict}
+use Rattle.air_audit.specs.FirstRefusal.{IsAuditVerdict}
 use Rattle.air_audit.specs.ReceivedLists.{ListsWhatIsReceived}
 use Rattle.air_audit.specs.declared.verdict.Verdict.{Verdict}
 use Rattle.air_audit.specs.declared.verdict.Verdict.TheVariants.{Yes}
@@ -33,6 +33,6 @@ returns g c =
     let legal : AreLegalTags start.tags = subst AreLegalTags c.in_ok-population.ensures c.len.ensures.legal in
     record {
       exact = exact;
-      listed = IfOk-weaker c.walk.result (IsVerdict start c.args.trace.now) (λ (verdict : Verdict). verdict ≡ Yes → ListsWhatIsReceived start.link c.args.trace.now)
-          (λ verdict is yes. c.list_lines_are_received.ensures start c.args.trace.now legal (subst (IsVerdict start c.args.trace.now) yes is)) exact;
+      listed = IfOk-weaker c.walk.result (IsAuditVerdict start c.args.trace.now) (λ (verdict : Verdict). verdict ≡ Yes → ListsWhatIsReceived start.link c.args.trace.now)
+          (λ verdict is yes. c.list_lines_are_received.ensures start c.args.trace.now legal (subst (IsAuditVerdict start c.args.trace.now) yes is)) exact;
     }

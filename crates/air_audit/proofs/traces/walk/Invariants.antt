@@ -1,6 +1,6 @@
 use Rattle.std.proofs.Common.{◌+◌, ◌≤◌, length}
 use Rattle.air_model.specs.Past.{Start}
-use Rattle.air_audit.specs.Auditing.{IsEarly, StandsAt}
+use Rattle.air_audit.specs.Auditing.{IsEarly, AuditorStandsAt}
 use Rattle.air_audit.specs.Standing.{begun}
 use Rattle.air_audit.proofs.Walks.{Walked}
 use Rattle.air_audit.proofs.traces.walk.Given as goal
@@ -8,7 +8,7 @@ use Rattle.air_audit.proofs.traces.walk.Given as goal
 -- the lines so far were gone over
 abbrev pub invariant-loop-line : goal.invariant-loop-line
 invariant-loop-line g l = record {
-  walked : (start : Start) → StandsAt start begun l.fn.auditor → Walked start l.trace l.rest l.number l.auditor;
+  walked : (start : Start) → AuditorStandsAt start begun l.fn.auditor → Walked start l.trace l.rest l.number l.auditor;
   early : IsEarly l.number l.auditor;
   count : l.number + length l.rest ≤ length l.trace + 1;
 }

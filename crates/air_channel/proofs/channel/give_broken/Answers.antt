@@ -3,7 +3,7 @@ use Rattle.std.specs.Option.{option_map}
 use Rattle.std.proofs.lemmas.List.{length-set}
 use Rattle.bit_strings.specs.BitString.{BitString}
 use Rattle.line_code.specs.TableFacts.{with_level_flipped}
-use Rattle.tag_population.specs.Answers.{value_of}
+use Rattle.tag_population.specs.Answers.{answer_value_of}
 use Rattle.tag_population.specs.declared.answers.Answer.{Answer}
 use Rattle.air_model.specs.Channel.{Given, heard_levels}
 use Rattle.air_channel.specs.Giving.{answer_levels}
@@ -12,14 +12,14 @@ use Rattle.air_channel.proofs.channel.give_broken.Goals as goal
 
 pub encode-requires-clause-short : goal.encode-requires-clause-short
 encode-requires-clause-short c =
-    let some = ap (λ (o : Option Answer). option_map value_of o) (sym c.in-Some.is) ∙ c.get.ensures in
+    let some = ap (λ (o : Option Answer). option_map answer_value_of o) (sym c.in-Some.is) ∙ c.get.ensures in
     let found = some_given c.args.answers.now.items c.requires.answers.0 0 c.in-Some.answer c.requires.answers.1 some in
     answer_short c.in-Some.answer found.0 found.2
 
 pub returns-clause-stream : goal.returns-clause-stream
 returns-clause-stream c = λ replies are.
     let link = c.args.link.now in
-    let some = ap (λ (o : Option Answer). option_map value_of o) (sym c.in-Some.is) ∙ c.get.ensures in
+    let some = ap (λ (o : Option Answer). option_map answer_value_of o) (sym c.in-Some.is) ∙ c.get.ensures in
     let found = some_given c.args.answers.now.items replies 0 c.in-Some.answer are some in
     let written : c.encode.new.stream.items ≡ answer_levels link c.in-Some.answer = ap (λ (stream : BitString). stream.items) c.encode.ensures.stream in
     ap (λ (stream : BitString). stream.items) c.invert_level.ensures

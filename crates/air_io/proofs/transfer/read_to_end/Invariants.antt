@@ -1,5 +1,5 @@
 use Rattle.std.proofs.Common.{◌≡◌, ◌^◌, ◌-◌, ◌+◌, ◌<◌, ◌≤◌, vec_len}
-use Rattle.air_io.specs.Flow.{Reads}
+use Rattle.air_io.specs.Flow.{TakesBytes}
 use Rattle.air_io.proofs.transfer.read_to_end.Given as goal
 
 -- the bytes so far were read, and there are no more than the limit
@@ -8,7 +8,7 @@ invariant-reads g l = record {
   buffer : vec_len l.buffer ≡ 65536;
   most : l.most < 2 ^ 32;
   within : vec_len l.bytes ≤ l.most;
-  read : Reads (g.I.Source.left l.initial.src) (g.I.Source.left l.src) l.bytes.items;
+  read : TakesBytes (g.I.Source.left l.initial.src) (g.I.Source.left l.src) l.bytes.items;
   count : g.I.Source.faults l.src ≡ g.I.Source.faults l.initial.src;
 }
 

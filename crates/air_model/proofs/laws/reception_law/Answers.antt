@@ -1,5 +1,5 @@
-use Rattle.air_model.specs.laws.AwaitedLaws.{awaited_reception, silent_awaited, plain_reception}
-use Rattle.air_model.specs.laws.ReceptionLaws.{whole_heard, broken_heard, stream_reception, silent_reception, whole_is_heard, heard_nothing, heard_least, heard_most}
+use Rattle.air_model.proofs.AwaitedLaws.{awaited_reception, silent_awaited, plain_reception}
+use Rattle.air_model.proofs.ReceptionLaws.{whole_heard, broken_heard, stream_reception, silent_reception, whole_is_heard, heard_nothing, heard_least, heard_most}
 use Rattle.air_model.proofs.laws.reception_law.Goals as goal
 
 pub returns : goal.returns

@@ -4,8 +4,8 @@ use Rattle.air_model.specs.Past.{tags_behind}
 use Rattle.air_world.proofs.Halls.{HallRound, IsHallOver, hall-begins, hall-over, pairs-kept, start_on}
 use Rattle.air_world.proofs.Listings.{pairs-behind}
 use Rattle.air_world.specs.Listing.{pairs_told}
-use Rattle.air_world.specs.Playing.{IsAt, IsEndedBy}
-use Rattle.air_world.specs.Telling.{lines_behind}
+use Rattle.air_world.specs.Playing.{RunIsAt, IsEndedBy}
+use Rattle.air_world.specs.Telling.{lines_to_tell}
 use Rattle.q_round.specs.declared.round.RoundEnd.{RoundEnd}
 use Rattle.runs.specs.History.{past_behind_round}
 use Rattle.runs.specs.RoundsTold.{played_of}
@@ -16,7 +16,7 @@ use Rattle.air_world.proofs.hall.hear_round.Goals.{After-play_round}
 use Rattle.air_world.proofs.hall.hear_round.Goals as goal
 
 -- the run begins
-begins : (g : Over) (c : After-play_round g) → IsAt (start_on c.args.air.now) c.args.air.now.exchanges [] c.args.air.now c.args.run.now
+begins : (g : Over) (c : After-play_round g) → RunIsAt (start_on c.args.air.now) c.args.air.now.exchanges [] c.args.air.now c.args.run.now
 begins g c = hall-begins c.args.air.now c.args.run.now
     (record { run_is = c.requires.run; several = c.requires.several; legal = c.requires.legal; few = omega (arith, c.exchanges.ensures) })
 
@@ -62,10 +62,10 @@ returns-clause-pairs g c =
     let at = begins g (goal.at.returns-clause-pairs g c).After-play_round in
     let behind = over g (goal.at.returns-clause-pairs g c).After-play_round c.in-Ok.end (c.in-Ok.ensures.end start c.args.air.now.exchanges [] at) in
     let kept = pairs-kept start.link (c.in-Ok.ensures.ends start c.args.air.now.exchanges [] at).told in
-    let pairs : pairs_told (lines_behind start (past_behind_round start c.args.operations.now spec [])) ≡ (played_of c.args.air.now.tags spec).pairs =
+    let pairs : pairs_told (lines_to_tell start (past_behind_round start c.args.operations.now spec [])) ≡ (played_of c.args.air.now.tags spec).pairs =
     pairs-behind start (past_behind_round start c.args.operations.now spec [])
     ∙ ap (λ (list : OpList). pairs_in (past_behind_round start list spec [])) c.requires.operations ∙ behind.pairs in
-    let room : length c.args.heard.now.items + length (pairs_told (lines_behind start (past_behind_round start c.args.operations.now spec []))) ≤ c.args.heard.now.capacity =
+    let room : length c.args.heard.now.items + length (pairs_told (lines_to_tell start (past_behind_round start c.args.operations.now spec []))) ≤ c.args.heard.now.capacity =
     omega (arith, c.requires.room, behind.few, ap (λ (all : List (ℕ × List ℕ)). length all) pairs) in
     c.heard-1.given.1 (sym kept.0) ∙ kept.1 room ∙ ap (λ (all : List (ℕ × List ℕ)). record c.args.heard.now { items = c.args.heard.now.items ++ all }) pairs
 

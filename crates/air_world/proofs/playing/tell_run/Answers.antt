@@ -1,5 +1,5 @@
 use Rattle.std.proofs.Common.{sym, subst}
-use Rattle.air_events.specs.Cursor.{IsLeft}
+use Rattle.air_events.specs.Cursor.{AreEntriesLeft}
 use Rattle.air_events.specs.Entries.{Rises}
 use Rattle.air_world.proofs.Beginning.{at-first, at-kept, cut-at-first, cut-before-last, ends-played, whole-told}
 use Rattle.air_world.proofs.Passing.{listening, ends-cut}
@@ -14,7 +14,7 @@ returns-in_err-bits g c =
 pub tell_steps-requires-clause-at : goal.tell_steps-requires-clause-at
 tell_steps-requires-clause-at g c =
     let scenario = c.args.scenario.now in
-    let left : IsLeft c.new-entries.result scenario.entries 0 = subst (λ e. IsLeft c.new-entries.result e 0) c.as_slice.ensures.value
+    let left : AreEntriesLeft c.new-entries.result scenario.entries 0 = subst (λ e. AreEntriesLeft c.new-entries.result e 0) c.as_slice.ensures.value
     (c.new-entries.ensures.left (subst (λ e. Rises 0 e) (sym c.as_slice.ensures.value) c.requires.scenario.rising)) in
     at-first scenario c.args.air.now c.new-run.result c.requires.scenario c.requires.fresh c.len.ensures.legal c.new-entries.result left c.new-run.ensures
 

@@ -3,7 +3,7 @@ use Rattle.air_world.proofs.Beginning.{given-back}
 use Rattle.air_world.proofs.Listings.{memory-enough, pairs-behind}
 use Rattle.air_world.proofs.Passing.{listening}
 use Rattle.air_world.proofs.SeenThrough.{IsNewFor, cut-through, ends-through, seen-through, told-through}
-use Rattle.report_lines.specs.SeenCounts.{seen_in}
+use Rattle.report_lines.specs.SeenCounts.{seen_counts}
 use Rattle.runs.specs.ScenarioStart.{history, start_of}
 use Rattle.air_world.proofs.playing.tell_steps.Goals as goal
 
@@ -32,5 +32,5 @@ returns-clause-seen g c =
     (λ stands faultless.
     let through = told-through l fresh stands.told in
     seen.1 (sym (through.1 ∙ new.room)) ∙ through.3 fresh.seen (memory-enough (g.R.Listener.failed later.report.now) later.out_of_memory faultless)
-    ∙ ap seen_in (pairs-behind (start_of c.args.scenario.now) (history c.args.scenario.now)))
+    ∙ ap seen_counts (pairs-behind (start_of c.args.scenario.now) (history c.args.scenario.now)))
     c.tell_to_last_step.ensures.ends c.tell_to_last_step.ensures.faultless

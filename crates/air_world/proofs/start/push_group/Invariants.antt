@@ -1,9 +1,9 @@
 use Rattle.std.proofs.Common.{◌≡◌, ◌++◌, map}
-use Rattle.runs.specs.ScenarioStart.{tag_of}
+use Rattle.runs.specs.ScenarioStart.{scenario_tag}
 use Rattle.scenario.specs.Groups.{copies}
 use Rattle.tag_machine.specs.Hearing.{tag_value_of}
 use Rattle.air_world.proofs.start.push_group.Given as goal
 
 -- the copies so far
 abbrev pub invariant-loop-number : goal.invariant-loop-number
-invariant-loop-number l = map tag_value_of l.tags.items ≡ map tag_value_of l.fn.tags.items ++ map tag_of (copies l.number l.group.spec)
+invariant-loop-number l = map tag_value_of l.tags.items ≡ map tag_value_of l.fn.tags.items ++ map scenario_tag (copies l.number l.group.spec)

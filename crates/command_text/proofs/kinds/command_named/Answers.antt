@@ -4,7 +4,7 @@ use Rattle.std.specs.Prelude.{Some}
 use Rattle.command_grammar.specs.declared.kinds.CommandKind.{CommandKind}
 use Rattle.command_grammar.specs.declared.kinds.CommandKind.TheVariants as kinds
 use Rattle.command_text.specs.CommandText.{command_name}
-use Rattle.command_text.specs.laws.ToldApart.{command_name_told}
+use Rattle.command_text.proofs.ToldApart.{command_name_told}
 use Rattle.command_text.proofs.PayloadDigits.{not_found}
 use Rattle.command_text.proofs.kinds.command_named.Goals as goal
 

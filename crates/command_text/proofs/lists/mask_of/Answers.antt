@@ -1,6 +1,6 @@
 use Rattle.std.proofs.Common.{map}
 use Rattle.text_fields.specs.Binary.{binary_digit}
-use Rattle.text_fields.specs.laws.BinaryLaws.{no_hyphen}
+use Rattle.text_fields.proofs.BinaryLaws.{no_hyphen}
 use Rattle.command_text.proofs.lists.mask_of.Goals as goal
 
 pub returns-in_err-list_digits-clause-only : goal.returns-in_err-list_digits-clause-only

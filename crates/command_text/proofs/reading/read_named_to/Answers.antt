@@ -1,11 +1,11 @@
 -- What the fields spell is read.
 use Rattle.std.proofs.Common.{◌≡◌, ◌∷◌, refl, rules}
 use Rattle.text_fields.specs.NamedFields.{AreFilled}
-use Rattle.text_fields.specs.laws.NamedFieldLaws.{spelled_behind, wrong_shape}
+use Rattle.text_fields.proofs.NamedFieldLaws.{spelled_behind, wrong_shape}
 use Rattle.text_fields.specs.declared.fields_fault.FieldsFault.TheVariants.{Shape}
 use Rattle.command_grammar.specs.Commands.{IsLegalCommand}
 use Rattle.command_text.specs.CommandText.{command_field_count, command_name, commands}
-use Rattle.command_text.specs.laws.CommandTexts.{command_is_not_faulty, command_told, commands_are}
+use Rattle.command_text.proofs.CommandTexts.{command_is_not_faulty, command_told, commands_are}
 use Rattle.command_text.proofs.reading.read_named_to.Goals as goal
 
 pub returns-in-Some-read_behind_to-clause-only : goal.returns-in-Some-read_behind_to-clause-only

@@ -1,9 +1,9 @@
 use Rattle.std.proofs.Common.{◌≤◌, ◌++◌, List, ℕ, length, take, arith, length-append}
-use Rattle.air_io.specs.Flow.{Reads}
+use Rattle.air_io.specs.Flow.{TakesBytes}
 use Rattle.air_io.specs.laws.Flow.{Reads-more}
 use Rattle.air_io.specs.ReadEnds.{most_read}
 use Rattle.air_io.specs.declared.transfer.ReadEnd.{ReadEnd}
-use Rattle.air_io.specs.laws.ReadEnds.{IfErr-always, length-append-take, count_within_room, most_read-limit}
+use Rattle.air_io.proofs.ReadEnds.{IfErr-always, length-append-take, count_within_room, most_read-limit}
 use Rattle.decode_lines.proofs.source.answer_source.Goals as goal
 
 pub returns-then-count-most-clause-too_long : goal.returns-then-count-most-clause-too_long
@@ -32,7 +32,7 @@ returns-in_err-take-in-Took-clause-part g c =
     let len = length-append-take bytes c.read.new.buf c.in-Took.count took.1 in
     let within : (end : ReadEnd) → length (bytes ++ take c.in-Took.count c.read.new.buf) ≤ most_read end c.args.limit =
     λ end. let least = most_read-limit end c.args.limit in omega arith in
-    let read : (end : ReadEnd) → (bytes : List ℕ) × Reads (g.I.Source.left c.args.source.now) (g.I.Source.left c.read.new.self) bytes × (length bytes ≤ most_read end c.args.limit) =
+    let read : (end : ReadEnd) → (bytes : List ℕ) × TakesBytes (g.I.Source.left c.args.source.now) (g.I.Source.left c.read.new.self) bytes × (length bytes ≤ most_read end c.args.limit) =
     λ end. (bytes ++ take c.in-Took.count c.read.new.buf, Reads-more _ _ _ _ _ c.reads.invariant.taken took.2, within end) in
     IfErr-always _ _ read
 

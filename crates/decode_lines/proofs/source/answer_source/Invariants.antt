@@ -1,7 +1,7 @@
 use Rattle.std.proofs.Common.{◌≡◌, ◌^◌, ◌-◌, ◌+◌, ◌<◌, ◌≤◌, ℕ, List, length, vec_len}
 use Rattle.std.specs.String.{string_bytes}
-use Rattle.air_io.specs.Flow.{Reads}
-use Rattle.decode_lines.specs.Answered.{Stands}
+use Rattle.air_io.specs.Flow.{TakesBytes}
+use Rattle.decode_lines.specs.Answered.{AnsweredSoFar}
 use Rattle.decode_lines.proofs.source.answer_source.Given as goal
 
 -- the bytes so far were read, and there are no more than the limit
@@ -13,8 +13,8 @@ invariant-reads g l = record {
   number : l.answering.number ≤ l.read + 1;
   bytes : List ℕ;
   size : length bytes ≡ l.read;
-  taken : Reads (g.I.Source.left l.initial.source) (g.I.Source.left l.source) bytes;
-  stands : Stands l.answering.fault bytes l.answering.part.items (string_bytes l.answering.text) l.answering.number;
+  taken : TakesBytes (g.I.Source.left l.initial.source) (g.I.Source.left l.source) bytes;
+  stands : AnsweredSoFar l.answering.fault bytes l.answering.part.items (string_bytes l.answering.text) l.answering.number;
   count : g.I.Source.faults l.source ≡ g.I.Source.faults l.initial.source;
 }
 

@@ -5,8 +5,8 @@ use Rattle.std.proofs.lemmas.Bool.Decides.{nat_tests}
 use Rattle.std.proofs.lemmas.List.Elements.{All-weaker}
 use Rattle.text_fields.specs.Binary.{binary, bits_of_digits, is_binary_digit, or_hyphen}
 use Rattle.text_fields.specs.Lines.{Lacks, fields_of, space}
-use Rattle.text_fields.specs.laws.BinaryLaws.{spells_bits}
-use Rattle.text_fields.specs.laws.LineLaws.{whole_piece}
+use Rattle.text_fields.proofs.BinaryLaws.{spells_bits}
+use Rattle.text_fields.proofs.LineLaws.{whole_piece}
 use Rattle.decode_lines.proofs.stream_lines.read_stream.Goals as goal
 
 no_space : (digit : ℕ) → is_binary_digit digit ≡ true → digit ≢ space

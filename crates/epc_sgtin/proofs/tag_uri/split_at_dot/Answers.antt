@@ -2,7 +2,7 @@
 use Rattle.std.proofs.Common.{arith}
 use Rattle.std.proofs.lemmas.Grind.{common_steps}
 use Rattle.epc_sgtin.specs.Uri.{dot}
-use Rattle.text_fields.specs.laws.LineLaws.{pieces_between-cut, whole_piece}
+use Rattle.text_fields.proofs.LineLaws.{pieces_between-cut, whole_piece}
 use Rattle.epc_sgtin.proofs.tag_uri.split_at_dot.Goals as goal
 
 pub returns-in_err-end-clause-none : goal.returns-in_err-end-clause-none

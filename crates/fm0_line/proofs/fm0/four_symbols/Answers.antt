@@ -1,7 +1,7 @@
 -- The rows of the table are the blocks of four bits, in the order of their numbers.
 use Rattle.std.proofs.Common.{Bool, true, List, [], refl}
 use Rattle.line_code.specs.Stream.{blocks}
-use Rattle.line_code.specs.laws.Rows.{row_at}
+use Rattle.line_code.proofs.Rows.{row_at}
 use Rattle.bit_strings.specs.Numbers.{field_of}
 use Rattle.fm0_line.specs.Fm0.{fm0}
 use Rattle.fm0_line.specs.declared.fm0.TheConstants.{FOUR_SYMBOLS}

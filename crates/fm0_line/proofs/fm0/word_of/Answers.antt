@@ -4,7 +4,7 @@ use Rattle.std.specs.Prelude.{bit_or}
 use Rattle.std.specs.Simd.Lanes.{mask_l}
 use Rattle.std.proofs.lemmas.List.{length-drop, length-take-le, take-append-drop}
 use Rattle.std.proofs.lemmas.Nat.{or_shifted}
-use Rattle.line_code.specs.laws.Masks.{mask-append}
+use Rattle.line_code.proofs.MasksLemmas.{mask-append}
 use Rattle.fm0_line.proofs.fm0.word_of.Goals as goal
 
 joined : (high low : ℕ) → high < 65536 → low < 65536 → bit_or (high * 65536 % 4294967296) low ≡ high * 65536 + low

@@ -1,5 +1,5 @@
 use Rattle.line_codes.specs.laws.Codes.{code_even, code_has_lead, code_tells, code_refuses_flips, code_hides_lead}
-use Rattle.line_codes.specs.laws.Preambles.{preambles_differ, code_has_one_preamble, code_keeps_preamble}
+use Rattle.line_codes.proofs.Preambles.{preambles_differ, code_has_one_preamble, code_keeps_preamble}
 use Rattle.line_codes.proofs.laws.code_laws.Goals as goal
 
 pub returns : goal.returns

@@ -1,7 +1,7 @@
 use Rattle.std.proofs.Common.{◌∙◌, ◌-◌, ◌++◌, length, take, drop, take_all, ap, refl, sym, arith}
 use Rattle.std.specs.Simd.Lanes.{mask_l}
 use Rattle.std.proofs.lemmas.List.{length-take-le, length-drop, take-append-drop}
-use Rattle.miller_line.specs.Faults.{bits_at}
+use Rattle.miller_line.specs.Faults.{symbol_bits}
 use Rattle.miller_line.specs.Miller.{miller}
 use Rattle.miller_line.specs.SymbolContext.{context}
 use Rattle.miller_line.proofs.WordsRead.{both_read}
@@ -19,8 +19,8 @@ returns c =
     let rest = take_all (length levels - 64) back (omega (arith, length-drop 64 levels)) in
     let first = c.in_ok-first.ensures front (length-take-le 64 levels (omega (arith, c.requires.whole))) c.word_of-word.ensures in
     let second = c.in_ok-second.ensures back (omega (arith, length-drop 64 levels, c.requires.whole)) (c.word_of-word-2.ensures ∙ ap mask_l rest) in
-    let xs = bits_at m c.in_ok-first.first in
-    let ys = bits_at m c.in_ok-second.second in
+    let xs = symbol_bits m c.in_ok-first.first in
+    let ys = symbol_bits m c.in_ok-second.second in
     both_read (miller m) front back levels xs ys (xs ++ ys) (context c.args.before) (context c.in_ok-first.between) (context c.in_ok-second.last) (take-append-drop 64 levels) first second refl
 
 pub word_of-word-requires : goal.word_of-word-requires

@@ -1,4 +1,4 @@
-use Rattle.pie_line.specs.laws.Frames.{frame-one}
+use Rattle.pie_line.proofs.Frames.{frame-one}
 use Rattle.pie_line.proofs.FrameAnswers.{one-answer}
 use Rattle.pie_line.proofs.laws.one_answer.Goals as goal
 

@@ -1,4 +1,4 @@
-use Rattle.pie_line.specs.Pie.{wave_of, kind_of}
+use Rattle.pie_line.specs.Pie.{wave_of, frame_kind_of}
 use Rattle.pie_line.proofs.Bounds.{frame-bounded}
 use Rattle.pie_line.proofs.Writing.{wave-frame}
 use Rattle.pie_line.proofs.laws.written_frame.Goals as goal
@@ -8,4 +8,4 @@ returns-clause-frame c = λ link lead bits legal. wave-frame link legal lead bit
 
 pub returns-clause-each : goal.returns-clause-each
 returns-clause-each c = λ link lead bits legal.
-    frame-bounded (kind_of link lead) bits (wave_of link lead bits) (wave-frame link legal lead bits)
+    frame-bounded (frame_kind_of link lead) bits (wave_of link lead bits) (wave-frame link legal lead bits)

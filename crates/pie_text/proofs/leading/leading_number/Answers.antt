@@ -1,7 +1,7 @@
 -- The digits so far are those of the number so far, and all of them spell it.
 use Rattle.std.proofs.Common.{◌≢◌, inl, inr, take, get_or, arith, refl, sym, ◌∙◌, subst}
 use Rattle.text_fields.specs.Lines.{space}
-use Rattle.pie_text.specs.Spelling.{IsNumber}
+use Rattle.pie_text.specs.Spelling.{IsNumberUpTo}
 use Rattle.pie_text.proofs.LeadingNumbers.{BeginsWithNumber, digit_more, digits_are_number, no_digit_here, not_both, number_form, same_end, tested_digit, too_great}
 use Rattle.pie_text.proofs.leading.leading_number.Goals as goal
 use Rattle.pie_text.proofs.leading.leading_number.Goals.{then-loop-end-test+else-is_ascii_digit, else-loop-end-test, then-not-is_field_end-via-then-not-is_field_end, then-not-is_field_end-via-else-not-is_field_end+then-not-has_number_form}
@@ -37,7 +37,7 @@ returns-then-not-is_field_end-clause-none c = λ end ends number.
       | then-not-is_field_end-via-else-not-is_field_end+then-not-has_number_form w ↦
           let stands = c.is_field_end.ensures.0 w.if-not-is_field_end.false in
           let same = same_end c.args.most c.loop-end.end end c.args.text.now begins digits stands in
-          let form = number_form c.args.most (take c.loop-end.end c.args.text.now) (omega arith) (subst (λ n. IsNumber c.args.most (take n c.args.text.now)) same number) in
+          let form = number_form c.args.most (take c.loop-end.end c.args.text.now) (omega arith) (subst (λ n. IsNumberUpTo c.args.most (take n c.args.text.now)) same number) in
           not_both w.has_number_form.result (w.has_number_form.ensures.only form.0 form.1) w.if-not-has_number_form.true
     ]
 

@@ -2,8 +2,8 @@
 use Rattle.std.proofs.Common.{◌≤◌, ℕ, List, All, arith, ap, sym, ◌∙◌, length, map, eqb}
 use Rattle.std.proofs.lemmas.List.Splits.{length-slice_split}
 use Rattle.text_fields.specs.Lines.{fields_of, space}
-use Rattle.pie_text.specs.Numbers.{HasShape}
-use Rattle.pie_text.specs.Spelling.{IsNumber, decimal_value}
+use Rattle.pie_text.specs.Numbers.{AreFewFilled}
+use Rattle.pie_text.specs.Spelling.{IsNumberUpTo, decimal_value}
 use Rattle.pie_text.proofs.Numerals.{spelled_shape, spelled_numbers, fields_spell, one_spelling}
 use Rattle.pie_text.proofs.numbers.fill_with_numbers.Goals as goal
 
@@ -15,9 +15,9 @@ returns-in-Some-clause-ok c = λ yes.
 
 pub returns-in-Some-clause-only : goal.returns-in-Some-clause-only
 returns-in-Some-clause-only c = λ numbers spells.
-    let shape : HasShape c.args.most_items (fields_of c.in-Some.line.now) =
+    let shape : AreFewFilled c.args.most_items (fields_of c.in-Some.line.now) =
     rw c.in-Some.ensures.value at (spelled_shape _ _ _ numbers (omega arith) spells) in
-    let are : All (IsNumber c.args.most) (fields_of c.in-Some.line.now) =
+    let are : All (IsNumberUpTo c.args.most) (fields_of c.in-Some.line.now) =
     spelled_numbers _ _ numbers (omega arith) spells.within (sym c.in-Some.ensures.value ∙ spells.spelling) in
     let yes = c.push_numbers.ensures.all.1 (shape.room, are) in (
       yes,

@@ -4,7 +4,7 @@ use Rattle.std.specs.Option.{option_map_or}
 use Rattle.std.proofs.lemmas.List.Splits.{length-slice_split}
 use Rattle.pie_line.specs.IntervalList.{IntervalList}
 use Rattle.text_fields.specs.Lines.{fields_of, space}
-use Rattle.pie_text.specs.Spelling.{IsNumber}
+use Rattle.pie_text.specs.Spelling.{IsNumberUpTo}
 use Rattle.pie_text.proofs.LeadingNumbers.{first_end, first_number, lacks_space}
 use Rattle.pie_text.proofs.Numerals.{IsNextNumber, holds_next, refused_for, shape_behind}
 use Rattle.pie_text.proofs.numbers.push_numbers.Goals as goal
@@ -25,7 +25,7 @@ returns-in_default-leading_number-clause-all c =
     let first = first_end c.in-Some.text.now in (
       λ yes. absurd (cc),
       λ both.
-          let are : All (IsNumber c.args.most) (fields_of c.in-Some.text.now) = rw left at (so_far.numbers.0 both.1) in
+          let are : All (IsNumberUpTo c.args.most) (fields_of c.in-Some.text.now) = rw left at (so_far.numbers.0 both.1) in
           absurd (c.in_default-leading_number.ensures.none first.0 first.1 (first_number c.args.most first.0 c.in-Some.text.now first.1 first.2 are)),
     )
 
@@ -45,7 +45,7 @@ returns-in_default-leading_number-clause-refused c =
     (omega (arith, length-slice_split (λ each. eqb each space) c.in-Some.text.now)) in
     let room : c.args.most_items - length c.loop-rest.out.items ≡ c.args.most_items - c.len-in_default-leading_number.result = omega (arith, c.len-in_default-leading_number.ensures.count) in
     refused_for c.args.most_items c.args.most (fields_of c.args.line.now) c.reason_of.result (omega arith)
-    (λ all. let are : All (IsNumber c.args.most) (fields_of c.in-Some.text.now) = rw left at (so_far.numbers.0 all) in
+    (λ all. let are : All (IsNumberUpTo c.args.most) (fields_of c.in-Some.text.now) = rw left at (so_far.numbers.0 all) in
     c.in_default-leading_number.ensures.none first.0 first.1 (first_number c.args.most first.0 c.in-Some.text.now first.1 first.2 are))
     (λ is has. c.reason_of.ensures.shape is (rw room at (shape.0 has))) (λ is. shape.1 (rw room (c.reason_of.ensures.number is)))
 

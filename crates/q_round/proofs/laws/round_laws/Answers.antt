@@ -1,5 +1,5 @@
 use Rattle.q_round.proofs.RoundLaws.{slots-within, q-in-range, quiet-frame, rep-frame, frame-front}
-use Rattle.q_round.specs.laws.SlotLaws.{slots-underway, slots-over, next-underway, next-over}
+use Rattle.q_round.proofs.SlotLaws.{slots-underway, slots-over, next-underway, next-over}
 use Rattle.q_round.proofs.laws.round_laws.Goals as goal
 
 pub returns-clause-limit : goal.returns-clause-limit

@@ -1,5 +1,5 @@
-use Rattle.reply_grammar.specs.laws.Replies.{answers_from}
-use Rattle.reply_grammar.specs.laws.Suiting.{spelling-within}
+use Rattle.reply_grammar.proofs.Replies.{answers_from}
+use Rattle.reply_grammar.proofs.Suiting.{spelling-within}
 use Rattle.reply_grammar.proofs.encode.encode_reply.Goals as goal
 
 pub returns-clause-answers : goal.returns-clause-answers

@@ -1,5 +1,5 @@
 use Rattle.reply_grammar.specs.laws.Passing.{answers_pass}
-use Rattle.reply_grammar.specs.laws.Replies.{one_reply, one_fault, passes_apart}
+use Rattle.reply_grammar.proofs.Replies.{one_reply, one_fault, passes_apart}
 use Rattle.reply_grammar.specs.laws.SomeReply.{reply_or_fault}
 use Rattle.reply_grammar.proofs.laws.reply_laws.Goals as goal
 

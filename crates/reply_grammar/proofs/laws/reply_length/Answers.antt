@@ -1,4 +1,4 @@
-use Rattle.reply_grammar.specs.laws.Suiting.{spelling-within}
+use Rattle.reply_grammar.proofs.Suiting.{spelling-within}
 use Rattle.reply_grammar.proofs.laws.reply_length.Goals as goal
 
 pub returns : goal.returns

@@ -1,4 +1,4 @@
-use Rattle.reply_grammar.specs.laws.Suiting.{suits-decides}
+use Rattle.reply_grammar.proofs.Suiting.{suits-decides}
 use Rattle.reply_grammar.proofs.laws.suiting_law.Goals as goal
 
 pub returns : goal.returns

@@ -1,7 +1,7 @@
 -- What `strip_prefix` says of bytes.
 use Rattle.std.proofs.lemmas.Bool.Decides.{Decides-eqb}
 use Rattle.std.proofs.lemmas.Slice.Eq.{strip_prefix_is}
-use Rattle.reply_text.specs.laws.Cuts.{stripped}
+use Rattle.reply_text.proofs.Cuts.{stripped}
 use Rattle.reply_text.proofs.expectation.behind.Goals as goal
 
 pub returns-clause-value : goal.returns-clause-value

@@ -1,8 +1,8 @@
 -- What the fields spell is read.
 use Rattle.std.proofs.Common.{◌≡◌, ◌∷◌, rules}
-use Rattle.text_fields.specs.laws.NamedFieldLaws.{spelled_behind}
+use Rattle.text_fields.proofs.NamedFieldLaws.{spelled_behind}
 use Rattle.reply_text.specs.ReplyText.{IsReplyForm, replies, reply_name}
-use Rattle.reply_text.specs.laws.ReplyTexts.{reply_told}
+use Rattle.reply_text.proofs.ReplyTexts.{reply_told}
 use Rattle.reply_text.proofs.reading.read_reply.Goals as goal
 
 pub returns-in-Some-read_behind-clause-only : goal.returns-in-Some-read_behind-clause-only

@@ -2,7 +2,7 @@ use Rattle.std.proofs.Common.{refl}
 use Rattle.line_codes.specs.Codes.{table_of}
 use Rattle.reply_grammar.specs.declared.expected.Expect.TheVariants.{Rn16 as OneRn16, Epc as OneEpc, Handle as OneHandle, Same}
 use Rattle.reply_grammar.specs.declared.expected.Reply.TheVariants.{Rn16, Epc, Handle}
-use Rattle.reply_grammar.specs.laws.Replies.{answers_from}
+use Rattle.reply_grammar.proofs.Replies.{answers_from}
 use Rattle.reply_wire.proofs.RepliesReceived.{whole_received}
 use Rattle.reply_wire.proofs.laws.kinds_received.Goals as goal
 

@@ -1,4 +1,4 @@
-use Rattle.reply_wire.specs.laws.ReceivedLaws.{same_received, received_is}
+use Rattle.reply_wire.proofs.ReceivedLaws.{same_received, received_is}
 use Rattle.reply_wire.specs.laws.SomeReceived.{some_received}
 use Rattle.reply_wire.proofs.laws.one_received.Goals as goal
 

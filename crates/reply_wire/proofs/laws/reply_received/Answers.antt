@@ -1,5 +1,5 @@
 use Rattle.line_codes.specs.Codes.{table_of}
-use Rattle.reply_grammar.specs.laws.Replies.{answers_from}
+use Rattle.reply_grammar.proofs.Replies.{answers_from}
 use Rattle.reply_wire.proofs.RepliesReceived.{whole_received, unexpected_received}
 use Rattle.reply_wire.proofs.laws.reply_received.Goals as goal
 

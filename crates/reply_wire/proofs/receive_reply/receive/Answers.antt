@@ -8,9 +8,9 @@ use Rattle.reply_grammar.specs.declared.expected.Reply.{Reply}
 use Rattle.reply_grammar.specs.declared.expected.Received.{Received}
 use Rattle.reply_grammar.specs.declared.expected.Received.TheVariants.{Whole, Refused}
 use Rattle.reply_grammar.specs.laws.Passing.{answers_pass}
-use Rattle.reply_grammar.specs.laws.Replies.{one_reply, passes_apart}
+use Rattle.reply_grammar.proofs.Replies.{one_reply, passes_apart}
 use Rattle.reply_wire.specs.Received.{IsReceived, IsWhole, IsUnexpected}
-use Rattle.reply_wire.specs.laws.ReceivedLaws.{same_received}
+use Rattle.reply_wire.proofs.ReceivedLaws.{same_received}
 use Rattle.reply_wire.proofs.receive_reply.receive.Goals as goal
 
 pub returns-in-Ok-take_whole-clause-only : goal.returns-in-Ok-take_whole-clause-only

@@ -1,4 +1,4 @@
-use Rattle.report_lines.specs.laws.JsonLaws.{plain_pairs}
+use Rattle.report_lines.proofs.JsonLaws.{plain_pairs}
 use Rattle.report_lines.proofs.laws.objects_need_no_escape.Goals as goal
 
 pub returns : goal.returns

@@ -1,4 +1,4 @@
-use Rattle.report_lines.specs.laws.SeenLaws.{count_of-few, seen_in-more}
+use Rattle.report_lines.proofs.SeenLaws.{count_of-few, seen_in-more}
 use Rattle.report_lines.proofs.laws.seen_laws.Goals as goal
 
 pub returns-clause-more : goal.returns-clause-more

@@ -1,6 +1,6 @@
 use Rattle.std.proofs.Common.{sym, ◌∙◌}
 use Rattle.text_fields.specs.Lines.{space}
-use Rattle.text_fields.specs.laws.LineLaws.{some_piece}
+use Rattle.text_fields.proofs.LineLaws.{some_piece}
 use Rattle.report_lines.proofs.line_fields.split_word.Goals as goal
 
 pub unreachable-requires : goal.unreachable-requires

@@ -1,7 +1,7 @@
 use Rattle.std.proofs.Common.{◌≡◌, ◌<◌, ◌∙◌, ◌+◌, ap, arith, rules, unwrap_or}
 use Rattle.indexmap.specs.Entry.{map_with_value}
 use Rattle.indexmap.specs.IndexMap.{insert_entry}
-use Rattle.report_lines.specs.Entries.{seen_of}
+use Rattle.report_lines.specs.Entries.{seen_of_listed}
 use Rattle.report_lines.specs.SeenCounts.{count_of, seen_more}
 use Rattle.report_lines.proofs.Raising.{found_of, inserted, kept, looked_up, same_listed}
 use Rattle.report_lines.proofs.seen.raise.Goals as goal
@@ -10,14 +10,14 @@ pub returns-clause-more : goal.returns-clause-more
 returns-clause-more c =
     let before = c.args.counts.now.entries in
     let one_more : c.in-Some.more ≡ c.or_insert-count.result.now + 1 = search rules in
-    let had : c.or_insert-count.result.now ≡ count_of (seen_of before) (c.args.listed.pc, c.args.listed.epc) =
+    let had : c.or_insert-count.result.now ≡ count_of (seen_of_listed before) (c.args.listed.pc, c.args.listed.epc) =
     c.or_insert-count.ensures.value ∙ ap (λ found. unwrap_or found 0) c.in_ok-counts.ensures.value ∙ looked_up before c.args.listed in
     let entries : (map_with_value c.in_ok-counts.field-0 c.in-Some.more).entries ≡ insert_entry same_listed before c.args.listed c.in-Some.more =
     c.in_ok-counts.ensures.update.1 c.in-Some.more in
-    let seen : seen_of (insert_entry same_listed before c.args.listed c.in-Some.more) ≡ seen_more (seen_of before) (c.args.listed.pc, c.args.listed.epc) =
-    ap (λ n. seen_of (insert_entry same_listed before c.args.listed n)) (one_more ∙ ap (λ n. n + 1) had) ∙ inserted before c.args.listed in
-    let all : seen_of (map_with_value c.in_ok-counts.field-0 c.in-Some.more).entries ≡ seen_more (seen_of before) (c.args.listed.pc, c.args.listed.epc) =
-    ap seen_of entries ∙ seen in
+    let seen : seen_of_listed (insert_entry same_listed before c.args.listed c.in-Some.more) ≡ seen_more (seen_of_listed before) (c.args.listed.pc, c.args.listed.epc) =
+    ap (λ n. seen_of_listed (insert_entry same_listed before c.args.listed n)) (one_more ∙ ap (λ n. n + 1) had) ∙ inserted before c.args.listed in
+    let all : seen_of_listed (map_with_value c.in_ok-counts.field-0 c.in-Some.more).entries ≡ seen_more (seen_of_listed before) (c.args.listed.pc, c.args.listed.epc) =
+    ap seen_of_listed entries ∙ seen in
     grind (arith, all)
 
 -- a count that has no room for one more was there, and stays

@@ -1,5 +1,5 @@
 use Rattle.std.proofs.Common.{[], arith}
-use Rattle.runs.specs.laws.HeadlineCounts.{steps-exchanges, few-exchanges}
+use Rattle.runs.proofs.HeadlineCounts.{steps-exchanges, few-exchanges}
 use Rattle.runs.proofs.laws.exchanges_are_few.Goals as goal
 
 pub returns-clause-most : goal.returns-clause-most

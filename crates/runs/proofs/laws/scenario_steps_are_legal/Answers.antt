@@ -1,4 +1,4 @@
-use Rattle.runs.specs.laws.HeadlineLegal.{legal-steps}
+use Rattle.runs.proofs.HeadlineLegal.{legal-steps}
 use Rattle.runs.proofs.laws.scenario_steps_are_legal.Goals as goal
 
 pub returns : goal.returns

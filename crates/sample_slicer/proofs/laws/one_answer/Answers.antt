@@ -1,4 +1,4 @@
-use Rattle.sample_slicer.specs.laws.Samples.{same_answer}
+use Rattle.sample_slicer.proofs.Samples.{same_answer}
 use Rattle.sample_slicer.proofs.SomeAnswer.{some_answer}
 use Rattle.sample_slicer.proofs.laws.one_answer.Goals as goal
 

@@ -2,7 +2,7 @@
 use Rattle.std.proofs.Common.{◌≡◌, ◌+◌, ◌-◌, ◌^◌, ◌≤◌, length, take, drop, refl, arith, ap, sym, ◌∙◌}
 use Rattle.std.proofs.lemmas.List.{length-drop, length-take-le, take_all}
 use Rattle.std.specs.List.{slice_range}
-use Rattle.sample_slicer.specs.Masks.{mask_of}
+use Rattle.sample_slicer.specs.Masks.{sample_mask_of}
 use Rattle.sample_slicer.proofs.Masks.{LeftOfBlock, all_bits, group_length, group_mask, behind_mask}
 use Rattle.sample_slicer.proofs.SlicedSoFar.{sliced_more, mixed_here}
 use Rattle.sample_slicer.proofs.slicer.slice_block.Goals as goal
@@ -18,7 +18,7 @@ loop-at-init c =
       capacity = refl;
       onward = omega arith;
       within = omega arith;
-      mask = c.high_samples-mask.ensures ∙ ap (mask_of c.args.threshold) (take_all 32 block few);
+      mask = c.high_samples-mask.ensures ∙ ap (sample_mask_of c.args.threshold) (take_all 32 block few);
     }
 
 pub returns-in_default-clause-refused : goal.returns-in_default-clause-refused
@@ -59,5 +59,5 @@ loop-at-preserved c =
       onward = omega (arith, c.loop-at.invariant.onward);
       within = omega (arith, within, c.loop-at.invariant.within);
       mask = behind_mask c.args.threshold c.args.per place left c.loop-at.mask c.args.samples.now left_is
-          ∙ ap (λ n. mask_of c.args.threshold (take n (drop (place + c.args.per) c.args.samples.now))) size;
+          ∙ ap (λ n. sample_mask_of c.args.threshold (take n (drop (place + c.args.per) c.args.samples.now))) size;
     })

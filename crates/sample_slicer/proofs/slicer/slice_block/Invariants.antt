@@ -1,5 +1,5 @@
 use Rattle.std.proofs.Common.{◌≡◌, ◌≤◌, ◌-◌, take, drop}
-use Rattle.sample_slicer.specs.Masks.{mask_of}
+use Rattle.sample_slicer.specs.Masks.{sample_mask_of}
 use Rattle.sample_slicer.specs.SlicedTo.{SlicedTo}
 use Rattle.sample_slicer.proofs.slicer.slice_block.Given as goal
 
@@ -10,7 +10,7 @@ invariant-loop-at l = record {
   capacity : l.out.capacity ≡ l.fn.out.capacity;
   onward : l.start ≤ l.at;
   within : l.at ≤ l.end;
-  mask : l.mask ≡ mask_of l.threshold (take (l.end - l.at) (drop l.at l.samples));
+  mask : l.mask ≡ sample_mask_of l.threshold (take (l.end - l.at) (drop l.at l.samples));
 }
 
 abbrev pub decreases-loop-at : goal.decreases-loop-at

@@ -1,4 +1,4 @@
-use Rattle.scenario_lines.specs.laws.TagLaws.{banks-legal, sizes-fit}
+use Rattle.scenario_lines.proofs.TagLaws.{banks-legal, sizes-fit}
 use Rattle.scenario_lines.proofs.laws.tag_lines_fit_memories.Goals as goal
 
 pub returns-clause-sizes : goal.returns-clause-sizes

@@ -6,7 +6,7 @@ use Rattle.scenario_text.specs.declared.fault.ScenarioFault.TheVariants as fault
 use Rattle.scenario_text.specs.Draft.{scenario_of}
 use Rattle.scenario_text.specs.Faults.{IsRefused}
 use Rattle.scenario_text.specs.Rest.{IsExtra, SaysScenario}
-use Rattle.scenario_text.specs.Standing.{after}
+use Rattle.scenario_text.specs.Standing.{standing_after}
 use Rattle.scenario_text.specs.Taking.{standing_of}
 use Rattle.scenario_text.proofs.Reader.{NextLine, end_finishes, end_read, end_said, extra_behind, fault_here, fault_last, leads_as, leads_end, no_extra, not_faulty, read_more, read_none, says_more, takes_as}
 use Rattle.scenario_text.proofs.reading.read_lines.Goals as goal
@@ -29,7 +29,7 @@ loop-line-preserved c =
     record {
       so_far = read_more c.args.text.now from (standing_of new) next (takes_as next.line from taken More new c.in-More.is c.in_ok-taken.ensures.taken);
       still_says = says_more c.line_laws.ensures c.args.text.now from (standing_of new) next
-          (λ said spells follows. leads_as (after from said) taken More new c.in-More.is (c.in_ok-taken.ensures.only said spells follows));
+          (λ said spells follows. leads_as (standing_after from said) taken More new c.in-More.is (c.in_ok-taken.ensures.only said spells follows));
     }
 
 pub returns-in-Within-clause-ok : goal.returns-in-Within-clause-ok
@@ -59,7 +59,7 @@ returns-in-Within-clause-only c = λ whole last left.
     let next : NextLine c.args.text.now from =
     record { rest = c.loop-line.rest.now; line = c.in-Some.line.now; behind = c.in-Some.behind.now; first = c.in-Some.ensures.lines; read = c.loop-line.invariant } in
     let both = end_said c.line_laws.ensures c.args.text.now from next draft last whole left
-    (λ said spells follows. leads_end (after from said) c.in_ok-taken.taken c.take.new.self draft c.in-End.is c.in-Within.is
+    (λ said spells follows. leads_end (standing_after from said) c.in_ok-taken.taken c.take.new.self draft c.in-End.is c.in-Within.is
     (c.in_ok-taken.ensures.only said spells follows)) in (
       IfOk-weaker c.finish.result (λ scenario. (scenario ≡ scenario_of draft) × (next.behind ≡ []))
           (λ scenario. scenario ≡ scenario_of last) (λ scenario ends. ends.0 ∙ ap scenario_of both.0) c.finish.ensures.ok,
@@ -73,7 +73,7 @@ returns-in-Faulty-clause-only c = λ whole last left.
     let next : NextLine c.args.text.now from =
     record { rest = c.loop-line.rest.now; line = c.in-Some.line.now; behind = c.in-Some.behind.now; first = c.in-Some.ensures.lines; read = c.loop-line.invariant } in
     absurd (not_faulty c.line_laws.ensures c.args.text.now from next last whole left
-    (λ said spells follows. leads_as (after from said) c.in_ok-taken.taken (Faulty c.in-Faulty.fault) c.take.new.self c.in-Faulty.is
+    (λ said spells follows. leads_as (standing_after from said) c.in_ok-taken.taken (Faulty c.in-Faulty.fault) c.take.new.self c.in-Faulty.is
     (c.in_ok-taken.ensures.only said spells follows)))
 
 pub returns-in-Faulty-clause-refused : goal.returns-in-Faulty-clause-refused

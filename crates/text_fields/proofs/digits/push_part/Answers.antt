@@ -1,5 +1,5 @@
 -- Digits are ASCII.
-use Rattle.text_fields.specs.laws.BinaryLaws.{IsAscii-digits}
+use Rattle.text_fields.proofs.BinaryLaws.{IsAscii-digits}
 use Rattle.text_fields.proofs.digits.push_part.Goals as goal
 
 pub push_ascii-requires : goal.push_ascii-requires

@@ -1,7 +1,7 @@
 -- The slice behind the byte is the rest of the text.
 use Rattle.std.proofs.Common.{arith}
 use Rattle.std.proofs.lemmas.Grind.{common_steps}
-use Rattle.text_fields.specs.laws.LineLaws.{pieces_between-cut}
+use Rattle.text_fields.proofs.LineLaws.{pieces_between-cut}
 use Rattle.text_fields.proofs.lines.split_at_first.Goals as goal
 
 pub returns-clause-pieces : goal.returns-clause-pieces

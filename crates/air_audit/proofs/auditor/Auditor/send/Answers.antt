@@ -1,7 +1,7 @@
 use Rattle.std.proofs.Common.{◌≡◌, ◌+◌, List, Ok, arith, length, refl, ap, sym, ◌∙◌, subst}
 use Rattle.std.specs.List.{All}
 use Rattle.std.proofs.lemmas.List.{length-map}
-use Rattle.air_events.specs.Cursor.{IsLeft}
+use Rattle.air_events.specs.Cursor.{AreEntriesLeft}
 use Rattle.command_grammar.specs.declared.commands.Command.{Command}
 use Rattle.air_events.specs.declared.Several.{Several}
 use Rattle.pie_line.specs.Link.{LinkValue}
@@ -13,7 +13,7 @@ use Rattle.air_model.specs.Channel.{given_of, heard_levels}
 use Rattle.air_model.specs.Past.{exchanges_in}
 use Rattle.air_audit.specs.Auditing.{AuditorValue}
 use Rattle.air_audit.specs.LineRefusals.{IsNoTxLine}
-use Rattle.air_audit.specs.Rooms.{IsShort}
+use Rattle.air_audit.specs.Rooms.{IsShortAnswer}
 use Rattle.air_audit.specs.Standing.{Place}
 use Rattle.air_audit.specs.TraceLines.{Sends}
 use Rattle.air_audit.proofs.Exchanges.{Parts, parts-of, events-there, handed-on, hearing, left-before, missed-there, next-known, next-number, same-next}
@@ -48,7 +48,7 @@ invariant_of-self-2 g c =
 pub hear-requires-2-clause-short : goal.hear-requires-2-clause-short
 hear-requires-2-clause-short g c =
     let replies : List Replied = replies_from 0 (hearing_from 0 c.command-command.result.now c.next_entry-entry.result.now c.befall_all.new.self) in
-    subst (λ (items : List AnswerValue). All IsShort items) (sym (ap (λ (a : AnswersValue). a.items) c.hear.ensures.answers)) (short-answers replies c.hear.ensures.sent)
+    subst (λ (items : List AnswerValue). All IsShortAnswer items) (sym (ap (λ (a : AnswersValue). a.items) c.hear.ensures.answers)) (short-answers replies c.hear.ensures.sent)
 
 pub returns-in_err-read-clause-refused : goal.returns-in_err-read-clause-refused
 returns-in_err-read-clause-refused g c =
@@ -94,7 +94,7 @@ returns-clause-sends g c = λ ok start past keeps.
             ∙ ap (λ (s : Several). heard_levels c.args.self.now.answers.link (given_of c.args.self.now.answers.link replies c.next_entry-entry.result.now.choice s)) several;
         link = c.hear-2.ensures.link ∙ link;
         several = several;
-        entries = subst (λ n. IsLeft c.next_entry-entry.new.self start.entries n) number
+        entries = subst (λ n. AreEntriesLeft c.next_entry-entry.new.self start.entries n) number
             (c.next_entry-entry.ensures.left start.entries (exchanges_in past) (left-before start past c.args.self.now parts keeps) number);
         exchanges = ap (λ (a : AuditorValue). a.exchanges + 1) c.self.view_is;
         round = c.place_of_command-round.ensures.round ∙ ap (λ (p : Place). p.round) (same-next command _ _ _ _ round slot);

@@ -1,10 +1,10 @@
 use Rattle.std.proofs.Common.{◌≡◌, ℕ, List, [], ◌∷◌, Some, ◌++◌, refl, sym, ◌∙◌, ap, subst}
 use Rattle.air_model.specs.Past.{Start, Item, Record, next_record, past_behind_command}
-use Rattle.air_model.specs.laws.ReceptionLaws.{silent_reception}
+use Rattle.air_model.proofs.ReceptionLaws.{silent_reception}
 use Rattle.air_world.proofs.Passing.{listening, passes-then}
 use Rattle.air_world.proofs.Slots.{ack-with, ack-without, inventory-heard, other-unlisted, room-behind, run-kept, stands-listed, stands-same, stands-then, stands-unlisted, whole-listed}
-use Rattle.air_world.specs.Playing.{IsAt, StandsAt}
-use Rattle.air_world.specs.Telling.{Passes, lines_behind}
+use Rattle.air_world.specs.Playing.{RunIsAt, StandsAt}
+use Rattle.air_world.specs.Telling.{PassesOn, lines_to_tell}
 use Rattle.command_grammar.specs.declared.commands.Command.TheVariants as commands
 use Rattle.reply_grammar.specs.declared.expected.Expect.TheVariants as expects
 use Rattle.reply_wire.specs.Heard.{pair_received}
@@ -18,7 +18,7 @@ use Rattle.air_world.proofs.run.Run.acknowledge.Goals.{After-hear_epc, After-tel
 use Rattle.air_world.proofs.run.Run.acknowledge.Goals as goal
 
 -- the PC and the EPC that are heard of the stream of the ACK are those of the record
-heard : (g : Over) (c : After-hear_epc g) (start : Start) (earlier : ℕ) (past : List Item) → IsAt start earlier past c.args.air.now c.args.self.now
+heard : (g : Over) (c : After-hear_epc g) (start : Start) (earlier : ℕ) (past : List Item) → RunIsAt start earlier past c.args.air.now c.args.self.now
     → pair_received (ack_reception start c.args.round c.args.slot c.args.rn past) ≡ c.hear_epc.result
 heard g c start earlier past plays =
     let came_as = c.hear_epc.ensures.received in
@@ -39,19 +39,19 @@ heard g c start earlier past plays =
     ap pair_received (sym same) ∙ sym came_as.2
 
 -- the run behind the ACK, once what it brought is listed
-stands : (g : Over) (c : After-tell_listed g) (start : Start) (earlier : ℕ) (past : List Item) → IsAt start earlier past c.args.air.now c.args.self.now
+stands : (g : Over) (c : After-tell_listed g) (start : Start) (earlier : ℕ) (past : List Item) → RunIsAt start earlier past c.args.air.now c.args.self.now
     → pair_received (ack_reception start c.args.round c.args.slot c.args.rn past) ≡ Some (c.in-Some.pc, c.in-Some.epc)
-    → StandsAt (Passes g.R.Listener.hears (lines_behind start past) c.args.report.now c.tell_listed.new.report) start earlier
+    → StandsAt (PassesOn g.R.Listener.hears (lines_to_tell start past) c.args.report.now c.tell_listed.new.report) start earlier
     (past_behind_command start c.args.round c.args.slot (commands.Ack c.args.rn) past) c.send.new.air c.hear_epc.new.self
 stands g c start earlier past at pair =
     let sent : Record = next_record start c.args.round c.args.slot (commands.Ack c.args.rn) past in
     let listed : Listed = record { round = c.args.round; slot = c.args.slot; pc = c.in-Some.pc; epc = c.in-Some.epc } in
     let one : listed_by sent ≡ listed ∷ [] = whole-listed sent (ack_reception start c.args.round c.args.slot c.args.rn past) (c.in-Some.pc, c.in-Some.epc) pair in
-    let before : List ReportLine = lines_behind start past ++ exchange_lines start.link sent in
-    let told = passes-then (listening g.R.Listener.hears g.R.Listener.failed _ _) _ (lines_behind start past) before
+    let before : List ReportLine = lines_to_tell start past ++ exchange_lines start.link sent in
+    let told = passes-then (listening g.R.Listener.hears g.R.Listener.failed _ _) _ (lines_to_tell start past) before
     (before ++ ListLine c.args.round c.args.slot c.in-Some.pc c.in-Some.epc ∷ [])
-    (c.send.ensures.told start earlier past c.args.round c.args.slot (lines_behind start past) at) (c.tell_listed.ensures before) in
-    stands-listed (Passes g.R.Listener.hears (lines_behind start past) c.args.report.now c.tell_listed.new.report) (record { start = start; earlier = earlier; past = past; air = _; run = _ }) sent listed
+    (c.send.ensures.told start earlier past c.args.round c.args.slot (lines_to_tell start past) at) (c.tell_listed.ensures before) in
+    stands-listed (PassesOn g.R.Listener.hears (lines_to_tell start past) c.args.report.now c.tell_listed.new.report) (record { start = start; earlier = earlier; past = past; air = _; run = _ }) sent listed
     (run-kept start earlier _ _ _ _ c.hear_epc.ensures.same (c.send.ensures.plays start earlier past c.args.round c.args.slot at)) told one
 
 pub returns-in-Silence : goal.returns-in-Silence
@@ -61,7 +61,7 @@ returns-in-Silence g c = λ start earlier past at.
     let other = ap pair_received (silent_reception start.link expects.Epc sent.given (sym behind.got_is ∙ c.in-Silence.is)) in
     stands-same _ start _ _ _ _ _ (ack-without start c.args.operations.now c.args.round c.args.slot c.args.rn past other)
     (stands-unlisted _ (record { start = start; earlier = earlier; past = past; air = _; run = _ }) sent (c.send.ensures.plays start earlier past c.args.round c.args.slot at)
-    (c.send.ensures.told start earlier past c.args.round c.args.slot (lines_behind start past) at)
+    (c.send.ensures.told start earlier past c.args.round c.args.slot (lines_to_tell start past) at)
     (other-unlisted sent (ack_reception start c.args.round c.args.slot c.args.rn past) other))
 
 pub returns-in-None : goal.returns-in-None
@@ -71,7 +71,7 @@ returns-in-None g c = λ start earlier past at.
     stands-same _ start _ _ _ _ _ (ack-without start c.args.operations.now c.args.round c.args.slot c.args.rn past other)
     (stands-unlisted _ (record { start = start; earlier = earlier; past = past; air = _; run = _ }) sent
     (run-kept start earlier _ _ _ _ c.hear_epc.ensures.same (c.send.ensures.plays start earlier past c.args.round c.args.slot at))
-    (c.send.ensures.told start earlier past c.args.round c.args.slot (lines_behind start past) at)
+    (c.send.ensures.told start earlier past c.args.round c.args.slot (lines_to_tell start past) at)
     (other-unlisted sent (ack_reception start c.args.round c.args.slot c.args.rn past) other))
 
 pub operate-requires-clause-underway : goal.operate-requires-clause-underway

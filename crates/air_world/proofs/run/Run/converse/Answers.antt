@@ -1,7 +1,7 @@
 use Rattle.std.proofs.Common.{ap, sym, ◌∙◌, subst}
 use Rattle.access_ops.specs.Operations.{reception_in}
 use Rattle.air_model.specs.Past.{next_record}
-use Rattle.air_model.specs.laws.AwaitedLaws.{silent_awaited}
+use Rattle.air_model.proofs.AwaitedLaws.{silent_awaited}
 use Rattle.air_world.proofs.Slots.{dialogue-heard, received-answer, run-kept}
 use Rattle.tag_machine.specs.Exchange.{AreLegalTags}
 use Rattle.air_world.proofs.run.Run.converse.Goals as goal

@@ -5,7 +5,7 @@ use Rattle.air_model.specs.Past.{Record, next_record}
 use Rattle.air_world.proofs.Operating.{Asked, operations-begin, operations-sent, operations-told, operations-end, operation-unlisted, stands-operated, sends-next, sent-expects, sent-one}
 use Rattle.air_world.proofs.Passing.{listening, passes-nothing, passes-then}
 use Rattle.air_world.proofs.Slots.{stands-same, stands-unlisted}
-use Rattle.air_world.specs.Telling.{Passes, lines_behind}
+use Rattle.air_world.specs.Telling.{PassesOn, lines_to_tell}
 use Rattle.runs.specs.Report.{exchange_lines}
 use Rattle.report_lines.specs.ReportLine.{ReportLine, OpLine}
 use Rattle.air_world.proofs.run.Run.operate.Goals as goal
@@ -13,7 +13,7 @@ use Rattle.air_world.proofs.run.Run.operate.Goals as goal
 pub moves-init : goal.moves-init
 moves-init g c = λ start earlier past epc rn at stands. record {
   past = past;
-  stands = record { at = at; told = passes-nothing g.R.Listener.hears (lines_behind start past) c.args.report.now };
+  stands = record { at = at; told = passes-nothing g.R.Listener.hears (lines_to_tell start past) c.args.report.now };
   are = operations-begin _ _ c.requires.few stands c.requires.begun.turns;
 }
 
@@ -49,12 +49,12 @@ moves-preserved-in-Send g c = λ start earlier past epc rn at stands.
     u.are.moves asked _ next in
     let expects = sent-expects _ asked sent u.are.awaits in
     let made : Record = next_record start c.args.round c.args.slot c.in-Send.command u.past in
-    let lines : List ReportLine = lines_behind start u.past in
-    let told = passes-then (listening g.R.Listener.hears g.R.Listener.failed _ _) _ (lines_behind start past) lines (lines ++ exchange_lines start.link made)
+    let lines : List ReportLine = lines_to_tell start u.past in
+    let told = passes-then (listening g.R.Listener.hears g.R.Listener.failed _ _) _ (lines_to_tell start past) lines (lines ++ exchange_lines start.link made)
     u.stands.told (c.converse.ensures.told start earlier u.past c.args.round c.args.slot lines u.stands.at) in
     record {
       past = _;
-      stands = stands-unlisted (Passes g.R.Listener.hears (lines_behind start past) c.args.report.now c.converse.new.report) (record { start = start; earlier = earlier; past = u.past; air = _; run = _ }) made
+      stands = stands-unlisted (PassesOn g.R.Listener.hears (lines_to_tell start past) c.args.report.now c.converse.new.report) (record { start = start; earlier = earlier; past = u.past; air = _; run = _ }) made
           (c.converse.ensures.plays start earlier u.past c.args.round c.args.slot u.stands.at) told
           (operation-unlisted made c.in-Send.expect c.in-Send.extended expects);
       are = operations-sent _ _ u.past u.are asked
@@ -73,12 +73,12 @@ pub moves-preserved : goal.moves-preserved
 moves-preserved g c = λ start earlier past epc rn at stands.
     let u = c.moves.invariant start earlier past epc rn at stands in
     let next = subst (λ (n : OpNext). IsNextOperation n c.next.new.self c.args.operations.now epc rn u.are.moves) c.in-Result.is (c.next.ensures.next epc rn u.are.moves u.are.goes (c.given.ensures ∙ u.are.last)) in
-    let lines : List ReportLine = lines_behind start u.past in
-    let told = passes-then (listening g.R.Listener.hears g.R.Listener.failed _ _) _ (lines_behind start past) lines (lines ++ OpLine c.args.round c.args.slot c.moves.index c.in-Result.ended ∷ [])
+    let lines : List ReportLine = lines_to_tell start u.past in
+    let told = passes-then (listening g.R.Listener.hears g.R.Listener.failed _ _) _ (lines_to_tell start past) lines (lines ++ OpLine c.args.round c.args.slot c.moves.index c.in-Result.ended ∷ [])
     u.stands.told (c.tell_result.ensures lines) in
     record {
       past = _;
-      stands = stands-operated (Passes g.R.Listener.hears (lines_behind start past) c.args.report.now c.tell_result.new.report) (record { start = start; earlier = earlier; past = u.past; air = _; run = _ })
+      stands = stands-operated (PassesOn g.R.Listener.hears (lines_to_tell start past) c.args.report.now c.tell_result.new.report) (record { start = start; earlier = earlier; past = u.past; air = _; run = _ })
           c.args.round c.args.slot c.moves.index c.in-Result.ended (record { at = u.stands.at; told = told });
       are = operations-told _ _ u.past u.are c.next.new.self c.in-Result.ended next (subst (λ (n : OpNext). turns_left c.args.operations.now c.next.new.self + turns_in n ≤ turns_left c.args.operations.now c.moves.run) c.in-Result.is c.next.ensures.turns);
     }

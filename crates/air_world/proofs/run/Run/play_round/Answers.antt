@@ -4,7 +4,7 @@ use Rattle.air_world.proofs.Passing.{listening, cut-behind, cut-past, ends-cut, 
 use Rattle.air_world.proofs.Rounds.{round-begins, round-expects, slot_played, slot-leads, slot-number, round-goes-on, round-ends, ended-slots, stands-ended, rounds-slot}
 use Rattle.air_world.proofs.Slots.{stands-same, stands-then}
 use Rattle.air_world.specs.Playing.{RunValue}
-use Rattle.air_world.specs.Telling.{lines_behind}
+use Rattle.air_world.specs.Telling.{lines_to_tell}
 use Rattle.q_round.specs.Rounds.{next_command}
 use Rattle.q_round.specs.NextAnswer.{next_of}
 use Rattle.q_round.specs.RoundValue.{IsNextAnswer}
@@ -18,7 +18,7 @@ slots-init g c = λ start earlier past at.
     let sends = ap (λ link. next_command c.args.spec.now link []) (sym (c.link.ensures ∙ at.link)) ∙ sym c.start-round.ensures.query in
     record {
       past = past;
-      stands = record { at = at; told = passes-nothing g.R.Listener.hears (lines_behind start past) c.args.report.now };
+      stands = record { at = at; told = passes-nothing g.R.Listener.hears (lines_to_tell start past) c.args.report.now };
       is = round-begins (record { start = start; operations = c.args.operations.now; spec = c.args.spec.now; before = past })
           (record { number = _; round = _; command = _ }) c.limit.ensures.legal.limit.0 number c.start-round.ensures.stands sends;
     }

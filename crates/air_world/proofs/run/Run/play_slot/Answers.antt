@@ -1,10 +1,10 @@
 use Rattle.std.proofs.Common.{◌≡◌, ℕ, List, refl, sym, ◌∙◌, ap, subst}
 use Rattle.air_model.specs.Past.{Start, Item, next_record, past_behind_command}
-use Rattle.air_model.specs.laws.ReceptionLaws.{silent_reception}
+use Rattle.air_model.proofs.ReceptionLaws.{silent_reception}
 use Rattle.air_world.proofs.Passing.{listening}
 use Rattle.air_world.proofs.Slots.{inventory-heard, rn16-heard, rn16_reception, room-behind, run-kept, slot-unlisted, slot-with, slot-without, stands-same, stands-then, stands-unlisted}
-use Rattle.air_world.specs.Playing.{IsAt, StandsAt}
-use Rattle.air_world.specs.Telling.{Passes, lines_behind}
+use Rattle.air_world.specs.Playing.{RunIsAt, StandsAt}
+use Rattle.air_world.specs.Telling.{PassesOn, lines_to_tell}
 use Rattle.reply_grammar.specs.Reception.{no_stream, no_such_reply}
 use Rattle.reply_grammar.specs.declared.expected.Expect.TheVariants as expects
 use Rattle.runs.specs.History.{outcome_of, slot_reception}
@@ -14,7 +14,7 @@ use Rattle.air_world.proofs.run.Run.play_slot.Goals.{After-send, After-hear_rn16
 use Rattle.air_world.proofs.run.Run.play_slot.Goals as goal
 
 -- what is heard of the stream of the slot command is what the record says
-heard : (g : Over) (c : After-hear_rn16 g) (start : Start) (earlier : ℕ) (past : List Item) → IsAt start earlier past c.args.air.now c.args.self.now
+heard : (g : Over) (c : After-hear_rn16 g) (start : Start) (earlier : ℕ) (past : List Item) → RunIsAt start earlier past c.args.air.now c.args.self.now
     → rn16_reception c.hear_rn16.result ≡ slot_reception start c.args.round c.args.slot c.args.command.now past
 heard g c start earlier past plays =
     let came_as = c.hear_rn16.ensures.received in
@@ -35,13 +35,13 @@ heard g c start earlier past plays =
     c.requires.expects
 
 -- the run behind the slot command
-stands : (g : Over) (c : After-send g) (start : Start) (earlier : ℕ) (past : List Item) → IsAt start earlier past c.args.air.now c.args.self.now
-    → StandsAt (Passes g.R.Listener.hears (lines_behind start past) c.args.report.now c.send.new.report) start earlier
+stands : (g : Over) (c : After-send g) (start : Start) (earlier : ℕ) (past : List Item) → RunIsAt start earlier past c.args.air.now c.args.self.now
+    → StandsAt (PassesOn g.R.Listener.hears (lines_to_tell start past) c.args.report.now c.send.new.report) start earlier
     (past_behind_command start c.args.round c.args.slot c.args.command.now past) c.send.new.air c.send.new.self
 stands g c start earlier past at =
-    stands-unlisted (Passes g.R.Listener.hears (lines_behind start past) c.args.report.now c.send.new.report)
+    stands-unlisted (PassesOn g.R.Listener.hears (lines_to_tell start past) c.args.report.now c.send.new.report)
     (record { start = start; earlier = earlier; past = past; air = _; run = _ }) (next_record start c.args.round c.args.slot c.args.command.now past)
-    (c.send.ensures.plays start earlier past c.args.round c.args.slot at) (c.send.ensures.told start earlier past c.args.round c.args.slot (lines_behind start past) at)
+    (c.send.ensures.plays start earlier past c.args.round c.args.slot at) (c.send.ensures.told start earlier past c.args.round c.args.slot (lines_to_tell start past) at)
     (slot-unlisted (next_record start c.args.round c.args.slot c.args.command.now past) c.requires.expects)
 
 pub returns-in-Silence-clause-stands : goal.returns-in-Silence-clause-stands

@@ -1,10 +1,10 @@
 use Rattle.std.proofs.Common.{◌≡◌, ◌+◌, ℕ, List, ◌++◌, refl, sym, ap, ◌∙◌, subst, arith, append_assoc}
-use Rattle.air_events.specs.Cursor.{IsLeft}
+use Rattle.air_events.specs.Cursor.{AreEntriesLeft}
 use Rattle.air_events.specs.Entries.{entry_at}
 use Rattle.air_model.specs.Past.{Start, Item, exchanges_in, next_record}
 use Rattle.air_world.proofs.Passing.{listening, passes-same, passes-then}
 use Rattle.air_world.proofs.Sending.{Sends, answers-short, cursor-stands, entry-fits, entry-names, sent-behind, sent-plays}
-use Rattle.air_world.specs.Playing.{RunValue, IsAt}
+use Rattle.air_world.specs.Playing.{RunValue, RunIsAt}
 use Rattle.air_world.specs.Saying.{AreShort}
 use Rattle.runs.specs.Report.{exchange_lines, wave_lines}
 use Rattle.runs.specs.Said.{said_lines}
@@ -14,18 +14,18 @@ use Rattle.air_world.proofs.run.Run.send.Goals.{After-next_entry-entry, After-ex
 use Rattle.air_world.proofs.run.Run.send.Goals as goal
 
 -- the number of the exchange
-number : (g : Over) (c : After-next_entry-entry g) (start : Start) (earlier : ℕ) (past : List Item) → IsAt start earlier past c.args.air.now c.args.self.now
+number : (g : Over) (c : After-next_entry-entry g) (start : Start) (earlier : ℕ) (past : List Item) → RunIsAt start earlier past c.args.air.now c.args.self.now
     → c.self.inside.exchanges + 1 ≡ exchanges_in past + 1
 number g c start earlier past plays = ap (λ (run : RunValue). run.exchanges + 1) c.self.view_is ∙ ap (λ n. n + 1) plays.made
 
 -- what is said of it
-entry : (g : Over) (c : After-next_entry-entry g) (start : Start) (earlier : ℕ) (past : List Item) → IsAt start earlier past c.args.air.now c.args.self.now
+entry : (g : Over) (c : After-next_entry-entry g) (start : Start) (earlier : ℕ) (past : List Item) → RunIsAt start earlier past c.args.air.now c.args.self.now
     → c.next_entry-entry.result.now ≡ entry_at start.entries (exchanges_in past + 1)
 entry g c start earlier past plays =
     c.next_entry-entry.ensures.entry _ _ (cursor-stands start earlier past c.args.air.now c.args.self.now _ plays (ap (λ (run : RunValue). run.entries) (sym c.self.view_is))) (number g c start earlier past plays)
     ∙ ap (λ n. entry_at start.entries n) (number g c start earlier past plays)
 
-abbrev sends : (g : Over) (c : After-exchange-got g) (start : Start) (earlier : ℕ) (past : List Item) → IsAt start earlier past c.args.air.now c.args.self.now
+abbrev sends : (g : Over) (c : After-exchange-got g) (start : Start) (earlier : ℕ) (past : List Item) → RunIsAt start earlier past c.args.air.now c.args.self.now
     → c.next_entry-entry.result.now ≡ entry_at start.entries (exchanges_in past + 1) → Sends start earlier past c.args.command.now
 sends g c start earlier past plays is = record {
   air = c.args.air.now;
@@ -62,7 +62,7 @@ returns-clause-plays g c = λ start earlier past round slot plays.
     let at = goal.at.returns-clause-plays g c in
     sent-plays start earlier past round slot c.args.command.now (sends g at.After-exchange-got start earlier past plays (entry g at.After-next_entry-entry start earlier past plays)) _
     (number g at.After-next_entry-entry start earlier past plays) (ap (λ (run : RunValue). run.rounds) c.self.view_is)
-    (subst (λ n. IsLeft c.next_entry-entry.new.self start.entries n) (number g at.After-next_entry-entry start earlier past plays)
+    (subst (λ n. AreEntriesLeft c.next_entry-entry.new.self start.entries n) (number g at.After-next_entry-entry start earlier past plays)
     (c.next_entry-entry.ensures.left _ _ (cursor-stands start earlier past c.args.air.now c.args.self.now _ plays (ap (λ (run : RunValue). run.entries) (sym c.self.view_is)))
     (number g at.After-next_entry-entry start earlier past plays)))
 

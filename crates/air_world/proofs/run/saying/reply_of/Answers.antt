@@ -3,7 +3,7 @@ use Rattle.std.proofs.lemmas.Option.{slice_get_within}
 use Rattle.air_world.proofs.Saying.{answer-at, answer-there, none-there, one-answer, others-more, reply-at, reply-there, short-at}
 use Rattle.air_world.specs.Saying.{AnswersCommand}
 use Rattle.tag_machine.specs.Exchange.{Replied}
-use Rattle.tag_population.specs.Answers.{AnswerValue, answer_of, value_of}
+use Rattle.tag_population.specs.Answers.{AnswerValue, answer_of, answer_value_of}
 use Rattle.air_world.proofs.run.saying.reply_of.Goals as goal
 
 pub unreachable-requires : goal.unreachable-requires
@@ -12,14 +12,14 @@ unreachable-requires c = absurd (none-there c.args.answers.now.items c.loop-plac
 pub read-requires : goal.read-requires
 read-requires c =
     let is = answer-there c.args.answers.now.items c.loop-place.place c.get.result c.in-Some.answer c.get.ensures c.in-Some.is in
-    omega (arith, short-at c.args.answers.now.items c.loop-place.place (value_of c.in-Some.answer) c.requires.short is, c.loop-place.invariant.room, c.requires.room)
+    omega (arith, short-at c.args.answers.now.items c.loop-place.place (answer_value_of c.in-Some.answer) c.requires.short is, c.loop-place.invariant.room, c.requires.room)
 
 pub returns-then-from-tag-clause-reply : goal.returns-then-from-tag-clause-reply
 returns-then-from-tag-clause-reply c = λ replies place replied are all different at tag.
     let answers = c.args.answers.now.items in
     let here = reply-there answers replies c.loop-place.place are (omega arith) in
     let is = answer-there answers c.loop-place.place c.get.result c.in-Some.answer c.get.ensures c.in-Some.is in
-    let same = one-answer (value_of c.in-Some.answer) (answer_of here.0) (sym is ∙ answer-at answers replies c.loop-place.place here.0 are here.1) in
+    let same = one-answer (answer_value_of c.in-Some.answer) (answer_of here.0) (sym is ∙ answer-at answers replies c.loop-place.place here.0 are here.1) in
     let number = sym (ap (λ (a : AnswerValue). a.number) same) ∙ sym c.get-in-loop-place.ensures.value ∙ sym c.from.ensures ∙ c.if-from-tag.true ∙ tag in
     let own : here.0 ≡ replied = different c.loop-place.place place here.0 replied here.1 at number in
     c.read.ensures.reply here.0.sent (reply-at (AnswersCommand c.args.command.now) replies c.loop-place.place here.0 all here.1) (ap (λ (a : AnswerValue). a.bits) same)
@@ -28,7 +28,7 @@ returns-then-from-tag-clause-reply c = λ replies place replied are all differen
 pub loop-place-preserved : goal.loop-place-preserved
 loop-place-preserved c = record {
   room = c.loop-place.invariant.room;
-  others = others-more c.args.answers.now.items c.args.tag c.loop-place.place (value_of c.in-Some.answer)
+  others = others-more c.args.answers.now.items c.args.tag c.loop-place.place (answer_value_of c.in-Some.answer)
       (answer-there c.args.answers.now.items c.loop-place.place c.get.result c.in-Some.answer c.get.ensures c.in-Some.is)
       (λ number. c.if-from-tag.false (c.from.ensures ∙ c.get-in-loop-place.ensures.value ∙ number)) c.loop-place.invariant.others;
 }

@@ -2,7 +2,7 @@ use Rattle.std.proofs.Common.{◌≡◌, [], ◌∷◌, ◌++◌, sym, ◌∙◌
 use Rattle.air_world.proofs.Saying.{answer-there, none-there, one-answer, short-at}
 use Rattle.report_lines.specs.ReportLine.{ReportLine, AnswerLine}
 use Rattle.runs.specs.Said.{answer_line}
-use Rattle.tag_population.specs.Answers.{AnswerValue, answer_of, value_of}
+use Rattle.tag_population.specs.Answers.{AnswerValue, answer_of, answer_value_of}
 use Rattle.air_world.proofs.run.saying.tell_answer.Goals as goal
 
 pub unreachable-requires : goal.unreachable-requires
@@ -11,12 +11,12 @@ unreachable-requires g c = absurd (none-there c.args.answers.now.items c.args.pl
 pub read-reply-requires : goal.read-reply-requires
 read-reply-requires g c =
     let is = answer-there c.args.answers.now.items c.args.place c.get.result c.in-Some.answer c.get.ensures c.in-Some.is in
-    omega (arith, short-at c.args.answers.now.items c.args.place (value_of c.in-Some.answer) c.requires.short is, c.requires.room)
+    omega (arith, short-at c.args.answers.now.items c.args.place (answer_value_of c.in-Some.answer) c.requires.short is, c.requires.room)
 
 pub returns-clause-told : goal.returns-clause-told
 returns-clause-told g c = λ replied before at answers.
     let is = answer-there c.args.answers.now.items c.args.place c.get.result c.in-Some.answer c.get.ensures c.in-Some.is in
-    let same = one-answer (value_of c.in-Some.answer) (answer_of replied) (sym is ∙ at) in
+    let same = one-answer (answer_value_of c.in-Some.answer) (answer_of replied) (sym is ∙ at) in
     let number = c.from.ensures ∙ c.get-2.ensures.value ∙ ap (λ (a : AnswerValue). a.number) same in
     let extended = ap (λ (a : AnswerValue). a.extended) same in
     let reply = c.read-reply.ensures.reply replied.sent answers (ap (λ (a : AnswerValue). a.bits) same) in

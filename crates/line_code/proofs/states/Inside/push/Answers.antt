@@ -3,7 +3,7 @@ use Rattle.std.proofs.lemmas.Bool.{both_ways}
 use Rattle.bit_strings.specs.BitString.{BitString}
 use Rattle.line_code.specs.States.{InsideValue, fits_of}
 use Rattle.line_code.specs.TableFacts.{CodeTable}
-use Rattle.line_code.specs.laws.Reading.{GoesOn, EndsBlock, reads_bad, reads_more, reads_bit, further}
+use Rattle.line_code.specs.laws.Reading.{BlockGoesOn, EndsBlock, reads_bad, reads_more, reads_bit, further}
 use Rattle.line_code.specs.laws.LevelTests.{each_bit, chosen}
 use Rattle.line_code.proofs.states.Inside.push.Goals as goal
 
@@ -35,7 +35,7 @@ returns-then-place-CHIPS-clause-answer g c =
     let Agrees : Bool → Type 0 = λ bit. IsTrue (fits_of (further state z o) bit) ↔ (IsTrue (fits_of state bit) × (slice_get (t.block context bit) inside.place ≡ Some c.args.level)) in
     let Fits : Type 0 = (bit : Bool) × IsTrue (fits_of (further state z o) bit) in
     let fits : Fits = elim c.else-not-zero_fits.either [ inl both ↦ (true, both.1) | inr one ↦ (false, one) ] in
-    let on : GoesOn t state c.args.level =
+    let on : BlockGoesOn t state c.args.level =
     record {
       zero_fits = z;
       one_fits = o;

@@ -5,7 +5,7 @@ use Rattle.tag_machine.specs.Hearing.{tag_value_of}
 use Rattle.tag_machine.specs.Step.{step}
 use Rattle.tag_machine.specs.TagValue.{TagValue}
 use Rattle.tag_machine.specs.laws.Replies.{expect_of}
-use Rattle.probe_lines.specs.Answers.{answer_line, state_line}
+use Rattle.probe_lines.specs.Answers.{probe_answer_line, state_line}
 use Rattle.probe_lines.proofs.HeardAnswers.{answer_heard, two_lines}
 use Rattle.probe_lines.proofs.playing.Rooms.hear.Goals as goal
 
@@ -30,5 +30,5 @@ returns-clause-text g c =
     (λ sent is. c.answers_are_replies.ensures.expected c.args.self.now.command tag.state tag.body sent c.state.ensures.legal is) in
     c.in_ok-push_state_line.ensures
     ∙ ap (λ (t : List ℕ). t ++ (state_line number (tag_value_of c.hear-tag.result.tag) ++ line_feed ∷ [])) (c.in_ok-push_answer_line.ensures outcome.answer answered)
-    ∙ ap (λ (t : TagValue). (text ++ (answer_line number outcome.answer ++ line_feed ∷ [])) ++ (state_line number t ++ line_feed ∷ [])) c.hear-tag.ensures.step.tag
-    ∙ two_lines text (answer_line number outcome.answer) (state_line number outcome.tag)
+    ∙ ap (λ (t : TagValue). (text ++ (probe_answer_line number outcome.answer ++ line_feed ∷ [])) ++ (state_line number t ++ line_feed ∷ [])) c.hear-tag.ensures.step.tag
+    ∙ two_lines text (probe_answer_line number outcome.answer) (state_line number outcome.tag)

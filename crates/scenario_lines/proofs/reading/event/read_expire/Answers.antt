@@ -5,7 +5,7 @@ use Rattle.command_text.specs.CommandText.{flag_word}
 use Rattle.scenario_lines.specs.Spelling.{event_fields}
 use Rattle.scenario_lines.proofs.Events.{expiry_has_flag}
 use Rattle.scenario_lines.proofs.Filled.{number_text}
-use Rattle.command_text.specs.laws.FieldTexts.{flag_is}
+use Rattle.command_text.proofs.FieldTexts.{flag_is}
 use Rattle.scenario_lines.proofs.reading.event.read_expire.Goals as goal
 
 pub returns-in_default-clause-only : goal.returns-in_default-clause-only

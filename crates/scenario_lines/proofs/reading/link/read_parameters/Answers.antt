@@ -4,8 +4,8 @@ use Rattle.std.specs.Fmt.{decimal}
 use Rattle.text_fields.specs.CodeNames.{code_word}
 use Rattle.scenario_lines.specs.Spelling.{flag_text}
 use Rattle.scenario_lines.proofs.Filled.{number_text}
-use Rattle.command_text.specs.laws.FieldTexts.{bit_is, code_is}
-use Rattle.text_fields.specs.laws.FilledFields.{have_7}
+use Rattle.command_text.proofs.FieldTexts.{bit_is, code_is}
+use Rattle.text_fields.proofs.FilledFields.{have_7}
 use Rattle.scenario_lines.proofs.reading.link.read_parameters.Goals as goal
 
 pub returns-in_default-clause-only : goal.returns-in_default-clause-only

@@ -4,8 +4,8 @@ use Rattle.std.specs.Fmt.{decimal}
 use Rattle.command_text.specs.CommandText.{side_word}
 use Rattle.scenario_lines.specs.Names.{rule_text, sel_text}
 use Rattle.scenario_lines.proofs.Filled.{number_text, rule_text_is, sel_text_is}
-use Rattle.command_text.specs.laws.FieldTexts.{side_is}
-use Rattle.text_fields.specs.laws.FilledFields.{have_6}
+use Rattle.command_text.proofs.FieldTexts.{side_is}
+use Rattle.text_fields.proofs.FilledFields.{have_6}
 use Rattle.scenario_lines.proofs.reading.round.read_round.Goals as goal
 
 pub returns-in_default-clause-only : goal.returns-in_default-clause-only

@@ -4,8 +4,8 @@ use Rattle.std.specs.Fmt.{decimal}
 use Rattle.text_fields.specs.Binary.{binary}
 use Rattle.command_text.specs.CommandText.{flag_word, mask_bank_word}
 use Rattle.scenario_lines.proofs.Filled.{bits_are, number_text}
-use Rattle.command_text.specs.laws.FieldTexts.{flag_is, mask_bank_is}
-use Rattle.text_fields.specs.laws.FilledFields.{have_5}
+use Rattle.command_text.proofs.FieldTexts.{flag_is, mask_bank_is}
+use Rattle.text_fields.proofs.FilledFields.{have_5}
 use Rattle.scenario_lines.proofs.reading.select.read_select.Goals as goal
 
 pub returns-in_default-clause-only : goal.returns-in_default-clause-only

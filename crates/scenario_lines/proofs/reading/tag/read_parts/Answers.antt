@@ -4,7 +4,7 @@ use Rattle.text_fields.specs.Hexadecimal.{hex_words}
 use Rattle.value_text.specs.ValueText.{locks_text, password_text}
 use Rattle.scenario_lines.proofs.Filled.{locks_is, password_is, words_is}
 use Rattle.scenario_lines.proofs.Counted.{each_filled}
-use Rattle.text_fields.specs.laws.FilledFields.{have_7}
+use Rattle.text_fields.proofs.FilledFields.{have_7}
 use Rattle.scenario_lines.proofs.TagFields.{same_tag, some_same, tag_fields_are}
 use Rattle.scenario_lines.proofs.reading.tag.read_parts.Goals as goal
 

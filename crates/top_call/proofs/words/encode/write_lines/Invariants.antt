@@ -1,5 +1,5 @@
 use Rattle.std.proofs.Common.{◌≡◌, List, ℕ, length}
-use Rattle.top_call.specs.UnwrittenBytes.{Sends}
+use Rattle.top_call.specs.UnwrittenBytes.{WritesWaiting}
 use Rattle.top_call.proofs.EncodedLines.{EncodesTo}
 use Rattle.top_call.proofs.words.encode.write_lines.Given as goal
 
@@ -8,7 +8,7 @@ abbrev pub invariant-loop-line : goal.invariant-loop-line
 invariant-loop-line g l = record {
   text : List ℕ;
   so_far : EncodesTo l.input l.rest text;
-  sends : Sends text l.page (g.O.Sink.written l.initial.output) (g.O.Sink.written l.output);
+  sends : WritesWaiting text l.page (g.O.Sink.written l.initial.output) (g.O.Sink.written l.output);
   steady : g.O.Sink.faults l.output ≡ g.O.Sink.faults l.initial.output;
 }
 

@@ -4,7 +4,7 @@ use Rattle.checked_lines.specs.FaultWords.{reason_word}
 use Rattle.checked_lines.specs.declared.fault.FaultReason.{FaultReason}
 use Rattle.judge_lines.specs.Judged.{IsJudged}
 use Rattle.judge_lines.specs.LogText.{IsFirstFault, IsLogText}
-use Rattle.judge_lines.specs.VerdictLine.{verdict_line}
+use Rattle.judge_lines.specs.VerdictLine.{line_of_verdict}
 use Rattle.log_verdicts.specs.Log.{LogEntry, LoggedTag}
 use Rattle.log_verdicts.specs.Verdicts.{Verdict}
 use Rattle.text_fields.specs.FaultLine.{fault_line}
@@ -20,7 +20,7 @@ judged_text : HaveVerdicts → (bytes : List ℕ) → ((tag : LoggedTag) × (log
     ⊎ ((number : ℕ) × (fault : FaultReason) × IsFirstFault bytes number fault) → (text : List ℕ) × Defines judge_job bytes text
 judged_text have bytes (inl found) =
     let verdict = have bytes found.0 found.1 found.2 in
-    (verdict_line verdict.0, inl (record { verdict = verdict.0; judged = verdict.1; line = refl }))
+    (line_of_verdict verdict.0, inl (record { verdict = verdict.0; judged = verdict.1; line = refl }))
 judged_text have bytes (inr faulty) =
     (fault_line faulty.0 (reason_word faulty.1), inr (record { number = faulty.0; reason = faulty.1; first = faulty.2; line = refl }))
 

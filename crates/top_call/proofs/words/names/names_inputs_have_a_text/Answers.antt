@@ -6,7 +6,7 @@ use Rattle.checked_lines.specs.FaultWords.{reason_word}
 use Rattle.top_call.specs.Job.{Defines}
 use Rattle.top_call.specs.words.Named.{IsCutAt, names_job}
 use Rattle.checked_lines.specs.declared.fault.FaultReason.TheVariants.{End}
-use Rattle.text_fields.specs.laws.LineLaws.{some_line}
+use Rattle.text_fields.proofs.LineLaws.{some_line}
 use Rattle.top_call.proofs.NamedLines.{BecomeSome, some_names}
 use Rattle.top_call.proofs.words.names.names_inputs_have_a_text.Goals as goal
 

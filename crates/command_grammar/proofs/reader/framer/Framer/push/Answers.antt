@@ -1,7 +1,7 @@
 use Rattle.std.proofs.Common.{[], subst}
 use Rattle.std.specs.Prelude.{Option, ℕ}
 use Rattle.command_grammar.specs.declared.refusal.Reason.{Reason}
-use Rattle.command_grammar.specs.reading.Framing.{Keeps, Goes}
+use Rattle.command_grammar.specs.reading.Framing.{Keeps, TakesBit}
 use Rattle.command_grammar.proofs.SpellingLaws.{stands_refused, judges_refused}
 use Rattle.command_grammar.proofs.reading.Resuming.{refused_last}
 use Rattle.command_grammar.proofs.reader.framer.Framer.push.Goals as goal
@@ -15,9 +15,9 @@ returns-in-Some-clause-judges c = rw (← c.self.view_is) (judges_refused c.self
 pub returns-in-Some-take-clause-stands : goal.returns-in-Some-take-clause-stands
 returns-in-Some-take-clause-stands c = rw (← c.self.view_is) (λ bits keeps.
     let stands = subst (λ (r : Option (ℕ × Reason)). Keeps c.self.inside.state r bits) c.in-None.is keeps in
-    refused_last bits c.args.bit c.self.inside.state.pushed c.in-Some-take.reason stands.count ((subst (λ (r : Option Reason). Goes r c.take.new.self bits c.args.bit) c.in-Some-take.is (c.take.ensures.goes bits stands)) []))
+    refused_last bits c.args.bit c.self.inside.state.pushed c.in-Some-take.reason stands.count ((subst (λ (r : Option Reason). TakesBit r c.take.new.self bits c.args.bit) c.in-Some-take.is (c.take.ensures.goes bits stands)) []))
 
 pub returns-in-Some-take-clause-judges : goal.returns-in-Some-take-clause-judges
 returns-in-Some-take-clause-judges c = rw (← c.self.view_is) (λ bits keeps.
     let stands = subst (λ (r : Option (ℕ × Reason)). Keeps c.self.inside.state r bits) c.in-None.is keeps in
-    refused_last bits c.args.bit c.self.inside.state.pushed c.in-Some-take.reason stands.count ((subst (λ (r : Option Reason). Goes r c.take.new.self bits c.args.bit) c.in-Some-take.is (c.take.ensures.goes bits stands)) []))
+    refused_last bits c.args.bit c.self.inside.state.pushed c.in-Some-take.reason stands.count ((subst (λ (r : Option Reason). TakesBit r c.take.new.self bits c.args.bit) c.in-Some-take.is (c.take.ensures.goes bits stands)) []))

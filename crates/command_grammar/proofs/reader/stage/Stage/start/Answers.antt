@@ -1,12 +1,12 @@
 use Rattle.std.proofs.Common.{◌++◌, ◌∙◌, subst}
 use Rattle.command_grammar.specs.declared.reader.check.Check.{Check}
-use Rattle.command_grammar.specs.reading.CheckNumbers.{Counts}
+use Rattle.command_grammar.specs.reading.CheckNumbers.{IsRegisterOf}
 use Rattle.command_grammar.specs.declared.reader.stage.NumberField.TheVariants as number_fields
 use Rattle.command_grammar.proofs.reading.FieldStages.{number_stage, truncate_start, kill_bits_start, crc5_start, crc16_start, pointer_start, words_start, count_start}
 use Rattle.command_grammar.proofs.reader.stage.Stage.start.Goals as goal
 
 pub returns-in-Short-clause-reads : goal.returns-in-Short-clause-reads
-returns-in-Short-clause-reads c = λ bits rest fields counts. rw c.in-Crc5.is (crc5_start c.from-value.result fields bits rest (c.from-value.ensures ∙ c.value.ensures.register ∙ subst (λ (check : Check). Counts check bits) c.in-Short.is counts))
+returns-in-Short-clause-reads c = λ bits rest fields counts. rw c.in-Crc5.is (crc5_start c.from-value.result fields bits rest (c.from-value.ensures ∙ c.value.ensures.register ∙ subst (λ (check : Check). IsRegisterOf check bits) c.in-Short.is counts))
 
 pub returns-in-Pointer-clause-reads : goal.returns-in-Pointer-clause-reads
 returns-in-Pointer-clause-reads c = λ bits rest fields counts. rw c.in-Pointer.is (pointer_start c.new.result fields rest c.new.ensures.none)
@@ -39,4 +39,4 @@ pub returns-in-Rn-clause-reads : goal.returns-in-Rn-clause-reads
 returns-in-Rn-clause-reads c = λ bits rest fields counts. rw c.in-Rn.is (number_stage number_fields.Rn 16 c.of-in-Rn.result fields rest c.of-in-Rn.ensures.behind c.of-in-Rn.ensures.value)
 
 pub returns-in-Long-check-clause-reads : goal.returns-in-Long-check-clause-reads
-returns-in-Long-check-clause-reads c = λ bits rest fields counts. rw c.in-Crc16.is (crc16_start c.from-value-in-Long-check.result fields bits rest (c.from-value-in-Long-check.ensures ∙ c.value-in-Long-check.ensures bits (subst (λ (check : Check). Counts check bits) c.in-Long-check.is counts)))
+returns-in-Long-check-clause-reads c = λ bits rest fields counts. rw c.in-Crc16.is (crc16_start c.from-value-in-Long-check.result fields bits rest (c.from-value-in-Long-check.ensures ∙ c.value-in-Long-check.ensures bits (subst (λ (check : Check). IsRegisterOf check bits) c.in-Long-check.is counts)))

@@ -1,6 +1,6 @@
 use Rattle.std.proofs.Common.{◌∷◌, ◌++◌, ◌∙◌, [], Bool, List, ap, arith, length-append, subst}
 use Rattle.command_grammar.specs.declared.reader.state.Position.{Position}
-use Rattle.command_grammar.specs.reading.Framing.{IsCounted}
+use Rattle.command_grammar.specs.reading.Framing.{CheckGoesAlong}
 use Rattle.command_grammar.proofs.reading.Resuming.{few_bits, code_goes_on}
 use Rattle.command_grammar.proofs.reader.state.State.take_edge.Goals as goal
 
@@ -11,7 +11,7 @@ pub returns-in-More-clause-goes : goal.returns-in-More-clause-goes
 returns-in-More-clause-goes c = λ bits stands.
     record {
       count = omega (arith, stands.count, length-append bits (c.args.bit ∷ []));
-      counted = ap (λ (l : List Bool). l ++ c.args.bit ∷ []) (subst (λ (position : Position). IsCounted position c.args.self.now.check bits) c.in-Code.is stands.counted) ∙ c.in-More.ensures.keeps;
+      counted = ap (λ (l : List Bool). l ++ c.args.bit ∷ []) (subst (λ (position : Position). CheckGoesAlong position c.args.self.now.check bits) c.in-Code.is stands.counted) ∙ c.in-More.ensures.keeps;
       served = tt;
       reads = code_goes_on c.args.self.now bits c.args.bit c.in-Code.front c.in-More.more c.in-Code.is c.in-More.ensures.says stands;
     }

@@ -8,7 +8,7 @@ use Rattle.std.proofs.lemmas.Fmt.{decimal_injective}
 use Rattle.std.proofs.lemmas.List.Elements.{All-head, All-tail}
 use Rattle.text_fields.specs.Binary.{binary, binary_digit, bits_of_digits, hyphen, or_hyphen}
 use Rattle.text_fields.specs.Hexadecimal.{hex_digit, hex_word, hex_words}
-use Rattle.text_fields.specs.laws.BinaryLaws.{bits_of_digits-map, no_hyphen}
+use Rattle.text_fields.proofs.BinaryLaws.{bits_of_digits-map, no_hyphen}
 
 pub decimal_told : (m n : ℕ) → m < 2 ^ 32 → n < 2 ^ 32 → decimal m ≡ decimal n → m ≡ n
 decimal_told m n small small' same = decimal_injective m n (omega arith) (omega arith) same

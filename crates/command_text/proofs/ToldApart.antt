@@ -10,8 +10,8 @@ use Rattle.text_fields.specs.Binary.{binary_digit}
 use Rattle.text_fields.specs.Hexadecimal.{hex_digit, hex_word}
 use Rattle.text_fields.specs.CodeNames.{code_word}
 use Rattle.text_fields.specs.WordLists.{IsWordList}
-use Rattle.text_fields.specs.laws.ToldApart.{binary_told, decimal_told, hex_word_told, hex_words_told}
-use Rattle.text_fields.specs.laws.NamedFieldLaws.{same_behind}
+use Rattle.text_fields.proofs.ToldApart.{binary_told, decimal_told, hex_word_told, hex_words_told}
+use Rattle.text_fields.proofs.NamedFieldLaws.{same_behind}
 use Rattle.command_fields.specs.declared.choices.Sel.{Sel}
 use Rattle.command_fields.specs.declared.choices.Sel.TheVariants as sels
 use Rattle.command_fields.specs.declared.choices.Side.{Side}

@@ -10,7 +10,7 @@ use Rattle.text_fields.specs.Lines.{IsFieldText, space}
 use Rattle.text_fields.specs.Binary.{binary_digit}
 use Rattle.text_fields.specs.Hexadecimal.{hex_digit, hex_word}
 use Rattle.text_fields.specs.CodeNames.{code_word}
-use Rattle.text_fields.specs.laws.FieldTextLaws.{IsFieldText-binary, IsFieldText-cons as before, IsFieldText-decimal, IsFieldText-hex_word, IsFieldText-hex_words, IsFieldText-one}
+use Rattle.text_fields.proofs.FieldTextLaws.{IsFieldText-binary, IsFieldText-cons as before, IsFieldText-decimal, IsFieldText-hex_word, IsFieldText-hex_words, IsFieldText-one}
 use Rattle.command_fields.specs.declared.choices.Sel.{Sel}
 use Rattle.command_fields.specs.declared.choices.Sel.TheVariants as sels
 use Rattle.command_fields.specs.declared.choices.Side.{Side}

@@ -2,7 +2,7 @@
 -- round and at both of its ends holds of the round; and what holds after each step holds of the run.
 use Rattle.std.proofs.Common.{◌≡◌, ℕ, zero, suc, ◌+◌, ◌≤◌, Bool, true, false, List, [], ◌∷◌, ◌++◌, length, None, refl, ap, sym, ◌∙◌, append_assoc, append-nil, arith}
 use Rattle.std.specs.List.{AllByRecursion}
-use Rattle.access_ops.specs.laws.DialogueLaws.{AwaitsReplies, dialogues-await}
+use Rattle.access_ops.proofs.DialogueLaws.{AwaitsReplies, dialogues-await}
 use Rattle.access_ops.specs.laws.OperationLaws.{Expects}
 use Rattle.access_ops.specs.Operations.{Dialogue, sends, tells, done, dialogue_of}
 use Rattle.access_ops.specs.declared.OpList.{OpList}
@@ -12,13 +12,13 @@ use Rattle.reply_grammar.specs.Reception.{Reception, no_stream, whole_reply, no_
 use Rattle.runs.specs.History.{outcome_of, operation_reception, past_behind_dialogue, dialogue_begun, past_behind_listing, ack_reception, past_behind_ack, past_behind_answer, slot_reception, past_behind_slot, past_behind_turn, past_behind_turns, past_behind_step, past_behind}
 use Rattle.runs.specs.NextItem.{rn_of}
 use Rattle.runs.specs.Report.{item_lines, past_lines}
-use Rattle.runs.specs.laws.PlayedRounds.{SlotOfRun, PlayedRound, number_of, past_behind_played, DoesNext}
+use Rattle.runs.proofs.PlayedRounds.{SlotOfRun, PlayedRound, number_of, past_behind_played, DoesNext}
 use Rattle.command_grammar.specs.declared.commands.Command.{Command}
 use Rattle.command_grammar.specs.declared.commands.Command.TheVariants as commands
 use Rattle.pie_line.specs.Link.{LinkValue}
 use Rattle.q_round.specs.SpecValue.{SpecValue, IsLegalSpec}
-use Rattle.q_round.specs.Rounds.{Turn, query, adjust, rep, quiet, limit, ends, turn_of, is_over, AreOutcomes, slots_of, answer_of, next_command}
-use Rattle.q_round.specs.laws.SlotLaws.{slots-underway, slots-over}
+use Rattle.q_round.specs.Rounds.{Turn, query, adjust, rep, quiet, limit, is_last_turn, turn_of, is_over, AreOutcomes, slots_of, next_of_turn, next_command}
+use Rattle.q_round.proofs.SlotLaws.{slots-underway, slots-over}
 use Rattle.q_round.specs.declared.frame.Outcome.{Outcome}
 use Rattle.q_round.specs.declared.frame.Outcome.TheVariants.{Whole}
 use Rattle.q_round.specs.declared.round.Next.{Next}
@@ -245,7 +245,7 @@ abbrev pub next_at_end : RoundEnd → Next
 next_at_end round_ends.Quiet = nexts.Quiet
 next_at_end round_ends.Limit = nexts.Limit
 
-sends-underway : (spec : SpecValue) (link : LinkValue) (turn : Turn) (command : Command) → answer_of spec link turn ≡ nexts.Send command → ends turn ≡ false
+sends-underway : (spec : SpecValue) (link : LinkValue) (turn : Turn) (command : Command) → next_of_turn spec link turn ≡ nexts.Send command → is_last_turn turn ≡ false
 sends-underway spec link query command is = refl
 sends-underway spec link (adjust updn) command is = refl
 sends-underway spec link rep command is = refl

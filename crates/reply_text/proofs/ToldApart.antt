@@ -4,11 +4,11 @@ use Rattle.std.specs.Prelude.{codes}
 use Rattle.std.specs.Fmt.{decimal}
 use Rattle.std.proofs.lemmas.List.{append_cancel_left}
 use Rattle.text_fields.specs.Hexadecimal.{hex_word}
-use Rattle.text_fields.specs.laws.ToldApart.{decimal_told, hex_word_told}
+use Rattle.text_fields.proofs.ToldApart.{decimal_told, hex_word_told}
 use Rattle.reply_grammar.specs.declared.expected.Expect.{Expect}
 use Rattle.reply_grammar.specs.declared.expected.Expect.TheVariants.{Rn16, Epc, Handle, Same, Words, AnyWords, Header}
 use Rattle.reply_text.specs.ReplyText.{IsExpect, expect_word}
-use Rattle.reply_text.specs.laws.Cuts.{parts_told}
+use Rattle.reply_text.proofs.Cuts.{parts_told}
 
 handle_told : (front : List ℕ) (one other : ℕ) → one < 2 ^ 16 → other < 2 ^ 16 → front ++ hex_word one ≡ front ++ hex_word other → one ≡ other
 handle_told front one other small small' same =

@@ -2,14 +2,14 @@
 use Rattle.std.proofs.Common.{◌≡◌, ℕ, List, length, refl, sym, ◌∙◌}
 use Rattle.text_fields.specs.Lines.{fields_of}
 use Rattle.text_fields.specs.NamedFields.{AreFilled}
-use Rattle.text_fields.specs.laws.NamedFieldLaws.{IsVocabulary, one_fault, same_behind, spelling_is_not_faulty, texts_come_back, texts_filled}
+use Rattle.text_fields.proofs.NamedFieldLaws.{IsVocabulary, one_fault, same_behind, spelling_is_not_faulty, texts_come_back, texts_filled}
 use Rattle.text_fields.specs.declared.fields_fault.FieldsFault.{FieldsFault}
 use Rattle.command_grammar.specs.Commands.{IsLegalCommand}
 use Rattle.command_grammar.specs.declared.commands.Command.{Command}
 use Rattle.command_grammar.specs.declared.commands.Command.TheVariants.{QueryRep, Ack, Query, QueryAdjust, Select, Nak, ReqRn, Read, Write, Kill, Lock, Access, BlockWrite, BlockErase}
 use Rattle.command_text.specs.CommandText.{IsCommandText, IsFaultyCommand, command_field_count, command_fields, command_kind, command_line, command_name, commands, other_command_fields}
-use Rattle.command_text.specs.laws.FieldTexts.{command_texts, other_texts}
-use Rattle.command_text.specs.laws.ToldApart.{command_name_told, others_told}
+use Rattle.command_text.proofs.FieldTexts.{command_texts, other_texts}
+use Rattle.command_text.proofs.ToldApart.{command_name_told, others_told}
 
 -- a command has as many fields as its name says
 counted : (command : Command) → command_field_count (command_kind command) ≡ length (other_command_fields command)

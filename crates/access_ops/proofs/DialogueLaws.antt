@@ -6,7 +6,7 @@ use Rattle.access_ops.specs.declared.op_next.OpNext.TheVariants.{Send, Result, E
 use Rattle.access_ops.specs.declared.op_next.OpResult.{OpResult}
 use Rattle.access_ops.specs.laws.OperationLaws.{Expects}
 use Rattle.access_ops.specs.Operations.{Dialogue, sends, tells, done, denials, operations_from_rn16, is_for, dialogue_of, first_of}
-use Rattle.access_ops.specs.laws.Running.{Runs, commands_of, commands-are, operations_from_rn16-runs}
+use Rattle.access_ops.proofs.Running.{Runs, commands_of, commands-are, operations_from_rn16-runs}
 use Rattle.command_grammar.specs.declared.commands.Command.{Command}
 use Rattle.reply_grammar.specs.Reception.{Reception}
 use Rattle.reply_grammar.specs.declared.expected.Expect.{Expect}

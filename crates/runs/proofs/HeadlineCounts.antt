@@ -2,14 +2,14 @@
 -- for the handle and four for each operation.
 use Rattle.std.proofs.Common.{◌≡◌, ℕ, ◌+◌, ◌-◌, ◌*◌, ◌≤◌, List, [], ◌∷◌, length, arith}
 use Rattle.std.proofs.Math.Nat.{mul-add, mul-one, mul-le-mul, mul-le-mul_left}
-use Rattle.access_ops.specs.laws.DialogueLaws.{SendsAtMost, dialogues-are-few}
+use Rattle.access_ops.proofs.DialogueLaws.{SendsAtMost, dialogues-are-few}
 use Rattle.access_ops.specs.Operations.{Dialogue, dialogue_of}
 use Rattle.access_ops.specs.declared.OpList.{OpList}
 use Rattle.air_model.specs.Past.{Start, Item, past_behind_command, exchanges_in, rounds_in}
 use Rattle.runs.specs.Headline.{AreLegalSteps, most_operating, most_exchanges}
 use Rattle.runs.specs.History.{past_behind_dialogue, ack_reception, past_behind_ack, slot_reception, past_behind_slot, past_behind_round, past_behind_step, past_behind}
-use Rattle.runs.specs.laws.Growth.{RoundsKeepLimit, dialogue-holds, listing-holds, answer-holds, round-holds, few-outcomes}
-use Rattle.runs.specs.laws.PlayedRounds.{SlotOfRun}
+use Rattle.runs.proofs.Growth.{RoundsKeepLimit, dialogue-holds, listing-holds, answer-holds, round-holds, few-outcomes}
+use Rattle.runs.proofs.PlayedRounds.{SlotOfRun}
 use Rattle.command_grammar.specs.declared.commands.Command.{Command}
 use Rattle.command_grammar.specs.declared.commands.Command.TheVariants as commands
 use Rattle.q_round.specs.SpecValue.{SpecValue, IsLegalSpec}

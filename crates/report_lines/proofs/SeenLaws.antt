@@ -5,8 +5,8 @@ use Rattle.std.proofs.lemmas.List.{append-nil, map-append}
 use Rattle.std.proofs.lemmas.List.Elements.{filter-append}
 use Rattle.std.proofs.lemmas.List.Sums.{count_by-le-length, sum_by-append}
 use Rattle.reply_grammar.specs.Pairs.{same_pair}
-use Rattle.reply_grammar.specs.laws.SamePairs.{same_pair-is, same_pair-refl, same_pair-equal}
-use Rattle.report_lines.specs.SeenCounts.{Seen, distinct, seen_among, seen_in, seen_more, count_of}
+use Rattle.reply_grammar.proofs.SamePairs.{same_pair-is, same_pair-refl, same_pair-equal}
+use Rattle.report_lines.specs.SeenCounts.{SeenCount, distinct, seen_among, seen_counts, seen_more, count_of}
 
 split : (b : Bool) → (b ≡ true) ⊎ (b ≡ false)
 split true = inl refl
@@ -186,11 +186,11 @@ more-new pairs [] pair none = refl
 more-new pairs (first ∷ some) pair none =
     elim (split (same_pair pair first)) [
       | inl alike ↦ absurd (let here : has pair (first ∷ some) ≡ true = rw alike refl in cc)
-      | inr unlike ↦ rw unlike (ap (λ (rest : List Seen). seen_among pairs first ∷ rest) (more-new pairs some pair (rw unlike at none)))
+      | inr unlike ↦ rw unlike (ap (λ (rest : List SeenCount). seen_among pairs first ∷ rest) (more-new pairs some pair (rw unlike at none)))
     ]
 
 -- the counts with one pair more
-pub seen_in-more : (pairs : List (ℕ × List ℕ)) (pair : ℕ × List ℕ) → seen_in (pairs ++ pair ∷ []) ≡ seen_more (seen_in pairs) pair
+pub seen_in-more : (pairs : List (ℕ × List ℕ)) (pair : ℕ × List ℕ) → seen_counts (pairs ++ pair ∷ []) ≡ seen_more (seen_counts pairs) pair
 seen_in-more pairs pair =
     elim (split (has pair pairs)) [
       | inl old ↦
@@ -204,8 +204,8 @@ seen_in-more pairs pair =
           λ i. record { pc = pair.0; epc = pair.1; count = once i } in
           ap (λ (some : List (ℕ × List ℕ)). map (seen_among (pairs ++ pair ∷ [])) some) (distinct-new pairs pair new)
           ∙ map-append (seen_among (pairs ++ pair ∷ [])) (distinct pairs) (pair ∷ [])
-          ∙ ap (λ (front : List Seen). front ++ seen_among (pairs ++ pair ∷ []) pair ∷ []) (seen-others pairs (distinct pairs) pair none)
-          ∙ ap (λ (one : Seen). map (seen_among pairs) (distinct pairs) ++ one ∷ []) last
+          ∙ ap (λ (front : List SeenCount). front ++ seen_among (pairs ++ pair ∷ []) pair ∷ []) (seen-others pairs (distinct pairs) pair none)
+          ∙ ap (λ (one : SeenCount). map (seen_among pairs) (distinct pairs) ++ one ∷ []) last
           ∙ sym (more-new pairs (distinct pairs) pair none)
     ]
 
@@ -218,5 +218,5 @@ count-few pairs (first ∷ some) pair =
     ]
 
 -- no pair was listed more often than pairs were listed
-pub count_of-few : (pairs : List (ℕ × List ℕ)) (pair : ℕ × List ℕ) → count_of (seen_in pairs) pair ≤ length pairs
+pub count_of-few : (pairs : List (ℕ × List ℕ)) (pair : ℕ × List ℕ) → count_of (seen_counts pairs) pair ≤ length pairs
 count_of-few pairs pair = count-few pairs (distinct pairs) pair

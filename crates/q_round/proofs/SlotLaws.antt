@@ -3,7 +3,7 @@ use Rattle.std.proofs.Common.{◌≡◌, ◌+◌, true, false, List, [], ◌∷�
 use Rattle.pie_line.specs.Link.{LinkValue}
 use Rattle.q_round.specs.declared.frame.Outcome.{Outcome}
 use Rattle.q_round.specs.laws.RoundLaws.{IsEnd, SendsSlotCommand}
-use Rattle.q_round.specs.Rounds.{Turn, query, adjust, rep, quiet, limit, ends, turn_of, is_over, AreOutcomes, slots_of, answer_of, next_command}
+use Rattle.q_round.specs.Rounds.{Turn, query, adjust, rep, quiet, limit, is_last_turn, turn_of, is_over, AreOutcomes, slots_of, next_of_turn, next_command}
 use Rattle.q_round.specs.SpecValue.{SpecValue}
 
 -- where the round goes on, it gave one command more than it was given outcomes
@@ -16,7 +16,7 @@ pub slots-over : (spec : SpecValue) (outcomes : List Outcome) → AreOutcomes sp
 slots-over spec [] are over = absurd (cc)
 slots-over spec (outcome ∷ before) are over = rw (over, slots-underway spec before are.1 are.0) (omega arith)
 
-answer-slot : (spec : SpecValue) (link : LinkValue) (turn : Turn) → ends turn ≡ false → SendsSlotCommand spec.session (answer_of spec link turn)
+answer-slot : (spec : SpecValue) (link : LinkValue) (turn : Turn) → is_last_turn turn ≡ false → SendsSlotCommand spec.session (next_of_turn spec link turn)
 answer-slot spec link query on = refl
 answer-slot spec link (adjust updn) on = refl
 answer-slot spec link rep on = refl
@@ -27,7 +27,7 @@ answer-slot spec link limit on = absurd (cc)
 pub next-underway : (spec : SpecValue) (link : LinkValue) (outcomes : List Outcome) → is_over spec outcomes ≡ false → SendsSlotCommand spec.session (next_command spec link outcomes)
 next-underway spec link outcomes on = answer-slot spec link (turn_of spec outcomes) on
 
-answer-end : (spec : SpecValue) (link : LinkValue) (turn : Turn) → ends turn ≡ true → IsEnd (answer_of spec link turn)
+answer-end : (spec : SpecValue) (link : LinkValue) (turn : Turn) → is_last_turn turn ≡ true → IsEnd (next_of_turn spec link turn)
 answer-end spec link query over = absurd (cc)
 answer-end spec link (adjust updn) over = absurd (cc)
 answer-end spec link rep over = absurd (cc)

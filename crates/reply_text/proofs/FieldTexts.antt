@@ -4,7 +4,7 @@ use Rattle.std.specs.Prelude.{codes}
 use Rattle.std.specs.Fmt.{decimal}
 use Rattle.text_fields.specs.Lines.{IsFieldText}
 use Rattle.text_fields.specs.Hexadecimal.{hex_word}
-use Rattle.text_fields.specs.laws.FieldTextLaws.{IsFieldText-append as joined, IsFieldText-cons as before, IsFieldText-decimal, IsFieldText-hex_word, IsFieldText-one}
+use Rattle.text_fields.proofs.FieldTextLaws.{IsFieldText-append as joined, IsFieldText-cons as before, IsFieldText-decimal, IsFieldText-hex_word, IsFieldText-one}
 use Rattle.reply_grammar.specs.declared.expected.Expect.{Expect}
 use Rattle.reply_grammar.specs.declared.expected.Expect.TheVariants.{Rn16, Epc, Handle, Same, Words, AnyWords, Header}
 use Rattle.reply_text.specs.ReplyText.{IsExpect, expect_word}

@@ -3,7 +3,7 @@ use Rattle.std.proofs.Common.{◌≡◌, ◌≢◌, ℕ, List, [], ◌∷◌, le
 use Rattle.std.specs.Prelude.{All}
 use Rattle.std.proofs.lemmas.List.Elements.{All-weaker}
 use Rattle.text_fields.specs.Lines.{IsFieldText, Lacks, fields_of, line_with, space}
-use Rattle.text_fields.specs.laws.LineLaws.{fields_come_back}
+use Rattle.text_fields.proofs.LineLaws.{fields_come_back}
 use Rattle.text_fields.specs.NamedFields.{AreFaulty, AreFilled, AreSpelling, HaveShape, NameNothing, SpellBehind, Vocabulary}
 use Rattle.text_fields.specs.declared.fields_fault.FieldsFault.{FieldsFault}
 use Rattle.text_fields.specs.declared.fields_fault.FieldsFault.TheVariants.{Word, Shape, Number}

@@ -8,7 +8,7 @@ use Rattle.line_code.specs.TableFacts.{with_level_flipped}
 use Rattle.line_code.specs.Stream.{Streams, stream_of}
 use Rattle.line_codes.specs.laws.Codes.{code_refuses_flips}
 use Rattle.line_codes.specs.Codes.{table_of}
-use Rattle.line_codes.specs.laws.Preambles.{code_has_one_preamble, code_keeps_preamble}
+use Rattle.line_codes.proofs.Preambles.{code_has_one_preamble, code_keeps_preamble}
 use Rattle.pie_line.specs.Link.{LinkValue}
 use Rattle.reply_grammar.specs.Reception.{no_stream, whole_reply, no_such_reply, reception_from}
 use Rattle.reply_grammar.specs.Table.{AnswersExpected, spelling}
@@ -20,9 +20,9 @@ use Rattle.air_model.specs.Channel.{Given, silence, whole, broken, raw, levels_o
 use Rattle.tag_machine.specs.Exchange.{Replied}
 use Rattle.reply_wire.specs.Received.{IsReceived}
 use Rattle.reply_wire.specs.Receiving.{received_of}
-use Rattle.reply_wire.specs.laws.ReceivedLaws.{same_bits, same_received, received_is}
+use Rattle.reply_wire.proofs.ReceivedLaws.{same_bits, same_received, received_is}
 use Rattle.air_model.specs.Reception.{is_expected, reception_of, has_preamble, reception_with, HoldsOfSent, IsUnmistakable}
-use Rattle.air_model.specs.laws.ReceptionLaws.{expected_answers, levels_least}
+use Rattle.air_model.proofs.ReceptionLaws.{expected_answers, levels_least}
 use Rattle.air_model.specs.declared.got.Got.TheVariants as gots
 
 -- a reply has the preamble that is awaited ..

@@ -11,7 +11,7 @@ use Rattle.line_codes.specs.Codes.{table_of, chips_of}
 use Rattle.reply_grammar.specs.Table.{AnswersExpected}
 use Rattle.reply_grammar.specs.Refusals.{RefusesReply}
 use Rattle.reply_grammar.specs.laws.Passing.{answers_pass}
-use Rattle.reply_grammar.specs.laws.Replies.{one_reply, passes_apart}
+use Rattle.reply_grammar.proofs.Replies.{one_reply, passes_apart}
 use Rattle.reply_grammar.specs.declared.expected.Expect.{Expect}
 use Rattle.reply_grammar.specs.declared.expected.Reply.{Reply}
 use Rattle.reply_grammar.specs.declared.expected.ReplyRefusal.{ReplyRefusal}

@@ -6,9 +6,9 @@ use Rattle.std.proofs.lemmas.List.Elements.{All-cons, All-nil}
 use Rattle.text_fields.specs.Lines.{IsFieldText, fields_of}
 use Rattle.text_fields.specs.Hexadecimal.{hex_byte, hex_digit, hex_word, hex_words}
 use Rattle.text_fields.specs.NamedFields.{AreFilled}
-use Rattle.text_fields.specs.laws.FieldTextLaws.{IsFieldText-cons as before, IsFieldText-hex_byte, IsFieldText-hex_word, IsFieldText-hex_words, IsFieldText-one}
-use Rattle.text_fields.specs.laws.ToldApart.{hex_word_told, hex_words_told}
-use Rattle.text_fields.specs.laws.NamedFieldLaws.{IsVocabulary, one_fault, same_behind, spelling_is_not_faulty, texts_come_back, texts_filled}
+use Rattle.text_fields.proofs.FieldTextLaws.{IsFieldText-cons as before, IsFieldText-hex_byte, IsFieldText-hex_word, IsFieldText-hex_words, IsFieldText-one}
+use Rattle.text_fields.proofs.ToldApart.{hex_word_told, hex_words_told}
+use Rattle.text_fields.proofs.NamedFieldLaws.{IsVocabulary, one_fault, same_behind, spelling_is_not_faulty, texts_come_back, texts_filled}
 use Rattle.text_fields.specs.declared.fields_fault.FieldsFault.{FieldsFault}
 use Rattle.reply_grammar.specs.declared.expected.Reply.{Reply}
 use Rattle.reply_grammar.specs.declared.expected.Reply.TheVariants.{Rn16, Epc, Handle, Words, Header, Error}

@@ -12,8 +12,8 @@ use Rattle.line_codes.specs.laws.Codes.{code_refuses_flips, stream_least, stream
 use Rattle.line_codes.specs.Codes.{table_of}
 use Rattle.pie_line.specs.Link.{LinkValue}
 use Rattle.reply_grammar.specs.Table.{AnswersExpected, FitsBank, IsReply, Suits, handle_of, spelling, suits}
-use Rattle.reply_grammar.specs.laws.Replies.{answers_from}
-use Rattle.reply_grammar.specs.laws.Suiting.{suits-true, spelling-within}
+use Rattle.reply_grammar.proofs.Replies.{answers_from}
+use Rattle.reply_grammar.proofs.Suiting.{suits-true, spelling-within}
 use Rattle.reply_grammar.specs.declared.expected.Expect.{Expect}
 use Rattle.reply_grammar.specs.declared.expected.Expect.TheVariants.{Rn16 as OneRn16, Epc as OneEpc, Handle as OneHandle, Same, Words as SomeWords, AnyWords, Header as OneHeader}
 use Rattle.reply_grammar.specs.declared.expected.Reply.{Reply}
@@ -26,7 +26,7 @@ use Rattle.air_model.specs.declared.got.Got.TheVariants as gots
 use Rattle.tag_machine.specs.Exchange.{Replied}
 use Rattle.reply_wire.specs.Received.{IsReceived}
 use Rattle.reply_wire.specs.Receiving.{received_of}
-use Rattle.reply_wire.specs.laws.ReceivedLaws.{same_received, received_there, received_is}
+use Rattle.reply_wire.proofs.ReceivedLaws.{same_received, received_there, received_is}
 use Rattle.air_model.specs.Reception.{has_handle, is_expected, reception_of, IsGiven, IsReplyFor, IsGivenFor}
 use Rattle.reply_grammar.specs.Reception.{no_stream, whole_reply, no_such_reply, reception_from}
 

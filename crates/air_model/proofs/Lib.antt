@@ -1,0 +1,4 @@
+pub mod AwaitedLaws
+pub mod GivenLaws
+pub mod LastItem
+pub mod ReceptionLaws

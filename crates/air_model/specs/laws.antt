@@ -1,4 +1,0 @@
-pub mod GivenLaws
-pub mod ReceptionLaws
-pub mod AwaitedLaws
-pub mod LastItem

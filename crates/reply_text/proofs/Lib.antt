@@ -1,0 +1,4 @@
+pub mod Cuts
+pub mod FieldTexts
+pub mod ReplyTexts
+pub mod ToldApart
