@@ -8,7 +8,7 @@ mod select_targets;
 mod sels;
 mod updns;
 
-pub(crate) use banks::{BANK_VALUES, bank_bits, bank_of};
+pub(crate) use banks::{BANK_VALUES, bank_bits};
 pub(crate) use m::{M_VALUES, m_bits};
 pub(crate) use mask_banks::{MASK_BANK_VALUES, mask_bank_bits};
 pub(crate) use query_targets::{query_target, query_target_bits};

@@ -1,6 +1,5 @@
 //! Reading a command, bit by bit: its code, then its fields in their order, one stage after another.
 
-mod access;
 mod check;
 mod codes;
 mod decoding;

@@ -1,23 +1,11 @@
 //! MemBank of a Read, Write, BlockWrite or BlockErase (6.3.2.11.3.2).
-ghost use Rattle.std.specs.Prelude.{◌≡◌, [], ◌∷◌};
+ghost use Rattle.std.specs.Prelude.{◌≡◌};
 ghost use Rattle.command_grammar.specs.Commands.{bits_of_bank};
 
 use command_fields::Bank;
 
 /// The values of MemBank, by the number of their two bits.
 pub(crate) const BANK_VALUES: [Bank; 4] = [Bank::Reserved, Bank::Epc, Bank::Tid, Bank::User];
-
-/// MemBank of these two bits.
-pub(crate) fn bank_of(first: bool, second: bool) -> Bank
-    ensures { bits_of_bank result ≡ first ∷ second ∷ [] }
-{
-    match (first, second) {
-        (false, false) => Bank::Reserved,
-        (false, true) => Bank::Epc,
-        (true, false) => Bank::Tid,
-        (true, true) => Bank::User,
-    }
-}
 
 /// The bits of MemBank.
 pub(crate) fn bank_bits(bank: Bank) -> [bool; 2]

@@ -4,7 +4,6 @@ ghost use Rattle.command_grammar.specs.Commands.{IsFinishAnswer, SpellsCommand};
 ghost use Rattle.command_grammar.specs.declared.commands.Command.{Command};
 
 use crate::commands::Command;
-use crate::reader::access::decode_access_to;
 use crate::reader::framer::Framer;
 use crate::refusal::CommandRefusal;
 
@@ -13,18 +12,6 @@ use crate::refusal::CommandRefusal;
 pub fn decode_command_to(bits: &[bool], answer: &mut Result<Command, CommandRefusal>)
     ensures answer { IsFinishAnswer answer.new bits.now }
     ensures only { (command : Command) → SpellsCommand command bits.now → answer.new ≡ Ok command }
-{
-    if decode_access_to(bits, answer) {
-        return;
-    }
-    decode_by_fields_to(bits, answer);
-}
-
-/// Puts in place of another answer the command that these bits are, or why they are none, read field after field. It
-/// stands alone, so that room for a mask and for words is made ready for no other command.
-#[inline(never)]
-fn decode_by_fields_to(bits: &[bool], answer: &mut Result<Command, CommandRefusal>)
-    ensures { IsFinishAnswer answer.new bits.now }
 {
     let mut framer = Framer::new();
     for bit in bits {
