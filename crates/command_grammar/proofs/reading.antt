@@ -1,5 +1,4 @@
 -- What reading does, field by field and bit by bit, and that it is what the spellings of commands say.
-pub mod AccessCommands
 pub mod ChoiceTables
 pub mod CommandFields
 pub mod CommandsReadAgain

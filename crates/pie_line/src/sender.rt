@@ -142,6 +142,7 @@ fn send_symbol<T: FrameTaker>(high: u32, low: u32, frame: &mut Intervals, taker:
         → T.took first frame.new.items taker.new }
     ensures count { T.count taker.new ≤ T.count taker.old + 2 }
 {
-    frame.push_all_reserved(&[high, low]);
+    frame.push_reserved(high);
+    frame.push_reserved(low);
     taker.take_symbol(high, low);
 }

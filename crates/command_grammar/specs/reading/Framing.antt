@@ -2,7 +2,7 @@
 -- come. It keeps no bits but those of a mask and of words; what is pushed behind the first place of refusal changes nothing.
 use Rattle.std.specs.Prelude.{◌≡◌, ℕ, ◌+◌, Bool, List, [], ◌∷◌, ◌++◌, length, Option, Some, None, Result, Err}
 use Rattle.command_grammar.specs.Commands.{IsCommandRefusedAt}
-use Rattle.command_grammar.specs.reading.Readers.{Stop, ◌>>=◌, next_at, all_of, Bad}
+use Rattle.command_grammar.specs.reading.Readers.{Stop, ◌>>=◌, child, none, next_at, all_of, Bad}
 use Rattle.command_grammar.specs.reading.Codes.{bits_of_front, behind_code}
 use Rattle.command_grammar.specs.reading.CommandFields.{command_fields_of, command_of, only_whole, run}
 use Rattle.command_grammar.specs.reading.FieldStages.{stage_from}
@@ -52,11 +52,11 @@ IsSoundPosition (positions.Code front) v = Unit {0}
 IsSoundPosition (positions.Within stage) v = AreFieldsInRange stage v
 IsSoundPosition positions.Whole v = Unit {0}
 
--- the bit ends a run, or is none of a run
-abbrev pub IsEdgePosition : Position → Bool → Type 0
-IsEdgePosition (positions.Code front) bit = Unit {0}
-IsEdgePosition (positions.Within stage) bit = IsEdge stage bit
-IsEdgePosition positions.Whole bit = Unit {0}
+-- the bit ends a run of a field, or is none of a run, or no code goes on with it, or it stands behind a command
+abbrev pub IsAtEdge : Position → Bool → Type 0
+IsAtEdge (positions.Code front) bit = child (behind_code front) bit ≡ none
+IsAtEdge (positions.Within stage) bit = IsEdge stage bit
+IsAtEdge positions.Whole bit = Unit {0}
 
 -- what comes of one bit more: a state that stands for the bits, or a refusal at the bit, whatever follows
 abbrev pub TakesBit : Option Reason → State → List Bool → Bool → Type 0

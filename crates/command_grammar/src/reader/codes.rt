@@ -1,8 +1,5 @@
 //! The code of a command, bit by bit (6.3.2.11, Table 6.18).
-ghost use Rattle.std.specs.Prelude.{◌≡◌, ◌∷◌, ◌++◌, [], List, Bool, IsTrue, IsFalse};
-ghost use Rattle.command_grammar.specs.reading.Readers.{next_at};
-ghost use Rattle.command_grammar.specs.reading.Codes.{IsCodeStep, KeepsCode, behind_code, bits_of_front};
-ghost use Rattle.command_grammar.specs.declared.refusal.Reason.TheVariants as Reason;
+ghost use Rattle.command_grammar.specs.reading.Codes.{IsCodeStep, KeepsCode};
 
 use crate::kinds::CommandKind;
 
@@ -34,27 +31,6 @@ pub(crate) enum CodeStep {
     Is(CommandKind),
     /// No code begins so.
     Refused,
-}
-
-impl CodeFront {
-    /// Takes the next bit where some codes go on with it, and gives whether it did.
-    #[inline(always)]
-    pub(crate) fn take_inside(&mut self, bit: bool) -> bool
-        ensures reads { IsTrue result → (rest : List Bool)
-            → next_at (behind_code self.old) Reason.Code (bit ∷ rest)
-            ≡ next_at (behind_code self.new) Reason.Code rest }
-        ensures keeps { IsTrue result
-            → bits_of_front self.old ++ bit ∷ [] ≡ bits_of_front self.new }
-        ensures same { IsFalse result → self.new ≡ self.old }
-    {
-        match code_step(*self, bit) {
-            CodeStep::More(more) => {
-                *self = more;
-                true
-            }
-            CodeStep::Is(_) | CodeStep::Refused => false,
-        }
-    }
 }
 
 /// The code with its next bit.

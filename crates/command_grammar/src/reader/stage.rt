@@ -225,8 +225,8 @@ impl Stage {
         }
     }
 
-    /// Takes a bit inside a number, a mask or bits that are known, as most bits are, and gives whether it did. The last bit
-    /// of these isn't taken, nor one that differs from the known one, nor one elsewhere.
+    /// Takes a bit inside a number, a mask or bits that are known, as most bits are, or the first one of two or three, and
+    /// gives whether it did. The last bit of these isn't taken, nor one that differs from the known one, nor one elsewhere.
     #[inline(always)]
     pub(crate) fn take_inside(&mut self, bit: bool, fields: &mut Fields) -> bool
         requires { AreFieldsInRange self.old fields.old }
@@ -241,6 +241,14 @@ impl Stage {
             Stage::Number(_, number) => number.take_inside(bit),
             Stage::Known(_, wanted) => wanted.take_known_inside(bit),
             Stage::Mask(behind) => take_mask_inside(behind, bit, fields),
+            Stage::Pair(_, first @ None) => {
+                *first = Some(bit);
+                true
+            }
+            Stage::Triple(_, front @ TripleFront::Nothing) => {
+                *front = TripleFront::One(bit);
+                true
+            }
             Stage::Ebv(_) | Stage::Bit(_) | Stage::Pair(..) | Stage::Triple(..) => false,
         }
     }

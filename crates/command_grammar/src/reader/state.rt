@@ -1,9 +1,9 @@
 //! What was read of a command.
 ghost use Rattle.std.specs.Prelude.{◌≡◌, ◌++◌, ◌∷◌, [], List, Bool, IsTrue, IsFalse, Ok, None};
-ghost use Rattle.command_grammar.specs.Commands.{Judges, IsFinishAnswer, SpellsCommand};
-ghost use Rattle.command_grammar.specs.reading.CommandFields.{run};
+ghost use Rattle.command_grammar.specs.Commands.{Judges, IsFinishAnswer, SpellsCommand, code_of};
+ghost use Rattle.command_grammar.specs.reading.CommandFields.{command_fields_of, run};
 ghost use Rattle.command_grammar.specs.reading.CheckNumbers.{IsRegisterOf, AreServed, check_kept};
-ghost use Rattle.command_grammar.specs.reading.Framing.{StateStandsFor, Keeps, CheckGoesAlong, IsServed, IsEdgePosition, IsSoundPosition, IsOpen, TakesBit, refusal_in, resume};
+ghost use Rattle.command_grammar.specs.reading.Framing.{StateStandsFor, Keeps, CheckGoesAlong, IsServed, IsAtEdge, IsSoundPosition, IsOpen, TakesBit, refusal_in, resume};
 ghost use Rattle.command_grammar.specs.declared.commands.Command.{Command};
 
 use crate::commands::Command;
@@ -71,14 +71,14 @@ impl State {
         self.take_edge(bit)
     }
 
-    /// Takes a bit inside a field or the code, as most bits are, and gives whether it did.
+    /// Takes a bit inside a field, as most bits are, or of the code, and gives whether it did.
     #[inline(always)]
     fn take_inside(&mut self, bit: bool) -> bool
         requires { IsOpen self.old None }
         ensures stands { IsTrue result → (front : List Bool) → StateStandsFor self.old front
             → StateStandsFor self.new (front ++ bit ∷ []) }
         ensures sound { IsTrue result → IsSoundPosition self.new.position self.new.fields }
-        ensures edge { IsFalse result → IsEdgePosition self.old.position bit }
+        ensures edge { IsFalse result → IsAtEdge self.old.position bit }
         ensures same { IsFalse result → self.new ≡ self.old }
     {
         match &mut self.position {
@@ -90,49 +90,64 @@ impl State {
                 self.pushed += 1;
                 true
             }
-            Position::Code(front) => {
-                if !front.take_inside(bit) {
-                    return false;
+            Position::Code(front) => match code_step(*front, bit) {
+                CodeStep::More(more) => {
+                    *front = more;
+                    self.pushed += 1;
+                    true
                 }
-                self.pushed += 1;
-                true
-            }
+                CodeStep::Is(kind) => {
+                    self.pushed += 1;
+                    self.begin_command(kind);
+                    true
+                }
+                CodeStep::Refused => false,
+            },
             Position::Whole => false,
         }
     }
 
     /// Takes one bit more, of those that `take_inside` doesn't take, or says why no command goes on with it.
-    #[inline(never)]
+    #[cold]
     fn take_edge(&mut self, bit: bool) -> Option<Reason>
         requires open { IsOpen self.old None }
-        requires edge { IsEdgePosition self.old.position bit }
+        requires edge { IsAtEdge self.old.position bit }
         ensures goes { (bits : List Bool) → StateStandsFor self.old bits
             → TakesBit result self.new bits bit }
         ensures sound { result ≡ None → IsSoundPosition self.new.position self.new.fields }
     {
-        self.pushed += 1;
         match &mut self.position {
             Position::Within(stage) => {
+                self.pushed += 1;
                 self.check.push(bit);
                 match stage.take(bit, &mut self.fields) {
                     Next::Stay(next) => *stage = next,
                     Next::Done => self.begin(),
                     Next::Refused(reason) => return Some(reason),
                 }
+                None
             }
-            Position::Code(front) => match code_step(*front, bit) {
-                CodeStep::More(more) => *front = more,
-                CodeStep::Is(kind) => {
-                    self.kind = kind;
-                    self.check = Check::of(kind);
-                    self.behind = kind.fields();
-                    self.begin();
-                }
-                CodeStep::Refused => return Some(Reason::Code),
-            },
-            Position::Whole => return Some(Reason::Extra),
+            Position::Code(_) => Some(Reason::Code),
+            Position::Whole => Some(Reason::Extra),
         }
-        None
+    }
+
+    /// The code of this command was read: its first field begins, or it is whole.
+    #[cold]
+    fn begin_command(&mut self, kind: CommandKind)
+        ensures reads { (rest : List Bool)
+            → run (command_fields_of kind) kind self.old.fields (code_of kind ++ rest) rest
+            ≡ resume self.new.kind self.new.position self.new.behind.now self.new.fields
+            (code_of kind ++ rest) rest }
+        ensures counts { CheckGoesAlong self.new.position self.new.check (code_of kind) }
+        ensures serves { IsServed self.new.position self.new.check self.new.behind.now }
+        ensures sound { IsSoundPosition self.new.position self.new.fields }
+        ensures pushed { self.new.pushed ≡ self.old.pushed }
+    {
+        self.kind = kind;
+        self.check = Check::of(kind);
+        self.behind = kind.fields();
+        self.begin();
     }
 
     /// The next field begins, or the command is whole.
