@@ -1,19 +1,4 @@
-//! The commands; and, each in a file of its own, its code and how it is written.
-
-pub(crate) mod access;
-pub(crate) mod ack;
-pub(crate) mod block_erase;
-pub(crate) mod block_write;
-pub(crate) mod kill;
-pub(crate) mod lock;
-pub(crate) mod nak;
-pub(crate) mod query;
-pub(crate) mod query_adjust;
-pub(crate) mod query_rep;
-pub(crate) mod read;
-pub(crate) mod req_rn;
-pub(crate) mod select;
-pub(crate) mod write;
+//! The commands.
 
 use bit_strings::{Action, Code, Count1, Payload, Pointer, QValue, Session};
 use command_fields::{Bank, BlockWords, FlagName, Mask, MaskBank, Sel, Side, UpDn};

@@ -2,11 +2,6 @@
 ghost use Rattle.std.specs.Prelude.{◌≡◌};
 ghost use Rattle.command_grammar.specs.Commands.{code_of};
 
-use crate::commands::{
-    access, ack, block_erase, block_write, kill, lock, nak, query, query_adjust, query_rep, read,
-    req_rn, select, write,
-};
-
 /// Which command it is, as its code says (6.3.2.11, Table 6.18).
 #[derive(Clone, Copy)]
 pub enum CommandKind {
@@ -46,20 +41,20 @@ impl CommandKind {
         ensures { result.now ≡ code_of self }
     {
         match self {
-            CommandKind::QueryRep => query_rep::CODE,
-            CommandKind::Ack => ack::CODE,
-            CommandKind::Query => query::CODE,
-            CommandKind::QueryAdjust => query_adjust::CODE,
-            CommandKind::Select => select::CODE,
-            CommandKind::Nak => nak::CODE,
-            CommandKind::ReqRn => req_rn::CODE,
-            CommandKind::Read => read::CODE,
-            CommandKind::Write => write::CODE,
-            CommandKind::Kill => kill::CODE,
-            CommandKind::Lock => lock::CODE,
-            CommandKind::Access => access::CODE,
-            CommandKind::BlockWrite => block_write::CODE,
-            CommandKind::BlockErase => block_erase::CODE,
+            CommandKind::QueryRep => &[false, false],
+            CommandKind::Ack => &[false, true],
+            CommandKind::Query => &[true, false, false, false],
+            CommandKind::QueryAdjust => &[true, false, false, true],
+            CommandKind::Select => &[true, false, true, false],
+            CommandKind::Nak => &[true, true, false, false, false, false, false, false],
+            CommandKind::ReqRn => &[true, true, false, false, false, false, false, true],
+            CommandKind::Read => &[true, true, false, false, false, false, true, false],
+            CommandKind::Write => &[true, true, false, false, false, false, true, true],
+            CommandKind::Kill => &[true, true, false, false, false, true, false, false],
+            CommandKind::Lock => &[true, true, false, false, false, true, false, true],
+            CommandKind::Access => &[true, true, false, false, false, true, true, false],
+            CommandKind::BlockWrite => &[true, true, false, false, false, true, true, true],
+            CommandKind::BlockErase => &[true, true, false, false, true, false, false, false],
         }
     }
 }

@@ -3,9 +3,13 @@ ghost use Rattle.std.specs.Prelude.{◌≡◌, ◌≤◌, length};
 ghost use Rattle.command_grammar.specs.Commands.{IsLegalCommand, spelling_of, command_room};
 ghost use Rattle.command_grammar.specs.Writing.{Writes};
 
-use crate::commands::{
-    Command, access, ack, block_erase, block_write, kill, lock, nak, query, query_adjust,
-    query_rep, read, req_rn, select, write,
+use crate::choices::{
+    bank_bits, m_bits, mask_bank_bits, query_target_bits, sel_bits, select_target_bits, updn_bits,
+};
+use crate::commands::Command;
+use crate::kinds::CommandKind;
+use crate::writing::{
+    begin, put, put_bits, put_crc5, put_crc16, put_handle, put_pointer, put_word, put_words,
 };
 use bit_strings::Bits;
 
@@ -20,14 +24,20 @@ pub fn encode_command(command: &Command, out: &mut Bits)
     write_command(command, out);
 }
 
-/// Writes the one spelling of a command.
+/// Writes the code of a command and its fields in their order.
 fn write_command(command: &Command, out: &mut Bits)
     requires { command_room ≤ out.old.capacity }
     ensures { Writes command.now out.old out.new }
 {
     match command {
-        Command::QueryRep { session } => query_rep::spell(out, *session),
-        Command::Ack { rn } => ack::spell(out, *rn),
+        Command::QueryRep { session } => {
+            begin(out, CommandKind::QueryRep);
+            put(out, u32::from(session.get()), 2);
+        }
+        Command::Ack { rn } => {
+            begin(out, CommandKind::Ack);
+            put_word(out, *rn);
+        }
         Command::Query {
             dr,
             code,
@@ -36,43 +46,103 @@ fn write_command(command: &Command, out: &mut Bits)
             session,
             target,
             q,
-        } => query::spell(out, *dr, *code, *trext, *sel, *session, *target, *q),
-        Command::QueryAdjust { session, updn } => query_adjust::spell(out, *session, *updn),
+        } => {
+            begin(out, CommandKind::Query);
+            put_bits(out, &[*dr]);
+            put_bits(out, &m_bits(*code));
+            put_bits(out, &[*trext]);
+            put_bits(out, &sel_bits(*sel));
+            put(out, u32::from(session.get()), 2);
+            put_bits(out, &query_target_bits(*target));
+            put(out, u32::from(q.get()), 4);
+            put_crc5(out);
+        }
+        Command::QueryAdjust { session, updn } => {
+            begin(out, CommandKind::QueryAdjust);
+            put(out, u32::from(session.get()), 2);
+            put_bits(out, &updn_bits(*updn));
+        }
         Command::Select {
             target,
             action,
             bank,
             pointer,
             mask,
-        } => select::spell(out, *target, *action, *bank, *pointer, mask),
-        Command::Nak => nak::spell(out),
-        Command::ReqRn { rn } => req_rn::spell(out, *rn),
+        } => {
+            begin(out, CommandKind::Select);
+            put_bits(out, &select_target_bits(*target));
+            put(out, u32::from(action.get()), 3);
+            put_pointer(out, mask_bank_bits(*bank), *pointer);
+            put(out, mask.len(), 8);
+            put_bits(out, mask.as_slice());
+            put_bits(out, &[false]);
+            put_crc16(out);
+        }
+        Command::Nak => begin(out, CommandKind::Nak),
+        Command::ReqRn { rn } => {
+            begin(out, CommandKind::ReqRn);
+            put_handle(out, *rn);
+        }
         Command::Read {
             bank,
             pointer,
             count,
             rn,
-        } => read::spell(out, *bank, *pointer, *count, *rn),
+        } => {
+            begin(out, CommandKind::Read);
+            put_pointer(out, bank_bits(*bank), *pointer);
+            put(out, u32::from(*count), 8);
+            put_handle(out, *rn);
+        }
         Command::Write {
             bank,
             pointer,
             covered,
             rn,
-        } => write::spell(out, *bank, *pointer, *covered, *rn),
-        Command::Kill { covered, rn } => kill::spell(out, *covered, *rn),
-        Command::Lock { payload, rn } => lock::spell(out, *payload, *rn),
-        Command::Access { covered, rn } => access::spell(out, *covered, *rn),
+        } => {
+            begin(out, CommandKind::Write);
+            put_pointer(out, bank_bits(*bank), *pointer);
+            put_word(out, *covered);
+            put_handle(out, *rn);
+        }
+        Command::Kill { covered, rn } => {
+            begin(out, CommandKind::Kill);
+            put_word(out, *covered);
+            put_bits(out, &[false, false, false]);
+            put_handle(out, *rn);
+        }
+        Command::Lock { payload, rn } => {
+            begin(out, CommandKind::Lock);
+            put(out, payload.get(), 20);
+            put_handle(out, *rn);
+        }
+        Command::Access { covered, rn } => {
+            begin(out, CommandKind::Access);
+            put_word(out, *covered);
+            put_handle(out, *rn);
+        }
         Command::BlockWrite {
             bank,
             pointer,
             words,
             rn,
-        } => block_write::spell(out, *bank, *pointer, words, *rn),
+        } => {
+            begin(out, CommandKind::BlockWrite);
+            put_pointer(out, bank_bits(*bank), *pointer);
+            put(out, words.len(), 8);
+            put_words(out, words.as_slice());
+            put_handle(out, *rn);
+        }
         Command::BlockErase {
             bank,
             pointer,
             count,
             rn,
-        } => block_erase::spell(out, *bank, *pointer, *count, *rn),
+        } => {
+            begin(out, CommandKind::BlockErase);
+            put_pointer(out, bank_bits(*bank), *pointer);
+            put(out, u32::from(count.get()), 8);
+            put_handle(out, *rn);
+        }
     }
 }

@@ -5,8 +5,9 @@ ghost use Rattle.bit_strings.specs.Numbers.{field_of};
 ghost use Rattle.bit_strings.specs.Ebv.{ebv_of};
 ghost use Rattle.bit_strings.specs.Words.{bits_of_words};
 ghost use Rattle.gen2_crc.specs.Crc.{crc5_of, crc16_of};
-ghost use Rattle.command_grammar.specs.Commands.{IsWord};
+ghost use Rattle.command_grammar.specs.Commands.{IsWord, code_of};
 
+use crate::kinds::CommandKind;
 use bit_strings::{Bits, Pointer};
 use gen2_crc::{crc5_of_bits, crc16_of_bits};
 
@@ -22,14 +23,14 @@ pub(crate) fn put(out: &mut Bits, value: u32, width: u32)
     out.put_field_reserved(value, width);
 }
 
-/// Writes the code of a command, in place of what stood in `out` (6.3.2.11, Table 6.18).
+/// Writes the code of a command of this kind, in place of what stood in `out`.
 #[inline]
-pub(crate) fn begin_with_code(out: &mut Bits, code: &[bool])
-    requires { length code.now ≤ out.old.capacity }
-    ensures { out.new ≡ record out.old { items = code.now } }
+pub(crate) fn begin(out: &mut Bits, kind: CommandKind)
+    requires { length (code_of kind) ≤ out.old.capacity }
+    ensures { out.new ≡ record out.old { items = code_of kind } }
 {
     out.clear();
-    put_bits(out, code);
+    put_bits(out, kind.code());
 }
 
 /// Adds these bits.
