@@ -8,7 +8,8 @@ use Rattle.bit_strings.specs.Family.{Begins, IsBadAt, IsShortAt}
 use Rattle.command_grammar.specs.declared.commands.Command.{Command}
 use Rattle.command_grammar.specs.declared.refusal.CommandRefusal.{CommandRefusal}
 use Rattle.command_grammar.specs.declared.refusal.CommandRefusal.TheVariants as refusals
-use Rattle.command_grammar.specs.reading.Readers.{Stop, Short, Bad, all_of}
+use Rattle.command_grammar.specs.reading.Readers.{Stop, Short, Bad}
+use Rattle.command_grammar.specs.reading.CommandFields.{all_of}
 use Rattle.command_grammar.specs.reading.Framing.{Keeps}
 use Rattle.command_grammar.specs.declared.reader.state.State.{State}
 use Rattle.command_grammar.specs.Commands.{spelling_of, SpellsCommand, Spellings, IsCommandRefusedAt, IsFinishAnswer}

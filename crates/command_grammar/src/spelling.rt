@@ -25,6 +25,8 @@ pub fn encode_command(command: &Command, out: &mut Bits)
 }
 
 /// Writes the code of a command and its fields in their order.
+// It has an arm a command and doesn't go by `CommandKind::fields`: of the twenty fields with a value fifteen stand in one command
+// alone, so a table by field and command is longer.
 fn write_command(command: &Command, out: &mut Bits)
     requires { command_room ≤ out.old.capacity }
     ensures { Writes command.now out.old out.new }

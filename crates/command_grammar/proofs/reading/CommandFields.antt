@@ -1,5 +1,5 @@
 -- The commands one by one: the fields of each are read in order, and each is read again.
-use Rattle.std.proofs.Common.{◌≡◌, ℕ, zero, suc, ◌^◌, ◌<◌, ◌≤◌, Bool, false, List, [], ◌∷◌, ◌++◌, length, Ok, refl, sym, ap, subst, arith}
+use Rattle.std.proofs.Common.{◌≡◌, ℕ, zero, suc, ◌^◌, ◌<◌, ◌≤◌, Bool, false, List, [], ◌∷◌, ◌++◌, length, refl, sym, ap, subst, arith}
 use Rattle.std.specs.Prelude.{Some, None, ◌==◌}
 use Rattle.std.specs.List.{AllByRecursion}
 use Rattle.std.proofs.lemmas.Bool.Decides.{nat_tests}
@@ -19,8 +19,9 @@ use Rattle.command_fields.specs.declared.choices.Bank.TheVariants as banks
 use Rattle.command_fields.specs.declared.choices.MaskBank.TheVariants as mask_banks
 use Rattle.command_fields.specs.declared.choices.FlagName.TheVariants as flags
 use Rattle.bit_strings.specs.declared.code.Code.TheVariants as lines_of
-use Rattle.command_grammar.specs.Commands.{Part, code_field, code_of, plain_field, named_field, with_crc16, IsWord, bits_of_select_target, bits_of_mask_bank, bits_of_bank}
-use Rattle.command_grammar.specs.reading.Readers.{Reading, ◌>>=◌, reading_bits, reading_number, choice_at, count_at, words_at, ebv_at, kind_values, query_rep_at, ack_at, query_at, query_adjust_at, select_at, req_rn_at, read_at, write_at, kill_at, lock_at, access_at, block_write_at, block_erase_at, fields_at}
+use Rattle.command_grammar.specs.Commands.{Part, code_field, plain_field, named_field, with_crc16, IsWord, bits_of_select_target, bits_of_mask_bank, bits_of_bank}
+use Rattle.command_grammar.specs.reading.Readers.{Reading, ◌>>=◌, reading_bits, reading_number, choice_at, count_at, words_at, ebv_at, kind_values}
+use Rattle.command_grammar.specs.reading.CommandFields.{fields_at}
 use Rattle.command_grammar.proofs.reading.ExactFields.{exact_field}
 use Rattle.command_grammar.proofs.reading.NumberFields.{bit_field, bits_field, count_field, number_field}
 use Rattle.command_grammar.proofs.reading.WordFields.{some_words, words_field}
@@ -67,21 +68,13 @@ words_then count pre k second =
 
 -- ---- the fields of each command
 
-query_rep_reads : ReadsOn (code_field kinds.QueryRep) (λ whole bits. query_rep_at bits)
-unfolding query_rep_at
-query_rep_reads = number_then 2 _ _ (λ session small. reads_whole _ (commands.QueryRep session) (omega arith) refl)
+some_of : (n : ℕ) → (n == 0) ≡ false → 1 ≤ n
+some_of n e = grind (arith, nat_tests)
 
-ack_reads : ReadsOn (code_field kinds.Ack) (λ whole bits. ack_at bits)
-unfolding ack_at
-ack_reads = number_then 16 _ _ (λ rn small. reads_whole _ (commands.Ack rn) small refl)
-
-req_rn_reads : ReadsOn (code_field kinds.ReqRn) (λ whole bits. req_rn_at whole bits)
-unfolding req_rn_at
-req_rn_reads = number_then 16 _ _ (λ rn small. reads_crc16_then _ _ (reads_whole _ (commands.ReqRn rn) small refl))
-
-query_reads : ReadsOn (code_field kinds.Query) (λ whole bits. query_at whole bits)
-unfolding query_at
-query_reads =
+each_reads : (kind : CommandKind) → ReadsOn (code_field kind) (λ whole bits. fields_at kind whole bits)
+each_reads kinds.QueryRep = number_then 2 _ _ (λ session small. reads_whole _ (commands.QueryRep session) (omega arith) refl)
+each_reads kinds.Ack = number_then 16 _ _ (λ rn small. reads_whole _ (commands.Ack rn) small refl)
+each_reads kinds.Query =
     same_then _ bit_field _ false (λ dr.
     same_then _ m_field _ lines_of.Fm0 (λ m.
     same_then _ bit_field _ false (λ trext.
@@ -90,17 +83,11 @@ query_reads =
     same_then _ query_target_field _ side.A (λ target.
     number_then 4 _ _ (λ q small_q.
     reads_crc5_then _ _ (reads_whole _ (commands.Query dr m trext sel session target q) (omega arith, omega arith) refl))))))))
-
-query_adjust_reads : ReadsOn (code_field kinds.QueryAdjust) (λ whole bits. query_adjust_at bits)
-unfolding query_adjust_at
-query_adjust_reads =
+each_reads kinds.QueryAdjust =
     number_then 2 _ _ (λ session small.
     same_then _ updn_field _ updns.Up (λ updn.
     reads_whole _ (commands.QueryAdjust session updn) (omega arith) refl))
-
-select_reads : ReadsOn (code_field kinds.Select) (λ whole bits. select_at whole bits)
-unfolding select_at
-select_reads =
+each_reads kinds.Select =
     same_then _ select_target_field _ flags.Sl (λ target.
     number_then 3 _ _ (λ action small.
     same_then _ mask_bank_field _ mask_banks.Epc (λ bank.
@@ -112,56 +99,34 @@ select_reads =
     (ap (λ n. with_crc16 (code_field kinds.Select ++ named_field reasons.Target (bits_of_select_target target) ++ plain_field (field_of action 3) ++ named_field reasons.Bank (bits_of_mask_bank bank)
     ++ named_field reasons.Ebv (ebv_of pointer) ++ plain_field (field_of n 8) ++ plain_field mask ++ named_field reasons.Truncate (false ∷ []))) wide))))
     (field_of 0 width) (length-field_of 0 width))))))
-
-nak_reads : ReadsOn (code_field kinds.Nak) (λ whole bits. Ok (commands.Nak, bits))
-nak_reads = reads_whole _ commands.Nak tt refl
-
-read_reads : ReadsOn (code_field kinds.Read) (λ whole bits. read_at whole bits)
-unfolding read_at
-read_reads =
+each_reads kinds.Nak = reads_whole _ commands.Nak tt refl
+each_reads kinds.ReqRn = number_then 16 _ _ (λ rn small. reads_crc16_then _ _ (reads_whole _ (commands.ReqRn rn) small refl))
+each_reads kinds.Read =
     same_then _ bank_field _ banks.Epc (λ bank.
     pointer_then _ _ (λ pointer small_pointer.
     number_then 8 _ _ (λ count small.
     number_then 16 _ _ (λ rn small_rn.
     reads_crc16_then _ _ (reads_whole _ (commands.Read bank pointer count rn) (small_pointer, omega arith, small_rn) refl)))))
-
-write_reads : ReadsOn (code_field kinds.Write) (λ whole bits. write_at whole bits)
-unfolding write_at
-write_reads =
+each_reads kinds.Write =
     same_then _ bank_field _ banks.Epc (λ bank.
     pointer_then _ _ (λ pointer small_pointer.
     number_then 16 _ _ (λ covered small.
     number_then 16 _ _ (λ rn small_rn.
     reads_crc16_then _ _ (reads_whole _ (commands.Write bank pointer covered rn) (small_pointer, small, small_rn) refl)))))
-
-kill_reads : ReadsOn (code_field kinds.Kill) (λ whole bits. kill_at whole bits)
-unfolding kill_at
-kill_reads =
+each_reads kinds.Kill =
     number_then 16 _ _ (λ covered small.
     same_then _ (exact_field reasons.KillBits (false ∷ false ∷ false ∷ [])) _ tt (λ zeros.
     number_then 16 _ _ (λ rn small_rn.
     reads_crc16_then _ _ (reads_whole _ (commands.Kill covered rn) (small, small_rn) refl))))
-
-lock_reads : ReadsOn (code_field kinds.Lock) (λ whole bits. lock_at whole bits)
-unfolding lock_at
-lock_reads =
+each_reads kinds.Lock =
     number_then 20 _ _ (λ payload small.
     number_then 16 _ _ (λ rn small_rn.
     reads_crc16_then _ _ (reads_whole _ (commands.Lock payload rn) (small, small_rn) refl)))
-
-access_reads : ReadsOn (code_field kinds.Access) (λ whole bits. access_at whole bits)
-unfolding access_at
-access_reads =
+each_reads kinds.Access =
     number_then 16 _ _ (λ covered small.
     number_then 16 _ _ (λ rn small_rn.
     reads_crc16_then _ _ (reads_whole _ (commands.Access covered rn) (small, small_rn) refl)))
-
-some_of : (n : ℕ) → (n == 0) ≡ false → 1 ≤ n
-some_of n e = grind (arith, nat_tests)
-
-block_write_reads : ReadsOn (code_field kinds.BlockWrite) (λ whole bits. block_write_at whole bits)
-unfolding block_write_at
-block_write_reads =
+each_reads kinds.BlockWrite =
     same_then _ bank_field _ banks.Epc (λ bank.
     pointer_then _ _ (λ pointer small_pointer.
     count_then _ _ (λ count small some.
@@ -171,32 +136,13 @@ block_write_reads =
     reads_crc16_then _ _ (reads_whole _ (commands.BlockWrite bank pointer words rn) (small_pointer, omega arith, omega arith, all, small_rn)
     (ap (λ n. with_crc16 (code_field kinds.BlockWrite ++ plain_field (bits_of_bank bank) ++ named_field reasons.Ebv (ebv_of pointer) ++ named_field reasons.Count (field_of n 8)
     ++ plain_field (bits_of_words words) ++ plain_field (field_of rn 16))) many)))))))
-
-block_erase_reads : ReadsOn (code_field kinds.BlockErase) (λ whole bits. block_erase_at whole bits)
-unfolding block_erase_at
-block_erase_reads =
+each_reads kinds.BlockErase =
     same_then _ bank_field _ banks.Epc (λ bank.
     pointer_then _ _ (λ pointer small_pointer.
     count_then _ _ (λ count small some.
     number_then 16 _ _ (λ rn small_rn.
     let low : 1 ≤ count = some_of count some in
     reads_crc16_then _ _ (reads_whole _ (commands.BlockErase bank pointer count rn) (small_pointer, low, omega arith, small_rn) refl)))))
-
-each_reads : (kind : CommandKind) → ReadsOn (named_field reasons.Code (code_of kind)) (λ whole bits. fields_at kind whole bits)
-each_reads kinds.QueryRep = query_rep_reads
-each_reads kinds.Ack = ack_reads
-each_reads kinds.Query = query_reads
-each_reads kinds.QueryAdjust = query_adjust_reads
-each_reads kinds.Select = select_reads
-each_reads kinds.Nak = nak_reads
-each_reads kinds.ReqRn = req_rn_reads
-each_reads kinds.Read = read_reads
-each_reads kinds.Write = write_reads
-each_reads kinds.Kill = kill_reads
-each_reads kinds.Lock = lock_reads
-each_reads kinds.Access = access_reads
-each_reads kinds.BlockWrite = block_write_reads
-each_reads kinds.BlockErase = block_erase_reads
 
 -- a command, code and fields
 abbrev pub reading : List Bool → List Bool → Reading Command

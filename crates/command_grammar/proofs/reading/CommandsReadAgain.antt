@@ -11,7 +11,8 @@ use Rattle.command_grammar.specs.declared.kinds.CommandKind.{CommandKind}
 use Rattle.command_grammar.specs.declared.kinds.CommandKind.TheVariants as kinds
 use Rattle.command_grammar.specs.declared.refusal.Reason.TheVariants as reasons
 use Rattle.command_grammar.specs.Commands.{Part, code_of, parts_of, IsLegalCommand}
-use Rattle.command_grammar.specs.reading.Readers.{Reading, ◌>>=◌, reading_number, count_at, ebv_at, query_rep_at, ack_at, query_at, query_adjust_at, select_at, req_rn_at, read_at, write_at, kill_at, lock_at, access_at, block_write_at, block_erase_at, fields_at}
+use Rattle.command_grammar.specs.reading.Readers.{Reading, ◌>>=◌, reading_number, count_at, ebv_at}
+use Rattle.command_grammar.specs.reading.CommandFields.{fields_at}
 use Rattle.command_grammar.proofs.reading.ExactFields.{exact_field}
 use Rattle.command_grammar.proofs.reading.NumberFields.{bit_field, bits_field, count_field, number_field}
 use Rattle.command_grammar.proofs.reading.WordFields.{words_field}
@@ -43,7 +44,6 @@ with_code : (kind : CommandKind) (command : Command) (more : List Part) → Goes
 with_code kind command more goes = goes_same [] more kind_field (λ kind whole. fields_at kind.0 whole kind.1) command kind goes
 
 pub goes_command : (command : Command) → IsLegalCommand command → Goes [] (parts_of command) reading command
-unfolding query_rep_at ack_at query_at query_adjust_at select_at req_rn_at read_at write_at kill_at lock_at access_at block_write_at block_erase_at
 goes_command (commands.QueryRep session) legal = with_code kinds.QueryRep _ _ (goes_number 2 _ _ _ _ session (omega arith) (goes_whole _ _))
 goes_command (commands.Ack rn) legal = with_code kinds.Ack _ _ (goes_number 16 _ _ _ _ rn legal (goes_whole _ _))
 goes_command (commands.Query dr m trext sel session target q) legal =

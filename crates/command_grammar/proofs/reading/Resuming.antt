@@ -22,9 +22,9 @@ use Rattle.command_grammar.specs.declared.reader.state.State.{State}
 use Rattle.command_grammar.specs.declared.refusal.Reason.{Reason}
 use Rattle.command_grammar.specs.declared.refusal.Reason.TheVariants as reasons
 use Rattle.command_grammar.specs.Commands.{Spellings, SpellsCommand, IsCommandRefusedAt}
-use Rattle.command_grammar.specs.reading.Readers.{Stop, Short, Bad, Reading, ◌>>=◌, Choice, child, kind_values, m_values, sel_values, query_target_values, updn_values, select_target_values, mask_bank_values, bank_values, bit_at, reading_bits, reading_number, choice_at, exactly_at, count_at, words_at, ebv_at, crc5_at, crc16_at, query_rep_at, ack_at, query_at, query_adjust_at, select_at, req_rn_at, read_at, write_at, kill_at, lock_at, access_at, block_write_at, block_erase_at, fields_at, command_at, all_of, next_at}
+use Rattle.command_grammar.specs.reading.Readers.{Stop, Short, Bad, Reading, ◌>>=◌, Choice, child, kind_values, choice_at, next_at}
 use Rattle.command_grammar.specs.reading.Codes.{behind_code}
-use Rattle.command_grammar.specs.reading.CommandFields.{command_fields_of, command_of, only_whole, run, field_from}
+use Rattle.command_grammar.specs.reading.CommandFields.{command_fields_of, command_of, FieldReader, alone, counted, reader_of, field_then, field_from, command_from, fields_at, command_at, all_of, only_whole, run}
 use Rattle.command_grammar.specs.reading.FieldStages.{number_then, stage_from}
 use Rattle.command_grammar.specs.reading.Framing.{resume, StateStandsFor}
 use Rattle.command_grammar.proofs.reading.FieldRests.{is_fork, fork-at, number-short, mask-short}
@@ -47,22 +47,34 @@ then_two : {A B : Type 0} (r : Reading A) (s : A × List Bool → Reading B) (k 
 then_two (Ok x) s k h g e = then (s x) (k x) (h x) g (e x)
 then_two (Err stop) s k h g e = refl
 
-pub fields_run : (kind : CommandKind) (v : Fields) (whole bits : List Bool) → (fields_at kind whole bits >>= whole_of) ≡ run (command_fields_of kind) kind v whole bits
-unfolding query_rep_at ack_at query_at query_adjust_at select_at req_rn_at read_at write_at kill_at lock_at access_at block_write_at block_erase_at
-fields_run kinds.QueryRep v whole bits = then (reading_number 2 bits) _ _ _ (λ session. refl)
-fields_run kinds.Ack v whole bits = then (reading_number 16 bits) _ _ _ (λ rn. refl)
-fields_run kinds.Query v whole bits = then (bit_at bits) _ _ _ (λ dr. then (choice_at m_values reasons.Code dr.1) _ _ _ (λ m. then (bit_at m.1) _ _ _ (λ trext. then (choice_at sel_values reasons.Code trext.1) _ _ _ (λ sel. then (reading_number 2 sel.1) _ _ _ (λ session. then (choice_at query_target_values reasons.Code session.1) _ _ _ (λ target. then (reading_number 4 target.1) _ _ _ (λ q. then (crc5_at whole q.1) _ _ _ (λ check. refl))))))))
-fields_run kinds.QueryAdjust v whole bits = then (reading_number 2 bits) _ _ _ (λ session. then (choice_at updn_values reasons.UpDn session.1) _ _ _ (λ updn. refl))
-fields_run kinds.Select v whole bits = then (choice_at select_target_values reasons.Target bits) _ _ _ (λ target. then (reading_number 3 target.1) _ _ _ (λ action. then (choice_at mask_bank_values reasons.Bank action.1) _ _ _ (λ bank. then (ebv_at bank.1) _ _ _ (λ pointer. then_two (reading_number 8 pointer.1) (λ count. reading_bits count.0 count.1) _ _ _ (λ count mask. then (exactly_at (false ∷ []) reasons.Truncate mask.1) _ _ _ (λ truncate. then (crc16_at whole truncate.1) _ _ _ (λ check. refl)))))))
-fields_run kinds.Nak v whole bits = refl
-fields_run kinds.ReqRn v whole bits = then (reading_number 16 bits) _ _ _ (λ rn. then (crc16_at whole rn.1) _ _ _ (λ check. refl))
-fields_run kinds.Read v whole bits = then (choice_at bank_values reasons.Code bits) _ _ _ (λ bank. then (ebv_at bank.1) _ _ _ (λ pointer. then (reading_number 8 pointer.1) _ _ _ (λ count. then (reading_number 16 count.1) _ _ _ (λ rn. then (crc16_at whole rn.1) _ _ _ (λ check. refl)))))
-fields_run kinds.Write v whole bits = then (choice_at bank_values reasons.Code bits) _ _ _ (λ bank. then (ebv_at bank.1) _ _ _ (λ pointer. then (reading_number 16 pointer.1) _ _ _ (λ covered. then (reading_number 16 covered.1) _ _ _ (λ rn. then (crc16_at whole rn.1) _ _ _ (λ check. refl)))))
-fields_run kinds.Kill v whole bits = then (reading_number 16 bits) _ _ _ (λ covered. then (exactly_at (false ∷ false ∷ false ∷ []) reasons.KillBits covered.1) _ _ _ (λ zeros. then (reading_number 16 zeros.1) _ _ _ (λ rn. then (crc16_at whole rn.1) _ _ _ (λ check. refl))))
-fields_run kinds.Lock v whole bits = then (reading_number 20 bits) _ _ _ (λ payload. then (reading_number 16 payload.1) _ _ _ (λ rn. then (crc16_at whole rn.1) _ _ _ (λ check. refl)))
-fields_run kinds.Access v whole bits = then (reading_number 16 bits) _ _ _ (λ covered. then (reading_number 16 covered.1) _ _ _ (λ rn. then (crc16_at whole rn.1) _ _ _ (λ check. refl)))
-fields_run kinds.BlockWrite v whole bits = then (choice_at bank_values reasons.Code bits) _ _ _ (λ bank. then (ebv_at bank.1) _ _ _ (λ pointer. then_two (count_at pointer.1) (λ count. words_at count.0 count.1) _ _ _ (λ count words. then (reading_number 16 words.1) _ _ _ (λ rn. then (crc16_at whole rn.1) _ _ _ (λ check. refl)))))
-fields_run kinds.BlockErase v whole bits = then (choice_at bank_values reasons.Code bits) _ _ _ (λ bank. then (ebv_at bank.1) _ _ _ (λ pointer. then (count_at pointer.1) _ _ _ (λ count. then (reading_number 16 count.1) _ _ _ (λ rn. then (crc16_at whole rn.1) _ _ _ (λ check. refl)))))
+field_whole : (reader : FieldReader) (v : Fields) (whole bits : List Bool) (k : Fields × List Bool → Reading Command) (g : Fields × List Bool → Result Command Stop)
+    → ((x : Fields × List Bool) → (k x >>= whole_of) ≡ g x) → (field_then reader v whole bits k >>= whole_of) ≡ (field_then reader v whole bits (λ x. Ok x) >>= g)
+field_whole (alone read set) v whole bits k g e = then (read whole bits) _ _ g (λ x. e (set v x.0, x.1))
+field_whole (counted count read set) v whole bits k g e = then_two (count bits) (λ n. read n.0 n.1) _ _ g (λ n x. e (set v x.0, x.1))
+
+runs : (fields : List Field) (kind : CommandKind) (v : Fields) (whole bits : List Bool) → (command_from fields kind v whole bits >>= whole_of) ≡ run fields kind v whole bits
+runs [] kind v whole bits = refl
+runs (field ∷ behind) kind v whole bits = field_whole (reader_of field) v whole bits _ (λ x. run behind kind x.0 whole x.1) (λ x. runs behind kind x.0 whole x.1)
+
+-- a command has each of its fields read, so it doesn't matter what they were
+from_any : (kind : CommandKind) (v : Fields) (whole bits : List Bool) → fields_at kind whole bits ≡ command_from (command_fields_of kind) kind v whole bits
+from_any kinds.QueryRep v whole bits = refl
+from_any kinds.Ack v whole bits = refl
+from_any kinds.Query v whole bits = refl
+from_any kinds.QueryAdjust v whole bits = refl
+from_any kinds.Select v whole bits = refl
+from_any kinds.Nak v whole bits = refl
+from_any kinds.ReqRn v whole bits = refl
+from_any kinds.Read v whole bits = refl
+from_any kinds.Write v whole bits = refl
+from_any kinds.Kill v whole bits = refl
+from_any kinds.Lock v whole bits = refl
+from_any kinds.Access v whole bits = refl
+from_any kinds.BlockWrite v whole bits = refl
+from_any kinds.BlockErase v whole bits = refl
+
+fields_run : (kind : CommandKind) (v : Fields) (whole bits : List Bool) → (fields_at kind whole bits >>= whole_of) ≡ run (command_fields_of kind) kind v whole bits
+fields_run kind v whole bits = ap (λ (r : Reading Command). r >>= whole_of) (from_any kind v whole bits) ∙ runs (command_fields_of kind) kind v whole bits
 
 -- ---- from no bits on
 

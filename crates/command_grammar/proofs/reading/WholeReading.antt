@@ -7,7 +7,8 @@ use Rattle.bit_strings.specs.Family.{IsShortAt}
 use Rattle.command_grammar.specs.declared.commands.Command.{Command}
 use Rattle.command_grammar.specs.declared.refusal.Reason.{Reason}
 use Rattle.command_grammar.specs.declared.refusal.Reason.TheVariants as reasons
-use Rattle.command_grammar.specs.reading.Readers.{Stop, Short, Bad, Reading, command_at, all_of}
+use Rattle.command_grammar.specs.reading.Readers.{Stop, Short, Bad, Reading}
+use Rattle.command_grammar.specs.reading.CommandFields.{command_at, all_of}
 use Rattle.command_grammar.specs.Commands.{parts_of, spelling_of, IsLegalCommand, SpellsCommand, Spellings, IsInField, IsField, IsCommandRefusedAt}
 use Rattle.command_grammar.proofs.reading.Readers.{bind_ok, bind_err, bind_to, at_first, at_second}
 use Rattle.command_grammar.proofs.reading.FieldsInOrder.{longer_front}

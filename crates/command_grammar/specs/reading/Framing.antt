@@ -2,9 +2,9 @@
 -- come. It keeps no bits but those of a mask and of words; what is pushed behind the first place of refusal changes nothing.
 use Rattle.std.specs.Prelude.{◌≡◌, ℕ, ◌+◌, Bool, List, [], ◌∷◌, ◌++◌, length, Option, Some, None, Result, Err}
 use Rattle.command_grammar.specs.Commands.{IsCommandRefusedAt}
-use Rattle.command_grammar.specs.reading.Readers.{Stop, ◌>>=◌, child, none, next_at, all_of, Bad}
+use Rattle.command_grammar.specs.reading.Readers.{Stop, ◌>>=◌, child, none, next_at, Bad}
 use Rattle.command_grammar.specs.reading.Codes.{bits_of_front, behind_code}
-use Rattle.command_grammar.specs.reading.CommandFields.{command_fields_of, command_of, only_whole, run}
+use Rattle.command_grammar.specs.reading.CommandFields.{command_fields_of, command_of, all_of, only_whole, run}
 use Rattle.command_grammar.specs.reading.FieldStages.{stage_from}
 use Rattle.command_grammar.specs.reading.FieldRanges.{AreFieldsInRange, IsEdge}
 use Rattle.command_grammar.specs.reading.CheckNumbers.{IsRegisterOf, check_kept, AreServed}
