@@ -13,4 +13,4 @@ pub use encode::{
 };
 pub use expected::{Expect, Received, Reply, ReplyRefusal};
 pub use laws::{reply_laws, reply_length, suiting_law};
-pub use reply_words::{EpcWords, ReadWords};
+pub use reply_words::{EpcWords, ReadWords, WordList};
