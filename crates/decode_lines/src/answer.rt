@@ -183,7 +183,10 @@ impl Rooms {
                 code,
                 trext,
                 levels,
-            } => self.answer_stream(*code, *trext, levels, text),
+            } => {
+                levels.copy_to(&mut self.levels);
+                self.answer_levels(*code, *trext, text)
+            }
             Request::Samples {
                 threshold,
                 per_level,
@@ -201,23 +204,6 @@ impl Rooms {
             Request::Sgtin { words } => self.answer_sgtin(words, text),
             Request::Uri { text: uri } => answer_uri(uri, text),
         }
-    }
-
-    /// Adds the bits of a stream of levels, or the place at which it is none.
-    fn answer_stream(
-        &mut self,
-        code: Code,
-        trext: bool,
-        levels: &Digits,
-        text: &mut String,
-    ) -> Result<(), OutOfMemory>
-        requires { length levels.now ≤ MOST_LEVELS }
-        ensures { OnOk result
-            (AddsAnswer (Request.Stream code trext levels.now) (string_bytes text.old)
-            (string_bytes text.new)) }
-    {
-        levels.copy_to(&mut self.levels);
-        self.answer_levels(code, trext, text)
     }
 
     /// Adds the bits of the levels in the room, or the place at which they are no stream.

@@ -11,7 +11,7 @@ abbrev pub RowValue : Type 0
 RowValue = List ℕ × List Key
 
 abbrev pub row_of : Row → RowValue
-row_of row = (row.word.now, row.keys.now)
+row_of row = (row.0.now, row.1.now)
 
 -- the replies of a tag
 abbrev pub reply_rows : List RowValue

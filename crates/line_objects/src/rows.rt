@@ -21,52 +21,25 @@ pub enum LineSet {
 
 /// A word, and the members that stand behind it.
 #[derive(Clone, Copy)]
-struct Row {
-    word: &'static [u8],
-    keys: &'static [Key],
-}
+struct Row(&'static [u8], &'static [Key]);
 
 /// The replies of a tag.
 const REPLY_ROWS: &[Row] = &[
-    Row {
-        word: b"rn16",
-        keys: &[Key::Rn16],
-    },
-    Row {
-        word: b"epc",
-        keys: &[Key::Pc, Key::Epc],
-    },
-    Row {
-        word: b"handle",
-        keys: &[Key::Handle],
-    },
-    Row {
-        word: b"words",
-        keys: &[Key::Words],
-    },
-    Row {
-        word: b"header",
-        keys: &[],
-    },
-    Row {
-        word: b"error",
-        keys: &[Key::Error],
-    },
+    Row(b"rn16", &[Key::Rn16]),
+    Row(b"epc", &[Key::Pc, Key::Epc]),
+    Row(b"handle", &[Key::Handle]),
+    Row(b"words", &[Key::Words]),
+    Row(b"header", &[]),
+    Row(b"error", &[Key::Error]),
 ];
 
 /// The commands (6.3.2.11).
 const COMMAND_ROWS: &[Row] = &[
-    Row {
-        word: b"queryrep",
-        keys: &[Key::Session],
-    },
-    Row {
-        word: b"ack",
-        keys: &[Key::Rn],
-    },
-    Row {
-        word: b"query",
-        keys: &[
+    Row(b"queryrep", &[Key::Session]),
+    Row(b"ack", &[Key::Rn]),
+    Row(
+        b"query",
+        &[
             Key::Dr,
             Key::Code,
             Key::TrExt,
@@ -75,289 +48,123 @@ const COMMAND_ROWS: &[Row] = &[
             Key::Target,
             Key::Q,
         ],
-    },
-    Row {
-        word: b"queryadjust",
-        keys: &[Key::Session, Key::UpDn],
-    },
-    Row {
-        word: b"select",
-        keys: &[Key::Target, Key::Action, Key::Bank, Key::Pointer, Key::Mask],
-    },
-    Row {
-        word: b"nak",
-        keys: &[],
-    },
-    Row {
-        word: b"req_rn",
-        keys: &[Key::Rn],
-    },
-    Row {
-        word: b"read",
-        keys: &[Key::Bank, Key::Ptr, Key::Count, Key::Rn],
-    },
-    Row {
-        word: b"write",
-        keys: &[Key::Bank, Key::Ptr, Key::Covered, Key::Rn],
-    },
-    Row {
-        word: b"kill",
-        keys: &[Key::Covered, Key::Rn],
-    },
-    Row {
-        word: b"lock",
-        keys: &[Key::Payload, Key::Rn],
-    },
-    Row {
-        word: b"access",
-        keys: &[Key::Covered, Key::Rn],
-    },
-    Row {
-        word: b"blockwrite",
-        keys: &[Key::Bank, Key::Ptr, Key::Words, Key::Rn],
-    },
-    Row {
-        word: b"blockerase",
-        keys: &[Key::Bank, Key::Ptr, Key::Count, Key::Rn],
-    },
+    ),
+    Row(b"queryadjust", &[Key::Session, Key::UpDn]),
+    Row(
+        b"select",
+        &[Key::Target, Key::Action, Key::Bank, Key::Pointer, Key::Mask],
+    ),
+    Row(b"nak", &[]),
+    Row(b"req_rn", &[Key::Rn]),
+    Row(b"read", &[Key::Bank, Key::Ptr, Key::Count, Key::Rn]),
+    Row(b"write", &[Key::Bank, Key::Ptr, Key::Covered, Key::Rn]),
+    Row(b"kill", &[Key::Covered, Key::Rn]),
+    Row(b"lock", &[Key::Payload, Key::Rn]),
+    Row(b"access", &[Key::Covered, Key::Rn]),
+    Row(b"blockwrite", &[Key::Bank, Key::Ptr, Key::Words, Key::Rn]),
+    Row(b"blockerase", &[Key::Bank, Key::Ptr, Key::Count, Key::Rn]),
+];
+
+/// What a tag holds that has a handle.
+const HANDLE_KEYS: &[Key] = &[
+    Key::Flags,
+    Key::Session,
+    Key::Q,
+    Key::Handle,
+    Key::Cover,
+    Key::Half,
 ];
 
 /// The states of a tag (6.3.2.4), with the flags and the numbers that stand behind each.
 const STATE_ROWS: &[Row] = &[
-    Row {
-        word: b"ready",
-        keys: &[Key::Flags],
-    },
-    Row {
-        word: b"arbitrate",
-        keys: &[Key::Flags, Key::Session, Key::Q, Key::Slot],
-    },
-    Row {
-        word: b"reply",
-        keys: &[Key::Flags, Key::Session, Key::Q, Key::Rn],
-    },
-    Row {
-        word: b"acknowledged",
-        keys: &[Key::Flags, Key::Session, Key::Q, Key::Rn],
-    },
-    Row {
-        word: b"open",
-        keys: &[
-            Key::Flags,
-            Key::Session,
-            Key::Q,
-            Key::Handle,
-            Key::Cover,
-            Key::Half,
-        ],
-    },
-    Row {
-        word: b"secured",
-        keys: &[
-            Key::Flags,
-            Key::Session,
-            Key::Q,
-            Key::Handle,
-            Key::Cover,
-            Key::Half,
-        ],
-    },
-    Row {
-        word: b"killed",
-        keys: &[Key::Flags],
-    },
-    Row {
-        word: b"off",
-        keys: &[Key::Flags],
-    },
+    Row(b"ready", &[Key::Flags]),
+    Row(b"arbitrate", &[Key::Flags, Key::Session, Key::Q, Key::Slot]),
+    Row(b"reply", &[Key::Flags, Key::Session, Key::Q, Key::Rn]),
+    Row(
+        b"acknowledged",
+        &[Key::Flags, Key::Session, Key::Q, Key::Rn],
+    ),
+    Row(b"open", HANDLE_KEYS),
+    Row(b"secured", HANDLE_KEYS),
+    Row(b"killed", &[Key::Flags]),
+    Row(b"off", &[Key::Flags]),
 ];
 
 /// What a channel gives.
 const GIVEN_ROWS: &[Row] = &[
-    Row {
-        word: b"silence",
-        keys: &[],
-    },
-    Row {
-        word: b"whole",
-        keys: &[Key::Tag],
-    },
-    Row {
-        word: b"broken",
-        keys: &[Key::Tag, Key::Place],
-    },
-    Row {
-        word: b"raw",
-        keys: &[],
-    },
+    Row(b"silence", &[]),
+    Row(b"whole", &[Key::Tag]),
+    Row(b"broken", &[Key::Tag, Key::Place]),
+    Row(b"raw", &[]),
 ];
 
 /// The lines that answer decode lines, without replies and commands.
 const ANSWER_ROWS: &[Row] = &[
-    Row {
-        word: b"bits",
-        keys: &[Key::Bits],
-    },
-    Row {
-        word: b"invalid",
-        keys: &[Key::Place],
-    },
-    Row {
-        word: b"unfinished",
-        keys: &[Key::Place],
-    },
-    Row {
-        word: b"levels",
-        keys: &[Key::Levels],
-    },
-    Row {
-        word: b"mixed",
-        keys: &[Key::Place],
-    },
-    Row {
-        word: b"rest",
-        keys: &[Key::Place],
-    },
-    Row {
-        word: b"sync",
-        keys: &[Key::Tari, Key::RtCal, Key::Bits],
-    },
-    Row {
-        word: b"preamble",
-        keys: &[Key::Tari, Key::RtCal, Key::TrCal, Key::Bits],
-    },
-    Row {
-        word: b"refused",
-        keys: &[Key::Refused],
-    },
-    Row {
-        word: b"short",
-        keys: &[Key::Count],
-    },
-    Row {
-        word: b"name",
-        keys: &[Key::Uri],
-    },
-    Row {
-        word: b"sgtin",
-        keys: &[Key::EpcWords],
-    },
+    Row(b"bits", &[Key::Bits]),
+    Row(b"invalid", &[Key::Place]),
+    Row(b"unfinished", &[Key::Place]),
+    Row(b"levels", &[Key::Levels]),
+    Row(b"mixed", &[Key::Place]),
+    Row(b"rest", &[Key::Place]),
+    Row(b"sync", &[Key::Tari, Key::RtCal, Key::Bits]),
+    Row(b"preamble", &[Key::Tari, Key::RtCal, Key::TrCal, Key::Bits]),
+    Row(b"refused", &[Key::Refused]),
+    Row(b"short", &[Key::Count]),
+    Row(b"name", &[Key::Uri]),
+    Row(b"sgtin", &[Key::EpcWords]),
+];
+
+/// What a line tells of a tag.
+const TAG_KEYS: &[Key] = &[
+    Key::TagNumber,
+    Key::State,
+    Key::Flags,
+    Key::Locks,
+    Key::Reserved,
+    Key::EpcBank,
+    Key::Tid,
+    Key::User,
 ];
 
 /// The lines that tell of a tag at the bench.
 const PROBE_ROWS: &[Row] = &[
-    Row {
-        word: b"answer",
-        keys: &[Key::Line, Key::Preamble, Key::Reply],
-    },
-    Row {
-        word: b"state",
-        keys: &[Key::Line, Key::StateOf],
-    },
-    Row {
-        word: b"tag",
-        keys: &[
-            Key::TagNumber,
-            Key::State,
-            Key::Flags,
-            Key::Locks,
-            Key::Reserved,
-            Key::EpcBank,
-            Key::Tid,
-            Key::User,
-        ],
-    },
-    Row {
-        word: b"done",
-        keys: &[],
-    },
+    Row(b"answer", &[Key::Line, Key::Preamble, Key::Reply]),
+    Row(b"state", &[Key::Line, Key::StateOf]),
+    Row(b"tag", TAG_KEYS),
+    Row(b"done", &[]),
 ];
 
 /// The lines that say whether a trace is audited.
-const AUDIT_ROWS: &[Row] = &[
-    Row {
-        word: b"yes",
-        keys: &[],
-    },
-    Row {
-        word: b"no",
-        keys: &[Key::Line, Key::Reason],
-    },
-];
+const AUDIT_ROWS: &[Row] = &[Row(b"yes", &[]), Row(b"no", &[Key::Line, Key::Reason])];
 
 /// The lines that say what is judged of a log.
 const JUDGE_ROWS: &[Row] = &[
-    Row {
-        word: b"yes",
-        keys: &[],
-    },
-    Row {
-        word: b"profile",
-        keys: &[Key::Line, Key::Wanted, Key::Reply],
-    },
-    Row {
-        word: b"no",
-        keys: &[Key::Line, Key::Wanted, Key::Reply],
-    },
+    Row(b"yes", &[]),
+    Row(b"profile", &[Key::Line, Key::Wanted, Key::Reply]),
+    Row(b"no", &[Key::Line, Key::Wanted, Key::Reply]),
 ];
 
 /// What may stand behind nothing that had to be answered.
-const WANT_ROWS: &[Row] = &[Row {
-    word: b"-",
-    keys: &[Key::Or, Key::OrPreamble, Key::Reply],
-}];
+const WANT_ROWS: &[Row] = &[Row(b"-", &[Key::Or, Key::OrPreamble, Key::Reply])];
 
 /// The lines of a report that says who said what in an exchange.
 const REPORT_ROWS: &[Row] = &[
-    Row {
-        word: b"exchange",
-        keys: &[Key::Exchange, Key::Command],
-    },
-    Row {
-        word: b"missed",
-        keys: &[Key::Exchange, Key::Tag],
-    },
-    Row {
-        word: b"answer",
-        keys: &[Key::Exchange, Key::Tag, Key::Preamble, Key::Reply],
-    },
-    Row {
-        word: b"given",
-        keys: &[Key::Exchange, Key::Given],
-    },
-    Row {
-        word: b"list",
-        keys: &[Key::Round, Key::Slot, Key::Pc, Key::Epc],
-    },
-    Row {
-        word: b"op",
-        keys: &[Key::Round, Key::Slot, Key::Index, Key::Result, Key::Value],
-    },
-    Row {
-        word: b"round",
-        keys: &[Key::Round, Key::End, Key::Slots],
-    },
-    Row {
-        word: b"seen",
-        keys: &[Key::Count, Key::Pc, Key::Epc],
-    },
-    Row {
-        word: b"tag",
-        keys: &[
-            Key::TagNumber,
-            Key::State,
-            Key::Flags,
-            Key::Locks,
-            Key::Reserved,
-            Key::EpcBank,
-            Key::Tid,
-            Key::User,
-        ],
-    },
-    Row {
-        word: b"done",
-        keys: &[],
-    },
+    Row(b"exchange", &[Key::Exchange, Key::Command]),
+    Row(b"missed", &[Key::Exchange, Key::Tag]),
+    Row(
+        b"answer",
+        &[Key::Exchange, Key::Tag, Key::Preamble, Key::Reply],
+    ),
+    Row(b"given", &[Key::Exchange, Key::Given]),
+    Row(b"list", &[Key::Round, Key::Slot, Key::Pc, Key::Epc]),
+    Row(
+        b"op",
+        &[Key::Round, Key::Slot, Key::Index, Key::Result, Key::Value],
+    ),
+    Row(b"round", &[Key::Round, Key::End, Key::Slots]),
+    Row(b"seen", &[Key::Count, Key::Pc, Key::Epc]),
+    Row(b"tag", TAG_KEYS),
+    Row(b"done", &[]),
 ];
 
 /// The members behind a word, by a table, and where that has no such word, these others.
@@ -367,8 +174,8 @@ fn keys_in(rows: &[Row], word: &[u8], others: &'static [Key]) -> &'static [Key]
     match rows {
         [] => others,
         [row, behind @ ..] => {
-            if word == row.word {
-                row.keys
+            if word == row.0 {
+                row.1
             } else {
                 keys_in(behind, word, others)
             }

@@ -1,13 +1,15 @@
 -- Each line has a name or has none, and so becomes some lines.
-use Rattle.std.proofs.Common.{◌≡◌, ◌≢◌, ◌⊎◌, ℕ, ◌/◌, ◌%◌, ◌^◌, ◌<◌, List, [], ◌∷◌, length, refl, sym, ◌∙◌, ap, subst, inl, inr, arith}
-use Rattle.std.specs.Prelude.{All, codes}
+use Rattle.std.proofs.Common.{◌≡◌, ◌≢◌, ◌⊎◌, ℕ, ◌^◌, ◌<◌, List, [], ◌∷◌, length, refl, sym, ◌∙◌, ap, subst, inl, inr, arith}
+use Rattle.std.specs.Prelude.{All, bytes_eq, codes}
 use Rattle.std.specs.List.{flat_map}
-use Rattle.std.proofs.lemmas.Bool.{cases_eq}
-use Rattle.std.proofs.lemmas.Bool.Decides.{nat_tests}
-use Rattle.std.proofs.lemmas.List.Elements.{All-nil, All-cons, All-head, All-tail}
+use Rattle.std.proofs.lemmas.Bool.{cases_Bool}
+use Rattle.std.proofs.lemmas.Bool.Decides.{not_from_Decides}
+use Rattle.std.proofs.lemmas.List.Elements.{All-nil, All-cons, All-head}
+use Rattle.std.proofs.lemmas.Slice.Eq.{bytes_eq-Decides}
 use Rattle.text_fields.specs.Lines.{fields_of}
-use Rattle.text_fields.specs.Hexadecimal.{hex_digit, hex_word, hex_words}
-use Rattle.text_fields.specs.WordLists.{digit_number, word_number, words_of_digits}
+use Rattle.text_fields.specs.Hexadecimal.{hex_word, hex_words}
+use Rattle.text_fields.specs.WordLists.{words_of_digits}
+use Rattle.text_fields.proofs.WordDigits.{words_back, words_small}
 use Rattle.epc_sgtin.specs.SgtinValue.{SgtinValue}
 use Rattle.epc_sgtin.specs.Epc.{IsSgtin}
 use Rattle.epc_sgtin.specs.EpcFaults.{RefusesEpc}
@@ -21,43 +23,10 @@ abbrev pub AreOrRefused : Type 0
 AreOrRefused = (words : List ℕ) → All (λ word. word < 2 ^ 16) words → ((sgtin : SgtinValue) × IsSgtin sgtin words) ⊎ ((fault : EpcFault) × RefusesEpc fault words)
 
 same_list : (xs ys : List ℕ) → (xs ≡ ys) ⊎ (xs ≢ ys)
-same_list [] [] = inl refl
-same_list [] (y ∷ ys) = inr (λ same. cc)
-same_list (x ∷ xs) [] = inr (λ same. cc)
-same_list (x ∷ xs) (y ∷ ys) = elim (cases_eq x y) [
-  | inr differs ↦ inr (λ same. let first : x ≡ y = cc in differs first)
-  | inl first ↦ elim (same_list xs ys) [ inl others ↦ inl (cc) | inr differ ↦ inr (λ same. let others : xs ≡ ys = cc in differ others) ]
+same_list xs ys = elim (cases_Bool (bytes_eq xs ys)) [
+  | inl same ↦ inl ((bytes_eq-Decides xs ys).0 same)
+  | inr other ↦ inr (not_from_Decides (bytes_eq xs ys) (bytes_eq-Decides xs ys) other)
 ]
-
-digit_number-small : (digit : ℕ) → digit_number digit < 16
-digit_number-small digit = grind (arith, nat_tests)
-
-digit_number-digit : (n : ℕ) → n < 16 → digit_number (hex_digit n) ≡ n
-digit_number-digit n small = grind (arith, nat_tests)
-
-word_number-small : (a b c d : ℕ) → word_number a b c d < 2 ^ 16
-word_number-small a b c d = omega (arith, digit_number-small a, digit_number-small b, digit_number-small c, digit_number-small d)
-
--- the number of a word's digits is the word
-word_number-word : (n : ℕ) → n < 2 ^ 16 → word_number (hex_digit (n / 256 / 16)) (hex_digit (n / 256 % 16)) (hex_digit (n % 256 / 16)) (hex_digit (n % 256 % 16)) ≡ n
-word_number-word n small =
-    omega (arith, digit_number-digit (n / 256 / 16) (omega arith), digit_number-digit (n / 256 % 16) (omega arith), digit_number-digit (n % 256 / 16) (omega arith), digit_number-digit (n % 256 % 16) (omega arith))
-
--- the words of the digits of words are these
-words_of_digits-words : (words : List ℕ) → All (λ word. word < 2 ^ 16) words → words_of_digits (flat_map hex_word words) ≡ words
-words_of_digits-words [] small = refl
-words_of_digits-words (word ∷ words) small =
-    let first = word_number-word word (All-head (λ word. word < 2 ^ 16) word words small) in
-    let others = words_of_digits-words words (All-tail (λ word. word < 2 ^ 16) word words small) in
-    cc
-
-words_of_digits-small : (digits : List ℕ) → All (λ word. word < 2 ^ 16) (words_of_digits digits)
-words_of_digits-small [] = All-nil (λ word. word < 2 ^ 16)
-words_of_digits-small (a ∷ []) = All-nil (λ word. word < 2 ^ 16)
-words_of_digits-small (a ∷ b ∷ []) = All-nil (λ word. word < 2 ^ 16)
-words_of_digits-small (a ∷ b ∷ c ∷ []) = All-nil (λ word. word < 2 ^ 16)
-words_of_digits-small (a ∷ b ∷ c ∷ d ∷ digits) =
-    All-cons (λ word. word < 2 ^ 16) (word_number a b c d) (words_of_digits digits) (word_number-small a b c d) (words_of_digits-small digits)
 
 -- six words spell no hyphen
 six_spelled : (words : List ℕ) → length words ≡ 6 → hex_words words ≡ flat_map hex_word words
@@ -65,20 +34,20 @@ six_spelled [] six = absurd (omega arith)
 six_spelled (word ∷ words) six = refl
 
 -- a field is the digits of an SGTIN's words, or of none
-abbrev IsEpc : List ℕ → Type 0
+abbrev pub IsEpc : List ℕ → Type 0
 IsEpc field = (sgtin : SgtinValue) × (words : List ℕ) × IsSgtin sgtin words × (field ≡ hex_words words)
 
 epc_words : AreNotRefused → (field : List ℕ) → (is : IsEpc field) → words_of_digits field ≡ is.1
 epc_words not_refused field is =
     let spelled : field ≡ flat_map hex_word is.1 = is.3 ∙ six_spelled is.1 (six_of not_refused is.0 is.1 is.2) in
-    ap words_of_digits spelled ∙ words_of_digits-words is.1 is.2.sixteens
+    ap words_of_digits spelled ∙ words_back is.1 is.2.sixteens
 
-epc_answer : AreNotRefused → AreOrRefused → (field : List ℕ) → IsEpc field ⊎ (¬ IsEpc field)
+pub epc_answer : AreNotRefused → AreOrRefused → (field : List ℕ) → IsEpc field ⊎ (¬ IsEpc field)
 epc_answer not_refused or_refused field =
     let words = words_of_digits field in
     elim (same_list field (hex_words words)) [
       | inr other ↦ inr (λ is. other (is.3 ∙ ap hex_words (sym (epc_words not_refused field is))))
-      | inl spelled ↦ elim (or_refused words (words_of_digits-small field)) [
+      | inl spelled ↦ elim (or_refused words (words_small field)) [
         | inl found ↦ inl (found.0, words, found.1, spelled)
         | inr refused ↦ inr (λ is. not_refused is.0 words refused.0 (subst (IsSgtin is.0) (sym (epc_words not_refused field is)) is.2) refused.1)
       ]
@@ -89,7 +58,7 @@ abbrev IsPc : List ℕ → Type 0
 IsPc field = (pc : ℕ) × (pc < 2 ^ 16) × (field ≡ hex_word pc)
 
 pc_words : (field : List ℕ) → (is : IsPc field) → words_of_digits field ≡ is.0 ∷ []
-pc_words field is = ap words_of_digits is.2 ∙ words_of_digits-words (is.0 ∷ []) (All-cons (λ word. word < 2 ^ 16) is.0 [] is.1 (All-nil (λ word. word < 2 ^ 16)))
+pc_words field is = ap words_of_digits is.2 ∙ words_back (is.0 ∷ []) (All-cons (λ word. word < 2 ^ 16) is.0 [] is.1 (All-nil (λ word. word < 2 ^ 16)))
 
 pc_of : (field : List ℕ) (words : List ℕ) → words_of_digits field ≡ words → All (λ word. word < 2 ^ 16) words → IsPc field ⊎ (¬ IsPc field)
 pc_of field [] are small = inr (λ is. let none : [] ≡ is.0 ∷ [] = sym are ∙ pc_words field is in cc)
@@ -100,7 +69,7 @@ pc_of field (word ∷ []) are small = elim (same_list field (hex_word word)) [
 ]
 
 pc_answer : (field : List ℕ) → IsPc field ⊎ (¬ IsPc field)
-pc_answer field = pc_of field (words_of_digits field) refl (words_of_digits-small field)
+pc_answer field = pc_of field (words_of_digits field) refl (words_small field)
 
 filled : (field : List ℕ) → (field ≢ []) ⊎ (¬ (field ≢ []))
 filled [] = inr (λ some. some refl)

@@ -1,5 +1,5 @@
 -- What is told to a report of a mode, line by line, comes to its one text.
-use Rattle.std.proofs.Common.{◌≡◌, ◌⊎◌, inl, inr, ℕ, Bool, true, false, List, [], ◌∷◌, ◌++◌, refl, ap, ◌∙◌}
+use Rattle.std.proofs.Common.{◌≡◌, ◌≢◌, ◌⊎◌, inl, inr, ℕ, Bool, true, false, List, [], ◌∷◌, ◌++◌, refl, ap, ◌∙◌}
 use Rattle.std.specs.Prelude.{filter}
 use Rattle.pie_line.specs.Link.{LinkValue}
 use Rattle.wave_dump.specs.Drawing.{DrawingValue}
@@ -9,7 +9,7 @@ use Rattle.report_lines.specs.ReportLine.{ReportLine, text_by}
 use Rattle.report_lines.specs.Spelled.{drawing_after, drawn_line, drawn_text, line_of_mode, mode_behind, new_spelling, text_in, SpellingValue}
 use Rattle.report_lines.specs.TextReport.{text_from}
 use Rattle.report_lines.specs.declared.mode.Mode.{Mode}
-use Rattle.report_lines.specs.declared.mode.Mode.TheVariants.{Plain, Trace, Json, Exchanges, Vcd}
+use Rattle.report_lines.specs.declared.mode.Mode.TheVariants.{Vcd}
 
 abbrev spelling_of : Mode → DrawingValue → SpellingValue
 spelling_of mode drawing = record { mode = mode; dump = drawing }
@@ -27,21 +27,10 @@ kept mode (line ∷ lines) = elim (split (keeps mode line)) [
 ]
 
 -- a mode that is no dump spells each line in the one way
-plain-told : (drawing : DrawingValue) (lines : List ReportLine) → text_from line_of_mode mode_behind (spelling_of Plain drawing) lines ≡ kept_text Plain lines
-plain-told drawing [] = refl
-plain-told drawing (line ∷ lines) = ap (λ (text : List ℕ). kept_line_text Plain line ++ text) (plain-told drawing lines)
-
-trace-told : (drawing : DrawingValue) (lines : List ReportLine) → text_from line_of_mode mode_behind (spelling_of Trace drawing) lines ≡ kept_text Trace lines
-trace-told drawing [] = refl
-trace-told drawing (line ∷ lines) = ap (λ (text : List ℕ). kept_line_text Trace line ++ text) (trace-told drawing lines)
-
-json-told : (drawing : DrawingValue) (lines : List ReportLine) → text_from line_of_mode mode_behind (spelling_of Json drawing) lines ≡ kept_text Json lines
-json-told drawing [] = refl
-json-told drawing (line ∷ lines) = ap (λ (text : List ℕ). kept_line_text Json line ++ text) (json-told drawing lines)
-
-exchanges-told : (drawing : DrawingValue) (lines : List ReportLine) → text_from line_of_mode mode_behind (spelling_of Exchanges drawing) lines ≡ kept_text Exchanges lines
-exchanges-told drawing [] = refl
-exchanges-told drawing (line ∷ lines) = ap (λ (text : List ℕ). kept_line_text Exchanges line ++ text) (exchanges-told drawing lines)
+told : (mode : Mode) (drawing : DrawingValue) (lines : List ReportLine) → mode ≢ Vcd → text_from line_of_mode mode_behind (spelling_of mode drawing) lines ≡ kept_text mode lines
+told Vcd drawing lines other = absurd (other refl)
+told mode drawing [] other = refl
+told mode drawing (line ∷ lines) other = ap (λ (text : List ℕ). kept_line_text mode line ++ text) (told mode drawing lines other)
 
 -- a dump is drawn of all lines
 drawn : (drawing : DrawingValue) (lines : List ReportLine) → text_from line_of_mode mode_behind (spelling_of Vcd drawing) lines ≡ drawn_text drawing (filter (keeps Vcd) lines)
@@ -51,8 +40,5 @@ drawn drawing (line ∷ lines) = ap (λ (text : List ℕ). drawn_line drawing li
 -- what is written of lines that are told is the text of those that the mode keeps
 pub told-in-mode : (mode : Mode) (link : LinkValue) (lines : List ReportLine)
     → text_from line_of_mode mode_behind (new_spelling mode link) lines ≡ text_in mode link (filter (keeps mode) lines)
-told-in-mode Plain link lines = plain-told (record { link = link; dump = new_dump link }) lines ∙ kept Plain lines
-told-in-mode Trace link lines = trace-told (record { link = link; dump = new_dump link }) lines ∙ kept Trace lines
-told-in-mode Json link lines = json-told (record { link = link; dump = new_dump link }) lines ∙ kept Json lines
-told-in-mode Exchanges link lines = exchanges-told (record { link = link; dump = new_dump link }) lines ∙ kept Exchanges lines
 told-in-mode Vcd link lines = drawn (record { link = link; dump = new_dump link }) lines
+told-in-mode mode link lines = told mode (record { link = link; dump = new_dump link }) lines (λ same. cc) ∙ kept mode lines

@@ -1,13 +1,16 @@
 //! The report of a mode, spelled as it is told.
-ghost use Rattle.std.specs.Prelude.{◌≡◌, ◌++◌, IfOk, OnOk};
+ghost use Rattle.std.specs.Prelude.{◌≡◌, ◌++◌, IfOk, OnOk, true};
 ghost use Rattle.std.specs.String.{string_bytes};
+ghost use Rattle.report_lines.specs.Kept.{is_of_exchanges, is_of_trace, keeps};
 ghost use Rattle.report_lines.specs.Line.{line_of};
+ghost use Rattle.report_lines.specs.ReportLine.{ReportLine};
 ghost use Rattle.report_lines.specs.Spelled.{drawing_after, drawn_line, new_spelling};
 
+use crate::json_lines::push_json_line;
 use crate::line::Line;
 use crate::member_texts::MemberTexts;
 use crate::mode::Mode;
-use crate::spelling::{Shared, Spelling};
+use crate::spelling::{Spelling, push_line};
 use bit_strings::OutOfMemory;
 use pie_line::Link;
 use pie_text::KeptIntervals;
@@ -20,7 +23,10 @@ use wave_dump::{Dump, push_head};
 pub struct ModeSpelling {
     mode: Mode,
     dump: Dump,
-    shared: Shared,
+    /// The intervals that were written last, with their text.
+    intervals: KeptIntervals,
+    /// Room for the texts of an object.
+    members: MemberTexts,
 }
 
 impl Model for ModeSpelling {
@@ -40,10 +46,8 @@ impl ModeSpelling {
         Ok(ModeSpelling {
             mode,
             dump,
-            shared: Shared {
-                intervals: KeptIntervals::new(),
-                members: MemberTexts::new(alloc),
-            },
+            intervals: KeptIntervals::new(),
+            members: MemberTexts::new(alloc),
         })
     }
 }
@@ -58,16 +62,51 @@ impl Spelling for ModeSpelling {
     fn spell(&mut self, line: &Line<'_>, text: &mut String) -> Result<(), OutOfMemory> {
         match self.mode {
             Mode::Vcd => draw(&mut self.dump, line, text),
-            mode => mode.push_kept(text, &mut self.shared, line),
+            mode if !mode.keeps(line) => Ok(()),
+            Mode::Json => push_json_line(text, &mut self.members, line),
+            Mode::Plain | Mode::Trace | Mode::Exchanges => push_line(
+                text,
+                &mut self.intervals,
+                line,
+            ),
         }
     }
 
     fn wants_exchanges(&self) -> bool {
-        matches!(self.mode, Mode::Exchanges | Mode::Vcd)
+        self.mode.keeps_exchanges()
     }
 
     fn wants_frames(&self) -> bool {
-        matches!(self.mode, Mode::Trace | Mode::Vcd)
+        self.mode.keeps_frames()
+    }
+}
+
+impl Mode {
+    /// The report of this mode has the lines that a trace alone has.
+    fn keeps_frames(self) -> bool
+        ensures { (line : ReportLine) → is_of_trace line ≡ true → result ≡ keeps self line }
+    {
+        matches!(self, Mode::Trace | Mode::Vcd)
+    }
+
+    /// The report of this mode has the lines that a report of exchanges alone has.
+    fn keeps_exchanges(self) -> bool
+        ensures { (line : ReportLine) → is_of_exchanges line ≡ true → result ≡ keeps self line }
+    {
+        matches!(self, Mode::Exchanges | Mode::Vcd)
+    }
+
+    /// The report of this mode has the line.
+    fn keeps(self, line: &Line<'_>) -> bool
+        ensures { result ≡ keeps self (line_of line.now) }
+    {
+        match line {
+            Line::Blf { .. } | Line::Tx { .. } | Line::Rx { .. } => self.keeps_frames(),
+            Line::Exchange { .. } | Line::Missed { .. } | Line::Answer { .. } | Line::Given(_) => {
+                self.keeps_exchanges()
+            }
+            _ => true,
+        }
     }
 }
 

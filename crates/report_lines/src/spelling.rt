@@ -1,21 +1,18 @@
 //! How lines are spelled.
 ghost use Rattle.std.specs.Prelude.{◌≡◌, ◌++◌, ℕ, List, [], IsFalse, OnOk, true};
 ghost use Rattle.std.specs.String.{string_bytes};
-ghost use Rattle.report_lines.specs.Kept.{is_of_exchanges, is_of_trace, kept_line_text, keeps, line_text_of};
+ghost use Rattle.report_lines.specs.Kept.{is_of_exchanges, is_of_trace};
 ghost use Rattle.report_lines.specs.Line.{line_of};
 ghost use Rattle.report_lines.specs.ReportLine.{ReportLine, report_line_text};
 
 use crate::exchange_lines::{
     push_answer_line, push_exchange_line, push_given_line, push_missed_line,
 };
-use crate::json_lines::push_json_line;
 use crate::line::Line;
 use crate::lines::{
     push_blf_line, push_done_line, push_list_line, push_round_line, push_rx_line, push_seen_line,
     push_tx_line,
 };
-use crate::member_texts::MemberTexts;
-use crate::mode::Mode;
 use crate::results::push_op_line;
 use crate::tags::push_tag_line;
 use bit_strings::OutOfMemory;
@@ -44,13 +41,6 @@ pub trait Spelling {
     fn wants_frames(&self) -> bool
         ensures { IsFalse result → (line : ReportLine) → is_of_trace line ≡ true
             → (text_of self.now line ≡ []) × (behind self.now line ≡ self.now) };
-}
-
-/// What the lines of a report share: the intervals that were written, with their texts, and room for the texts of an object.
-#[derive(Drop)]
-pub(crate) struct Shared {
-    pub(crate) intervals: KeptIntervals,
-    pub(crate) members: MemberTexts,
 }
 
 /// Writes a line of a report, with the texts of intervals that are kept.
@@ -101,76 +91,5 @@ pub fn push_line(
         Line::Seen { count, pc, epc } => push_seen_line(text, count, pc, epc),
         Line::Tag { number, tag } => push_tag_line(text, number, tag),
         Line::Done => push_done_line(text),
-    }
-}
-
-/// A trace alone has this line.
-fn is_of_trace(line: &Line<'_>) -> bool
-    ensures { result ≡ is_of_trace (line_of line.now) }
-{
-    matches!(line, Line::Blf { .. } | Line::Tx { .. } | Line::Rx { .. })
-}
-
-/// A report of exchanges alone has this line.
-fn is_of_exchanges(line: &Line<'_>) -> bool
-    ensures { result ≡ is_of_exchanges (line_of line.now) }
-{
-    matches!(
-        line,
-        Line::Exchange { .. } | Line::Missed { .. } | Line::Answer { .. } | Line::Given(_)
-    )
-}
-
-impl Mode {
-    /// A report of this mode has the line.
-    fn keeps(self, line: &Line<'_>) -> bool
-        ensures { result ≡ keeps self (line_of line.now) }
-    {
-        match self {
-            Mode::Plain | Mode::Json => !is_of_trace(line) && !is_of_exchanges(line),
-            Mode::Trace => !is_of_exchanges(line),
-            Mode::Exchanges => !is_of_trace(line),
-            Mode::Vcd => true,
-        }
-    }
-
-    /// Writes a line that the report of this mode has.
-    fn push_line(
-        self,
-        text: &mut String,
-        shared: &mut Shared,
-        line: &Line<'_>,
-    ) -> Result<(), OutOfMemory>
-        ensures { OnOk result
-            (string_bytes text.new ≡ string_bytes text.old
-            ++ line_text_of self (line_of line.now)) }
-    {
-        match self {
-            Mode::Plain | Mode::Trace | Mode::Exchanges => push_line(
-                text,
-                &mut shared.intervals,
-                line,
-            ),
-            Mode::Json => push_json_line(text, &mut shared.members, line),
-            Mode::Vcd => Ok(()),
-        }
-    }
-
-    /// Writes a line, if the report of this mode has it.
-    pub(crate) fn push_kept(
-        self,
-        text: &mut String,
-        shared: &mut Shared,
-        line: &Line<'_>,
-    ) -> Result<(), OutOfMemory>
-        ensures { OnOk result
-            (string_bytes text.new ≡ string_bytes text.old
-            ++ kept_line_text self (line_of line.now)) }
-    {
-        if self.keeps(line) {
-            self.push_line(text, shared, line)
-        } else {
-            Ok(())
-        }
     }
 }

@@ -7,7 +7,7 @@ use Rattle.line_objects.specs.declared.keys.Key.{Key}
 use Rattle.line_objects.specs.declared.rows.Row.{Row}
 use Rattle.line_objects.proofs.rows.+keys_in.Goals as goal
 
-other_row : (rows : List Row) (word : List ℕ) (others : List Key) (none : Row) → 1 ≤ length rows → bytes_eq word (get_or rows 0 none).word.now ≡ false
+other_row : (rows : List Row) (word : List ℕ) (others : List Key) (none : Row) → 1 ≤ length rows → bytes_eq word (get_or rows 0 none).0.now ≡ false
     → keys_in (map row_of (take (length rows - 1) (drop 1 rows))) word others ≡ keys_in (map row_of rows) word others
 other_row [] word others none some differs = absurd (omega arith)
 other_row (row ∷ rows) word others none some differs =
