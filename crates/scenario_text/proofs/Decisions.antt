@@ -1,7 +1,7 @@
 -- What the lines before a line leave open holds for it, or it doesn't.
-use Rattle.std.proofs.Common.{◌≡◌, ◌≢◌, ◌+◌, ◌<◌, ◌≤◌, ◌⊎◌, ℕ, suc, List, [], ◌∷◌, length, Option, Some, None, refl, ap₂, inl, inr, arith}
-use Rattle.std.proofs.lemmas.Bool.{cases_eq, cases_lt}
+use Rattle.std.proofs.Common.{◌≡◌, ◌≢◌, ◌+◌, ◌<◌, ◌≤◌, ℕ, suc, List, [], ◌∷◌, length, Option, Some, None, refl, inl, inr}
 use Rattle.air_events.specs.declared.Entry.{Entry}
+use Rattle.scenario_lines.proofs.Decisions.{Decided, both, le_decided, number_decided}
 use Rattle.scenario_lines.specs.TagForm.{epc_length}
 use Rattle.scenario_lines.specs.declared.version.Version.{Version}
 use Rattle.scenario_lines.specs.declared.version.Version.TheVariants.{One, Two}
@@ -17,29 +17,14 @@ use Rattle.scenario_text.specs.Draft.{DraftValue, tag_count}
 use Rattle.scenario_text.specs.Standing.{HasRoomForLine, IsOfVersion, MayCopy, MayStand, NamesTag, ScenarioStanding, begun, linked, start, within}
 use Rattle.scenario_text.specs.StepLines.{IsBareRound, steps_of}
 
--- a fact holds, or it doesn't
-abbrev pub Decided : Type 0 → Type 0
-Decided A = A ⊎ (¬ A)
-
-both : {A B : Type 0} → Decided A → Decided B → Decided (A × B)
-both (inl a) (inl b) = inl (a, b)
-both (inl a) (inr never) = inr (λ pair. never pair.1)
-both (inr never) other = inr (λ pair. never pair.0)
-
 -- what has to hold in one case alone
 in_case : {A B : Type 0} → Decided A → Decided B → Decided (A → B)
 in_case (inr other) holds = inl (λ here. absurd (other here))
 in_case (inl here) (inl holds) = inl (λ _. holds)
 in_case (inl here) (inr never) = inr (λ always. never (always here))
 
-le_decided : (m n : ℕ) → Decided (m ≤ n)
-le_decided m n = elim (cases_lt n m) [ inl less ↦ inr (λ le. omega arith) | inr le ↦ inl le ]
-
 lt_decided : (m n : ℕ) → Decided (m < n)
 lt_decided m n = le_decided (suc m) n
-
-number_decided : (m n : ℕ) → Decided (m ≡ n)
-number_decided m n = elim (cases_eq m n) [ inl same ↦ inl same | inr apart ↦ inr apart ]
 
 version_decided : (one other : Version) → Decided (one ≡ other)
 version_decided One One = inl refl
@@ -47,7 +32,7 @@ version_decided One Two = inr (λ same. cc)
 version_decided Two One = inr (λ same. cc)
 version_decided Two Two = inl refl
 
-pub empty_decided : {A : Type 0} → (list : List A) → Decided (list ≡ [])
+empty_decided : {A : Type 0} → (list : List A) → Decided (list ≡ [])
 empty_decided [] = inl refl
 empty_decided (item ∷ list) = inr (λ same. cc)
 
@@ -135,13 +120,3 @@ pub chooses_once_decided : (draft : DraftValue) (line : Line) → Decided (Choos
 chooses_once_decided draft (lines.Air exchange (happenings.Choice choice)) =
     in_case (number_decided exchange draft.air.exchange) (none_decided draft.air.latest.choice)
 chooses_once_decided draft line = inl tt
-
--- a text is this one, or another
-pub text_decided : (one other : List ℕ) → Decided (one ≡ other)
-text_decided [] [] = inl refl
-text_decided [] (b ∷ other) = inr (λ same. cc)
-text_decided (a ∷ one) [] = inr (λ same. cc)
-text_decided (a ∷ one) (b ∷ other) = elim (both (number_decided a b) (text_decided one other)) [
-  | inl same ↦ inl (ap₂ (λ x xs. x ∷ xs) same.0 same.1)
-  | inr apart ↦ inr (λ same. apart (cc, cc))
-]

@@ -1,5 +1,5 @@
 -- What a scenario has settled behind some lines says the same of the next line as those lines do.
-use Rattle.std.proofs.Common.{◌≡◌, ◌≢◌, ℕ, zero, suc, ◌+◌, ◌<◌, ◌≤◌, ◌==◌, ◌↔◌, Bool, true, false, List, [], ◌∷◌, ◌++◌, length, filter, Option, Some, None, if◌then◌else◌, refl, sym, ◌∙◌, ap, subst, arith, append_assoc, append-nil}
+use Rattle.std.proofs.Common.{◌≡◌, ◌≢◌, ℕ, zero, suc, ◌+◌, ◌<◌, ◌≤◌, ◌==◌, ◌↔◌, Bool, true, false, List, [], ◌∷◌, ◌++◌, length, filter, Option, Some, None, if◌then◌else◌, inl, inr, refl, sym, ◌∙◌, ap, subst, arith, append_assoc, append-nil}
 use Rattle.std.proofs.lemmas.Bool.{eqb-true, eqb-false}
 use Rattle.std.proofs.lemmas.List.{length-append, nil_from_length}
 use Rattle.std.proofs.lemmas.List.Elements.{filter-append}
@@ -27,8 +27,9 @@ use Rattle.scenario_text.specs.Draft.{DraftValue, HeadValue, new_draft, draft_af
 use Rattle.scenario_text.specs.Standing.{ScenarioStanding, start, begun, first_head, head_size, linked, second_head, within, ended, standing_after, MayStandNext, LinesLead, HasRoomForLine, MayStand, IsOfVersion, MayCopy, NamesTag}
 use Rattle.scenario_text.specs.AirLines.{AirLinesValue, at_exchange, with_said, with_happening, MayFollow, KeepsOrder, ChoosesOnce}
 use Rattle.scenario_text.specs.StepLines.{IsBareRound, StepLinesValue, steps_of, with_last, with_step}
-use Rattle.scenario_text.specs.Faults.{DisagreesBy}
+use Rattle.scenario_text.specs.Faults.{DisagreesBy, FailsFirst}
 use Rattle.scenario_text.proofs.Counts.{tags_more}
+use Rattle.scenario_text.proofs.Settled.{not_empty, same_count}
 use Rattle.scenario_text.specs.LinesBefore.{is_air, is_step, tags_by, tags_in, version_in, airs_in, steps_in, ops_behind, EndsInRound, IsFullBefore, IsNoEnd, IsRoundLine, MayStandBehind, happening_turn, ComesBefore, ChoosesOther, KeepsOrderBehind, ChoosesFirst, DisagreesWith}
 
 -- lists with one more
@@ -69,38 +70,22 @@ steps-push = count-push is_step
 
 ops-push : (count : ℕ) (before : List Line) (line : Line) → ops_behind count (before ++ line ∷ []) ≡ ops_behind (ops_behind count before) (line ∷ [])
 ops-push count [] line = refl
-ops-push count (lines.Version version ∷ before) line = ops-push count before line
-ops-push count (lines.Link link ∷ before) line = ops-push count before line
-ops-push count (lines.Default several ∷ before) line = ops-push count before line
-ops-push count (lines.Tag tag ∷ before) line = ops-push count before line
-ops-push count (lines.Copies copies tag ∷ before) line = ops-push count before line
-ops-push count (lines.Air exchange happening ∷ before) line = ops-push count before line
 ops-push count (lines.Select selection ∷ before) line = ops-push 0 before line
 ops-push count (lines.Nak ∷ before) line = ops-push 0 before line
 ops-push count (lines.Event event tag ∷ before) line = ops-push 0 before line
 ops-push count (lines.Round version spec ∷ before) line = ops-push 0 before line
-ops-push count (lines.Only epc ∷ before) line = ops-push count before line
 ops-push count (lines.Op op ∷ before) line = ops-push (count + 1) before line
-ops-push count (lines.End ∷ before) line = ops-push count before line
+ops-push count (first ∷ before) line = ops-push count before line
 
 -- what is said of one exchange
 
 -- one thing more leaves its turn to what comes no earlier
 may-still : (entry : Entry) (said happening : Happening) → MayFollow entry happening → happening_turn said ≤ happening_turn happening → MayFollow (with_happening entry said) happening
 may-still entry (happenings.Event event tag) (happenings.Event event' tag') may turn = may
-may-still entry (happenings.Event event tag) (happenings.Miss tag') may turn = may
-may-still entry (happenings.Event event tag) (happenings.Choice choice') may turn = tt
-may-still entry (happenings.Miss tag) (happenings.Event event' tag') may turn = absurd (omega (arith, turn))
-may-still entry (happenings.Miss tag) (happenings.Miss tag') may turn = may
-may-still entry (happenings.Miss tag) (happenings.Choice choice') may turn = tt
-may-still entry (happenings.Choice choice) (happenings.Event event' tag') may turn = absurd (omega (arith, turn))
+may-still entry said (happenings.Event event' tag') may turn = absurd (omega (arith, turn))
 may-still entry (happenings.Choice choice) (happenings.Miss tag') may turn = absurd (omega (arith, turn))
-may-still entry (happenings.Choice choice) (happenings.Choice choice') may turn = tt
-
--- not empty with one more
-not-none : {A : Type 0} (xs : List A) (x : A) → xs ++ x ∷ [] ≡ [] → ⊥
-not-none [] x none = cc
-not-none (first ∷ xs) x none = cc
+may-still entry said (happenings.Miss tag') may turn = may
+may-still entry said (happenings.Choice choice') may turn = tt
 
 some-none : (choice : Choice) → Some choice ≡ None → ⊥
 some-none choice same = cc
@@ -108,7 +93,7 @@ some-none choice same = cc
 -- ... and what may follow it comes no earlier
 turn-kept : (entry : Entry) (said happening : Happening) → MayFollow (with_happening entry said) happening → happening_turn said ≤ happening_turn happening
 turn-kept entry (happenings.Event event tag) happening may = omega arith
-turn-kept entry (happenings.Miss tag) (happenings.Event event' tag') may = absurd (not-none entry.missed tag may.0)
+turn-kept entry (happenings.Miss tag) (happenings.Event event' tag') may = absurd (not_empty entry.missed tag may.0)
 turn-kept entry (happenings.Miss tag) (happenings.Miss tag') may = omega arith
 turn-kept entry (happenings.Miss tag) (happenings.Choice choice') may = omega arith
 turn-kept entry (happenings.Choice choice) (happenings.Event event' tag') may = absurd (some-none choice may.1)
@@ -118,14 +103,11 @@ turn-kept entry (happenings.Choice choice) (happenings.Choice choice') may = ome
 -- ... and could follow before
 may-before : (entry : Entry) (said happening : Happening) → MayFollow (with_happening entry said) happening → MayFollow entry happening
 may-before entry (happenings.Event event tag) (happenings.Event event' tag') may = may
-may-before entry (happenings.Event event tag) (happenings.Miss tag') may = may
-may-before entry (happenings.Event event tag) (happenings.Choice choice') may = tt
-may-before entry (happenings.Miss tag) (happenings.Event event' tag') may = absurd (not-none entry.missed tag may.0)
-may-before entry (happenings.Miss tag) (happenings.Miss tag') may = may
-may-before entry (happenings.Miss tag) (happenings.Choice choice') may = tt
+may-before entry (happenings.Miss tag) (happenings.Event event' tag') may = absurd (not_empty entry.missed tag may.0)
 may-before entry (happenings.Choice choice) (happenings.Event event' tag') may = absurd (some-none choice may.1)
 may-before entry (happenings.Choice choice) (happenings.Miss tag') may = absurd (some-none choice may)
-may-before entry (happenings.Choice choice) (happenings.Choice choice') may = tt
+may-before entry said (happenings.Miss tag') may = may
+may-before entry said (happenings.Choice choice') may = tt
 
 nothing-said : (happening : Happening) → MayFollow no_entry happening
 nothing-said (happenings.Event event tag) = (refl, refl)
@@ -240,7 +222,7 @@ round-next before line grows one told =
 -- no steps, no round
 no-round : (closed : List Step) (round : Option SpecValue) (operations : OpList) → with_last closed round operations ≡ [] → round ≡ None
 no-round closed None operations none = refl
-no-round closed (Some spec) operations none = absurd (not-none closed (steps.Round spec operations) none)
+no-round closed (Some spec) operations none = absurd (not_empty closed (steps.Round spec operations) none)
 
 some-step : (spec : SpecValue) → Some spec ≢ None
 some-step spec same = cc
@@ -291,11 +273,6 @@ length-push : {A : Type 0} (xs : List A) (x : A) → length (xs ++ x ∷ []) ≡
 length-push [] x = refl
 length-push (first ∷ xs) x = let rest = length-push xs x in omega (arith, rest)
 
--- a last step has one place, whatever its operations are
-last-same : (before : List Step) (round : Option SpecValue) (operations operations' : OpList) → length (with_last before round operations) ≡ length (with_last before round operations')
-last-same before None operations operations' = refl
-last-same before (Some spec) operations operations' = length-push before _ ∙ sym (length-push before _)
-
 -- what a draft has more after one line
 record Adds (line : Line) (draft grows : DraftValue) : Type 0 where
   head : grows.head ≡ draft.head
@@ -336,13 +313,6 @@ adds-air draft exchange said air count no_steps = record {
   rounds = rounds-before (lines.Air exchange said) draft.steps refl no_steps (λ round. round);
 }
 
-above-not : (last next : ℕ) → last ≤ next → next ≢ last → last < next
-above-not zero zero above differs = absurd (differs refl)
-above-not zero (suc next) above differs = omega arith
-above-not (suc last) zero above differs = absurd (omega (arith, above))
-above-not (suc last) (suc next) above differs =
-    let less = above-not last next (omega (arith, above)) (λ same. differs (ap suc same)) in omega (arith, less)
-
 air-draft_after : (before : List Line) (draft : DraftValue) (exchange : ℕ) (said : Happening) (same : Bool) → (exchange == draft.air.exchange) ≡ same → draft.air.exchange ≤ exchange → steps_of draft.steps ≡ []
     → Tells before draft
     → let counted = record draft.air { count = draft.air.count + 1 } in
@@ -357,7 +327,7 @@ air-draft_after before draft exchange said false is above no_steps told =
     let differs : exchange ≢ draft.air.exchange = eqb-false exchange draft.air.exchange is in
     tells-more before draft (lines.Air exchange said) (record draft { air = with_said (at_exchange counted exchange) said }) told
     (adds-air draft exchange said (with_said (at_exchange counted exchange) said) refl no_steps)
-    (airs-next before draft.air.exchange exchange draft.air.latest said (above-not draft.air.exchange exchange above differs) told.exchanges)
+    (airs-next before draft.air.exchange exchange draft.air.latest said (omega (arith, above, differs)) told.exchanges)
 
 -- the same of any place in a scenario
 abbrev Stands : List Line → ScenarioStanding → Type 0
@@ -369,9 +339,6 @@ Stands before (ended draft) = ¬ AllByRecursion IsNoEnd before
 
 -- one line more
 tells-one : (before : List Line) (draft : DraftValue) (line : Line) → MayStandNext (within draft) line → Tells before draft → Stands (before ++ line ∷ []) (standing_after (within draft) line)
-tells-one before draft (lines.Version version) follows told = absurd follows.stands
-tells-one before draft (lines.Link link) follows told = absurd follows.stands
-tells-one before draft (lines.Default several) follows told = absurd follows.stands
 tells-one before draft (lines.Tag tag) follows told =
     let line = lines.Tag tag in
     tells-more before draft line (draft_after draft line) told
@@ -418,7 +385,7 @@ tells-one before draft (lines.Round version spec) follows told =
 tells-one before draft (lines.Only epc) follows told =
     let line = lines.Only epc in
     let grows = draft_after draft line in
-    let count = last-same draft.steps.closed draft.steps.round grows.steps.operations draft.steps.operations in
+    let count = same_count draft.steps.closed draft.steps.round draft.steps.operations grows.steps.operations in
     let rounds = rounds-kept line draft.steps grows.steps refl refl (λ is_bare. some-epc epc is_bare.only) (λ round. round) in
     tells-more before draft line grows told
     (record { head = refl; tags = omega arith; airs = omega arith; steps = omega (arith, count); ops = refl; goes_on = tt; rounds = rounds })
@@ -426,13 +393,14 @@ tells-one before draft (lines.Only epc) follows told =
 tells-one before draft (lines.Op op) follows told =
     let line = lines.Op op in
     let grows = draft_after draft line in
-    let count = last-same draft.steps.closed draft.steps.round grows.steps.operations draft.steps.operations in
-    let rounds = rounds-kept line draft.steps grows.steps refl refl (λ is_bare. not-none draft.steps.operations.ops op is_bare.ops) (λ round. round) in
+    let count = same_count draft.steps.closed draft.steps.round draft.steps.operations grows.steps.operations in
+    let rounds = rounds-kept line draft.steps grows.steps refl refl (λ is_bare. not_empty draft.steps.operations.ops op is_bare.ops) (λ round. round) in
     let ops = length-push draft.steps.operations.ops op in
     tells-more before draft line grows told
     (record { head = refl; tags = omega arith; airs = omega arith; steps = omega (arith, count); ops = ops; goes_on = tt; rounds = rounds })
     (airs-kept before draft.air.exchange draft.air.latest line (λ exchange happening. tt) (λ exchange. tt) told.exchanges)
 tells-one before draft lines.End follows told = λ all. all-last IsNoEnd before lines.End all
+tells-one before draft line follows told = absurd follows.stands
 
 stands-first : (before : List Line) (line : Line) → MayStandNext start line → before ≡ [] → Stands (before ++ line ∷ []) (standing_after start line)
 stands-first before (lines.Version version) follows none = ap (λ (b : List Line). b ++ lines.Version version ∷ []) none
@@ -635,9 +603,6 @@ room-for-tags said draft told =
     rw (version-told said draft told) (room-or-full (tag_count draft) (tags_in said) (most_tags_of draft.head.version) told.tags)
 
 pub has-room : (said : List Line) (draft : DraftValue) (keyword : Keyword) → LinesLead start said (within draft) → HasRoomForLine (within draft) keyword ↔ (¬ IsFullBefore said keyword)
-has-room said draft keywords.Version leads = always tt
-has-room said draft keywords.Link leads = always tt
-has-room said draft keywords.Default leads = always tt
 has-room said draft keywords.Tag leads = room-for-tags said draft (tells said draft leads)
 has-room said draft keywords.Copies leads = room-for-tags said draft (tells said draft leads)
 has-room said draft keywords.Air leads = room-or-full draft.air.count (airs_in said) most_air_lines (tells said draft leads).airs
@@ -645,42 +610,17 @@ has-room said draft keywords.Select leads = room-or-full (length (steps_of draft
 has-room said draft keywords.Nak leads = room-or-full (length (steps_of draft.steps)) (steps_in said) most_steps (tells said draft leads).steps
 has-room said draft keywords.Event leads = room-or-full (length (steps_of draft.steps)) (steps_in said) most_steps (tells said draft leads).steps
 has-room said draft keywords.Round leads = room-or-full (length (steps_of draft.steps)) (steps_in said) most_steps (tells said draft leads).steps
-has-room said draft keywords.Only leads = always tt
 has-room said draft keywords.Op leads = room-or-full (length draft.steps.operations.ops) (ops_behind 0 said) most_ops (tells said draft leads).ops
-has-room said draft keywords.End leads = always tt
+has-room said draft keyword leads = always tt
 
 keeps-order : (said : List Line) (draft : DraftValue) (line : Line) → Tells said draft → KeepsOrder draft.air line ↔ KeepsOrderBehind said line
-keeps-order said draft (lines.Version version) told = (λ k. k, λ k. k)
-keeps-order said draft (lines.Link link) told = (λ k. k, λ k. k)
-keeps-order said draft (lines.Default several) told = (λ k. k, λ k. k)
-keeps-order said draft (lines.Tag tag) told = (λ k. k, λ k. k)
-keeps-order said draft (lines.Copies count tag) told = (λ k. k, λ k. k)
 keeps-order said draft (lines.Air exchange happening) told =
     (λ keeps. told.exchanges.order exchange happening keeps.0 keeps.1, λ all. (told.exchanges.above exchange happening all, told.exchanges.may exchange happening all))
-keeps-order said draft (lines.Select selection) told = (λ k. k, λ k. k)
-keeps-order said draft lines.Nak told = (λ k. k, λ k. k)
-keeps-order said draft (lines.Event event tag) told = (λ k. k, λ k. k)
-keeps-order said draft (lines.Round version spec) told = (λ k. k, λ k. k)
-keeps-order said draft (lines.Only epc) told = (λ k. k, λ k. k)
-keeps-order said draft (lines.Op op) told = (λ k. k, λ k. k)
-keeps-order said draft lines.End told = (λ k. k, λ k. k)
+keeps-order said draft line told = (λ keeps. keeps, λ keeps. keeps)
 
 chooses-once : (said : List Line) (draft : DraftValue) (line : Line) → Tells said draft → KeepsOrder draft.air line → ChoosesOnce draft.air line ↔ ChoosesFirst said line
-chooses-once said draft (lines.Version version) told keeps = (λ k. k, λ k. k)
-chooses-once said draft (lines.Link link) told keeps = (λ k. k, λ k. k)
-chooses-once said draft (lines.Default several) told keeps = (λ k. k, λ k. k)
-chooses-once said draft (lines.Tag tag) told keeps = (λ k. k, λ k. k)
-chooses-once said draft (lines.Copies count tag) told keeps = (λ k. k, λ k. k)
-chooses-once said draft (lines.Air exchange (happenings.Event event tag)) told keeps = (λ k. k, λ k. k)
-chooses-once said draft (lines.Air exchange (happenings.Miss tag)) told keeps = (λ k. k, λ k. k)
 chooses-once said draft (lines.Air exchange (happenings.Choice choice)) told keeps = (told.exchanges.once exchange keeps.0, told.exchanges.chosen exchange)
-chooses-once said draft (lines.Select selection) told keeps = (λ k. k, λ k. k)
-chooses-once said draft lines.Nak told keeps = (λ k. k, λ k. k)
-chooses-once said draft (lines.Event event tag) told keeps = (λ k. k, λ k. k)
-chooses-once said draft (lines.Round version spec) told keeps = (λ k. k, λ k. k)
-chooses-once said draft (lines.Only epc) told keeps = (λ k. k, λ k. k)
-chooses-once said draft (lines.Op op) told keeps = (λ k. k, λ k. k)
-chooses-once said draft lines.End told keeps = (λ k. k, λ k. k)
+chooses-once said draft line told keeps = (λ once. once, λ once. once)
 
 names-tag : (said : List Line) (draft : DraftValue) (line : Line) → Tells said draft → NamesTag (tag_count draft) line ↔ NamesTag (tags_in said) line
 names-tag said draft line told = (subst (λ n. NamesTag n line) told.tags, subst (λ n. NamesTag n line) (sym told.tags))
@@ -694,29 +634,30 @@ of-version said draft line told =
 may-copy : (said : List Line) (draft : DraftValue) (line : Line) → Tells said draft → MayCopy (tag_count draft) line ↔ MayCopy (tags_in said) line
 may-copy said draft line told = (subst (λ n. MayCopy n line) told.tags, subst (λ n. MayCopy n line) (sym told.tags))
 
-neither : {A B : Type 0} → A ↔ B → (¬ A) ↔ (¬ B)
-neither same = (λ none b. none (same.1 b), λ none a. none (same.0 a))
+one-way : (first first' : Type 0) (cause : Fault) (others others' : Fault → Type 0) (fault : Fault) → first ↔ first' → (first → others fault → others' fault)
+    → FailsFirst first cause others fault → FailsFirst first' cause others' fault
+one-way first first' cause others others' fault same rest (inl fails) = inl ((λ holds. fails.0 (same.1 holds)), fails.1)
+one-way first first' cause others others' fault same rest (inr holds) = inr (same.0 holds.0, rest holds.0 holds.1)
 
-by-order : (said : List Line) (draft : DraftValue) (line : Line) → Tells said draft → DisagreesBy draft line faults.Order ↔ DisagreesWith said line faults.Order
-by-order said draft line told =
-    let names = names-tag said draft line told in
-    let order = neither (keeps-order said draft line told) in
-    (λ by. (names.0 by.0, order.0 by.1), λ with_lines. (names.1 with_lines.0, order.1 with_lines.1))
+-- the reasons are the same
+abbrev Same : (Fault → Type 0) → (Fault → Type 0) → Type 0
+Same reasons others = (fault : Fault) → reasons fault ↔ others fault
 
-by-choice : (said : List Line) (draft : DraftValue) (line : Line) → Tells said draft → DisagreesBy draft line faults.Twice ↔ DisagreesWith said line faults.Twice
-by-choice said draft line told =
-    let names = names-tag said draft line told in
-    let order = keeps-order said draft line told in (
-      λ by. (names.0 by.0, order.0 by.1, (neither (chooses-once said draft line told by.1)).0 by.2),
-      λ with_lines.
-          let keeps : KeepsOrder draft.air line = order.1 with_lines.1 in
-          (names.1 with_lines.0, keeps, (neither (chooses-once said draft line told keeps)).1 with_lines.2),
-    )
+-- ... where what holds is, and where then the others are
+same-fails : (first first' : Type 0) (cause : Fault) (others others' : Fault → Type 0) → first ↔ first' → (first → Same others others')
+    → Same (FailsFirst first cause others) (FailsFirst first' cause others')
+same-fails first first' cause others others' same rest fault = (
+  one-way first first' cause others others' fault same (λ holds. (rest holds fault).0),
+  one-way first' first cause others' others fault (same.1, same.0) (λ holds. (rest (same.1 holds) fault).1),
+)
+
+same-reasons : (said : List Line) (draft : DraftValue) (line : Line) → Tells said draft → Same (DisagreesBy draft line) (DisagreesWith said line)
+same-reasons said draft line told =
+    same-fails _ _ (faults.Line line_faults.Number) _ _ (of-version said draft line told)
+    (λ version. same-fails _ _ faults.Copies _ _ (may-copy said draft line told)
+    (λ copies. same-fails _ _ faults.Tag _ _ (names-tag said draft line told)
+    (λ names. same-fails _ _ faults.Order _ _ (keeps-order said draft line told)
+    (λ order. same-fails _ _ faults.Twice _ _ (chooses-once said draft line told order) (λ once fault. (λ none. none, λ none. none))))))
 
 pub disagrees-with : (said : List Line) (draft : DraftValue) (line : Line) (fault : Fault) → LinesLead start said (within draft) → DisagreesBy draft line fault ↔ DisagreesWith said line fault
-disagrees-with said draft line (faults.Line line_faults.Number) leads = neither (of-version said draft line (tells said draft leads))
-disagrees-with said draft line faults.Copies leads = neither (may-copy said draft line (tells said draft leads))
-disagrees-with said draft line faults.Tag leads = neither (names-tag said draft line (tells said draft leads))
-disagrees-with said draft line faults.Order leads = by-order said draft line (tells said draft leads)
-disagrees-with said draft line faults.Twice leads = by-choice said draft line (tells said draft leads)
-disagrees-with said draft line fault leads = (λ none. none, λ none. none)
+disagrees-with said draft line fault leads = same-reasons said draft line (tells said draft leads) fault

@@ -4,7 +4,7 @@ use Rattle.std.specs.Prelude.{All, IfSome, Option, Some}
 use Rattle.std.specs.List.{flat_map}
 use Rattle.std.proofs.lemmas.Bool.{ne_eqb}
 use Rattle.std.proofs.lemmas.Bool.Decides.{eqb_tells}
-use Rattle.std.proofs.lemmas.List.{length-append, append-nil}
+use Rattle.std.proofs.lemmas.List.{length-append, append-nil, map-append}
 use Rattle.std.proofs.lemmas.List.Concat.{flat_map-append}
 use Rattle.std.proofs.lemmas.List.Elements.{All-append, All-nil, All-push, All-weaker}
 use Rattle.access_ops.specs.declared.Op.{Op}
@@ -32,9 +32,9 @@ use Rattle.scenario.specs.Limits.{IsCount, IsDefault, IsEntry, IsGroup, IsOpList
 use Rattle.scenario.specs.ScenarioText.{group_line, head_lines, only_lines, operation_lines, scenario_lines, step_lines}
 use Rattle.air_events.specs.Entries.{Rises, no_entry}
 use Rattle.scenario_text.specs.Draft.{draft_after, DraftValue, HeadValue, draft_with_group, draft_with_step, new_draft, scenario_of, tag_count}
-use Rattle.scenario_text.specs.AirLines.{ChoosesOnce, MayFollow, entries_of, last_entry, at_exchange, with_happening, with_said}
+use Rattle.scenario_text.specs.AirLines.{AirLinesValue, ChoosesOnce, MayFollow, entries_of, last_entry, at_exchange, with_happening, with_said}
 use Rattle.scenario_text.specs.Standing.{MayStandNext, LinesLead, NamesTag, ScenarioStanding, standing_after, begun, ended, first_head, linked, second_head, start, within}
-use Rattle.scenario_text.specs.StepLines.{steps_of, with_last}
+use Rattle.scenario_text.specs.StepLines.{StepLinesValue, steps_of, with_last, with_round, with_step}
 use Rattle.scenario_text.proofs.Counts.{tags_more}
 
 -- the lines of a draft, without the end
@@ -59,23 +59,31 @@ IsLast tags (suc before) latest = IsEntry tags (suc before, latest)
 abbrev pub IsBelow : ℕ → ℕ × Entry → Type 0
 IsBelow exchange entry = entry.0 < exchange
 
+-- what air lines say keeps the limits, where there are so many tags
+pub record AirKeeps (tags : ℕ) (air : AirLinesValue) : Type 0 where
+  pub closed : All (IsEntry tags) air.closed
+  pub last : IsLast tags air.exchange air.latest
+  pub rising : Rises 0 air.closed
+  pub below : All (IsBelow air.exchange) air.closed
+  pub few : air.count ≤ most_air_lines
+  pub count : length (air_lines (entries_of air)) ≡ air.count
+  pub none : air.count ≡ 0 → entries_of air ≡ []
+
+-- ... and so do steps
+pub record StepsKeep (version : Version) (tags : ℕ) (said : StepLinesValue) : Type 0 where
+  pub closed : All (IsStep version tags) said.closed
+  pub round : IfSome said.round (IsRound version)
+  pub operations : IsOpList said.operations
+  pub few : length (steps_of said) ≤ most_steps
+
 -- a draft that keeps the limits
 pub record Keeps (draft : DraftValue) : Type 0 where
   pub link : IsLegalLink draft.head.link
   pub several : IsDefault draft.head.version draft.head.several
   pub groups : All (IsGroup draft.head.version) draft.groups
-  pub closed : All (IsEntry (tag_count draft)) draft.air.closed
-  pub last : IsLast (tag_count draft) draft.air.exchange draft.air.latest
-  pub rising : Rises 0 draft.air.closed
-  pub below : All (IsBelow draft.air.exchange) draft.air.closed
-  pub steps : All (IsStep draft.head.version (tag_count draft)) draft.steps.closed
-  pub round : IfSome draft.steps.round (IsRound draft.head.version)
-  pub operations : IsOpList draft.steps.operations
   pub few_tags : tag_count draft ≤ most_tags_of draft.head.version
-  pub few_airs : draft.air.count ≤ most_air_lines
-  pub few_steps : length (steps_of draft.steps) ≤ most_steps
-  pub count : length (air_lines (entries_of draft.air)) ≡ draft.air.count
-  pub none : draft.air.count ≡ 0 → entries_of draft.air ≡ []
+  pub air : AirKeeps (tag_count draft) draft.air
+  pub steps : StepsKeep draft.head.version (tag_count draft) draft.steps
 
 abbrev pub StandingKeeps : ScenarioStanding → Type 0
 StandingKeeps start = Unit {0}
@@ -83,10 +91,6 @@ StandingKeeps (begun version) = Unit {0}
 StandingKeeps (linked link) = IsLegalLink link
 StandingKeeps (within draft) = Keeps draft
 StandingKeeps (ended draft) = Keeps draft
-
-map-append : {A B : Type 0} (f : A → B) (xs ys : List A) → map f (xs ++ ys) ≡ map f xs ++ map f ys
-map-append f [] ys = refl
-map-append f (x ∷ xs) ys = ap (λ (list : List _). f x ∷ list) (map-append f xs ys)
 
 -- the numbers of entries rise past one more that is above them all
 Rises-push : (before : ℕ) (entries : List (ℕ × Entry)) (entry : ℕ × Entry) → Rises before entries → before < entry.0 → All (IsBelow entry.0) entries
@@ -122,12 +126,11 @@ last_below closed (suc before) above latest less below =
     All-push (IsBelow above) closed (suc before, latest)
     (All-weaker (IsBelow (suc before)) (IsBelow above) (λ entry small. omega arith) closed below) less
 
--- the entries of a draft that keeps the limits
-pub entries_keep : (draft : DraftValue) → Keeps draft → All (IsEntry (tag_count draft)) (entries_of draft.air) × Rises 0 (entries_of draft.air)
-entries_keep draft keeps = (
-  All-append (IsEntry (tag_count draft)) draft.air.closed (last_entry draft.air.exchange draft.air.latest) keeps.closed
-      (last_all (tag_count draft) draft.air.exchange draft.air.latest keeps.last),
-  last_rises draft.air.closed draft.air.exchange draft.air.latest keeps.rising keeps.below,
+-- the entries of air lines that keep the limits
+entries_keep : (tags : ℕ) (air : AirLinesValue) → AirKeeps tags air → All (IsEntry tags) (entries_of air) × Rises 0 (entries_of air)
+entries_keep tags air keeps = (
+  All-append (IsEntry tags) air.closed (last_entry air.exchange air.latest) keeps.closed (last_all tags air.exchange air.latest keeps.last),
+  last_rises air.closed air.exchange air.latest keeps.rising keeps.below,
 )
 
 -- a choice stands alone
@@ -152,10 +155,9 @@ entry_more exchange entry (happenings.Choice choice) follows alone =
 
 entry_first : (exchange : ℕ) (happening : Happening) → entry_lines (exchange, with_happening no_entry happening) ≡ lines.Air exchange happening ∷ []
 entry_first exchange (happenings.Event event tag) = refl
-entry_first exchange (happenings.Miss tag) = refl
-entry_first exchange (happenings.Choice choice) = refl
+entry_first exchange happening = refl
 
-not_empty : {A : Type 0} (xs : List A) (x : A) → xs ++ x ∷ [] ≢ []
+pub not_empty : {A : Type 0} (xs : List A) (x : A) → xs ++ x ∷ [] ≢ []
 not_empty [] x none = cc
 not_empty (y ∷ xs) x none = cc
 
@@ -204,8 +206,8 @@ last_keeps : (version : Version) (tags : ℕ) (before : List Step) (round : Opti
 last_keeps version tags before None operations are is list = are
 last_keeps version tags before (Some spec) operations are is list = All-push (IsStep version tags) before (steps.Round spec operations) are (is, list)
 
-steps_keep : (draft : DraftValue) → Keeps draft → All (IsStep draft.head.version (tag_count draft)) (steps_of draft.steps)
-steps_keep draft keeps = last_keeps draft.head.version (tag_count draft) draft.steps.closed draft.steps.round draft.steps.operations keeps.steps keeps.round keeps.operations
+pub steps_keep : (version : Version) (tags : ℕ) (said : StepLinesValue) → StepsKeep version tags said → All (IsStep version tags) (steps_of said)
+steps_keep version tags said keeps = last_keeps version tags said.closed said.round said.operations keeps.closed keeps.round keeps.operations
 
 -- how many steps there are doesn't hang on the operations of the last one
 pub same_count : (before : List Step) (round : Option SpecValue) (operations operations' : OpList)
@@ -222,42 +224,54 @@ new_draft_keeps head legal several = record {
   link = legal;
   several = several;
   groups = All-nil (IsGroup head.version);
-  closed = All-nil (IsEntry 0);
-  last = tt;
-  rising = tt;
-  below = All-nil (IsBelow 0);
-  steps = All-nil (IsStep head.version 0);
-  round = tt;
-  operations = no_operations_keep;
   few_tags = few_tags_at_first head.version;
-  few_airs = omega arith;
-  few_steps = omega arith;
-  count = refl;
-  none = λ zero. refl;
+  air = record {
+    closed = All-nil (IsEntry 0);
+    last = tt;
+    rising = tt;
+    below = All-nil (IsBelow 0);
+    few = omega arith;
+    count = refl;
+    none = λ zero. refl;
+  };
+  steps = record { closed = All-nil (IsStep head.version 0); round = tt; operations = no_operations_keep; few = omega arith };
 }
+
+-- other air lines, or other steps
+air_keeps : (draft : DraftValue) (air : AirLinesValue) → Keeps draft → AirKeeps (tag_count draft) air → Keeps (record draft { air = air })
+air_keeps draft air keeps are =
+    record { link = keeps.link; several = keeps.several; groups = keeps.groups; few_tags = keeps.few_tags; air = are; steps = keeps.steps }
+
+said_keep : (draft : DraftValue) (said : StepLinesValue) → Keeps draft → StepsKeep draft.head.version (tag_count draft) said → Keeps (record draft { steps = said })
+said_keep draft said keeps are =
+    record { link = keeps.link; several = keeps.several; groups = keeps.groups; few_tags = keeps.few_tags; air = keeps.air; steps = are }
 
 group_keeps : (draft : DraftValue) (group : TagGroup) → Keeps draft → IsGroup draft.head.version group → draft.air.count ≡ 0 → steps_of draft.steps ≡ []
     → tag_count draft + group.count ≤ most_tags_of draft.head.version
     → Keeps (draft_with_group draft group)
 group_keeps draft group keeps is no_airs no_steps room =
-    let none = no_entries draft.air.closed draft.air.exchange draft.air.latest (keeps.none no_airs) in
+    let none = no_entries draft.air.closed draft.air.exchange draft.air.latest (keeps.air.none no_airs) in
     let tags = tag_count (draft_with_group draft group) in
     record {
       link = keeps.link;
       several = keeps.several;
       groups = All-push (IsGroup draft.head.version) draft.groups group keeps.groups is;
-      closed = rw none.0 (All-nil (IsEntry tags));
-      last = last_none tags draft.air.exchange draft.air.latest none.1;
-      rising = keeps.rising;
-      below = keeps.below;
-      steps = rw (no_step_before draft.steps.closed draft.steps.round draft.steps.operations no_steps) (All-nil (IsStep draft.head.version tags));
-      round = keeps.round;
-      operations = keeps.operations;
       few_tags = omega (arith, room, tags_more draft.groups (draft.groups ++ group ∷ []) group refl);
-      few_airs = keeps.few_airs;
-      few_steps = keeps.few_steps;
-      count = keeps.count;
-      none = keeps.none;
+      air = record {
+        closed = rw none.0 (All-nil (IsEntry tags));
+        last = last_none tags draft.air.exchange draft.air.latest none.1;
+        rising = keeps.air.rising;
+        below = keeps.air.below;
+        few = keeps.air.few;
+        count = keeps.air.count;
+        none = keeps.air.none;
+      };
+      steps = record {
+        closed = rw (no_step_before draft.steps.closed draft.steps.round draft.steps.operations no_steps) (All-nil (IsStep draft.head.version tags));
+        round = keeps.steps.round;
+        operations = keeps.steps.operations;
+        few = keeps.steps.few;
+      };
     }
 
 -- a line behind the head
@@ -265,7 +279,7 @@ behind_head : (head rest rest' : List Line) (line : Line) → rest' ≡ rest ++ 
 behind_head head rest rest' line more = ap (λ (list : List Line). head ++ list) more ∙ sym (append_assoc head rest (line ∷ []))
 
 -- the lines of the head of a draft
-abbrev head_of : DraftValue → List Line
+abbrev pub head_of : DraftValue → List Line
 head_of draft = head_lines draft.head.version draft.head.link draft.head.several
 
 -- lists with nothing behind them
@@ -310,80 +324,52 @@ copies_line count tag several = rw (ne_eqb count 1 (λ one. omega (arith, severa
 
 step_keeps : (draft : DraftValue) (step : Step) → Keeps draft → IsStep draft.head.version (tag_count draft) step → length (steps_of draft.steps) < most_steps
     → Keeps (draft_with_step draft step)
-step_keeps draft step keeps is room = record {
-  link = keeps.link;
-  several = keeps.several;
-  groups = keeps.groups;
-  closed = keeps.closed;
-  last = keeps.last;
-  rising = keeps.rising;
-  below = keeps.below;
-  steps = All-push (IsStep draft.head.version (tag_count draft)) (steps_of draft.steps) step (steps_keep draft keeps) is;
-  round = tt;
-  operations = no_operations_keep;
-  few_tags = keeps.few_tags;
-  few_airs = keeps.few_airs;
-  few_steps = omega (arith, length-append (steps_of draft.steps) (step ∷ []));
-  count = keeps.count;
-  none = keeps.none;
-}
+step_keeps draft step keeps is room =
+    let version = draft.head.version in
+    let tags = tag_count draft in
+    said_keep draft (with_step draft.steps step) keeps (record {
+      closed = All-push (IsStep version tags) (steps_of draft.steps) step (steps_keep version tags draft.steps keeps.steps) is;
+      round = tt;
+      operations = no_operations_keep;
+      few = omega (arith, length-append (steps_of draft.steps) (step ∷ []));
+    })
 
 round_keeps : (draft : DraftValue) (version : Version) (spec : SpecValue) → Keeps draft → IsRound draft.head.version spec
     → length (steps_of draft.steps) < most_steps → Keeps (draft_after draft (lines.Round version spec))
-round_keeps draft version spec keeps is room = record {
-  link = keeps.link;
-  several = keeps.several;
-  groups = keeps.groups;
-  closed = keeps.closed;
-  last = keeps.last;
-  rising = keeps.rising;
-  below = keeps.below;
-  steps = steps_keep draft keeps;
-  round = is;
-  operations = no_operations_keep;
-  few_tags = keeps.few_tags;
-  few_airs = keeps.few_airs;
-  few_steps = omega (arith, length-append (steps_of draft.steps) (steps.Round spec no_operations ∷ []));
-  count = keeps.count;
-  none = keeps.none;
-}
+round_keeps draft version spec keeps is room =
+    said_keep draft (with_round draft.steps spec) keeps (record {
+      closed = steps_keep draft.head.version (tag_count draft) draft.steps keeps.steps;
+      round = is;
+      operations = no_operations_keep;
+      few = omega (arith, length-append (steps_of draft.steps) (steps.Round spec no_operations ∷ []));
+    })
 
 -- the draft with other operations of the last round
 operations_keep : (draft : DraftValue) (operations : OpList) → Keeps draft → IsOpList operations → Keeps (record draft { steps = record draft.steps { operations = operations } })
-operations_keep draft operations keeps are = record {
-  link = keeps.link;
-  several = keeps.several;
-  groups = keeps.groups;
-  closed = keeps.closed;
-  last = keeps.last;
-  rising = keeps.rising;
-  below = keeps.below;
-  steps = keeps.steps;
-  round = keeps.round;
-  operations = are;
-  few_tags = keeps.few_tags;
-  few_airs = keeps.few_airs;
-  few_steps = rw (same_count draft.steps.closed draft.steps.round draft.steps.operations operations) keeps.few_steps;
-  count = keeps.count;
-  none = keeps.none;
-}
+operations_keep draft operations keeps are =
+    said_keep draft (record draft.steps { operations = operations }) keeps (record {
+      closed = keeps.steps.closed;
+      round = keeps.steps.round;
+      operations = are;
+      few = rw (same_count draft.steps.closed draft.steps.round draft.steps.operations operations) keeps.steps.few;
+    })
 
 only_keeps : (draft : DraftValue) (epc : List ℕ) → Keeps draft → IsEpc epc → Keeps (draft_after draft (lines.Only epc))
 only_keeps draft epc keeps is =
-    operations_keep draft (record { only = Some epc; ops = draft.steps.operations.ops }) keeps
-    (record { only = is; ops = keeps.operations.ops; few = keeps.operations.few })
+    let operations = keeps.steps.operations in
+    operations_keep draft (record { only = Some epc; ops = draft.steps.operations.ops }) keeps (record { only = is; ops = operations.ops; few = operations.few })
 
 op_keeps : (draft : DraftValue) (op : Op) → Keeps draft → IsLegalOp op → length draft.steps.operations.ops < most_ops → Keeps (draft_after draft (lines.Op op))
 op_keeps draft op keeps is room =
     operations_keep draft (record { only = draft.steps.operations.only; ops = draft.steps.operations.ops ++ op ∷ [] }) keeps
     (record {
-      only = keeps.operations.only;
-      ops = All-push IsLegalOp draft.steps.operations.ops op keeps.operations.ops is;
+      only = keeps.steps.operations.only;
+      ops = All-push IsLegalOp draft.steps.operations.ops op keeps.steps.operations.ops is;
       few = omega (arith, length-append draft.steps.operations.ops (op ∷ []));
     })
 
 -- the lines of a draft before its steps
-abbrev front_lines : DraftValue → List Line
+abbrev pub front_lines : DraftValue → List Line
 front_lines draft = head_of draft ++ map group_line draft.groups ++ air_lines (entries_of draft.air)
 
 -- one step more
@@ -450,7 +436,7 @@ last_is_said : (tags exchange : ℕ) (latest : Entry) → IsEntry tags (exchange
 last_is_said tags zero latest last = tt
 last_is_said tags (suc before) latest last = last
 
-last_one : (exchange : ℕ) (latest : Entry) → 0 < exchange → last_entry exchange latest ≡ (exchange, latest) ∷ []
+pub last_one : (exchange : ℕ) (latest : Entry) → 0 < exchange → last_entry exchange latest ≡ (exchange, latest) ∷ []
 last_one zero latest some = absurd (omega arith)
 last_one (suc before) latest some = refl
 
@@ -493,58 +479,42 @@ more_keeps : (draft : DraftValue) (happening : Happening) → Keeps draft → Ai
 more_keeps draft happening keeps air =
     let some : 0 < draft.air.exchange = omega (arith, air.is_exchange) in
     let tags = tag_count draft in
-    let last = last_said tags draft.air.exchange draft.air.latest some keeps.last in
-    record {
-      link = keeps.link;
-      several = keeps.several;
-      groups = keeps.groups;
-      closed = keeps.closed;
+    let last = last_said tags draft.air.exchange draft.air.latest some keeps.air.last in
+    air_keeps draft (said_more draft happening).air keeps (record {
+      closed = keeps.air.closed;
       last = last_is_said tags draft.air.exchange (with_happening draft.air.latest happening)
           (happening_keeps tags draft.air.exchange draft.air.latest happening air.is_exchange air.is air.names
           (record { events = last.events; missed = last.missed; choice = last.choice }));
-      rising = keeps.rising;
-      below = keeps.below;
-      steps = keeps.steps;
-      round = keeps.round;
-      operations = keeps.operations;
-      few_tags = keeps.few_tags;
-      few_airs = omega (arith, air.room);
-      few_steps = keeps.few_steps;
+      rising = keeps.air.rising;
+      below = keeps.air.below;
+      few = omega (arith, air.room);
       count = ap length (more_air_lines draft happening some (air.follows refl) (air.alone refl))
-          ∙ length-append (air_lines (entries_of draft.air)) (lines.Air draft.air.exchange happening ∷ []) ∙ ap (λ n. n + 1) keeps.count;
+          ∙ length-append (air_lines (entries_of draft.air)) (lines.Air draft.air.exchange happening ∷ []) ∙ ap (λ n. n + 1) keeps.air.count;
       none = λ zero. not_none draft.air.count zero;
-    }
+    })
 
 first_keeps : (draft : DraftValue) (number : ℕ) (happening : Happening) → Keeps draft → draft.air.exchange < number → AirFollows draft number happening
     → Keeps (said_first draft number happening)
 first_keeps draft number happening keeps above air =
     let some : 0 < number = omega arith in
     let tags = tag_count draft in
-    let entries = entries_keep draft keeps in
+    let entries = entries_keep tags draft.air keeps.air in
     let nothing : IsEntry tags (number, with_happening no_entry happening) =
     happening_keeps tags number no_entry happening air.is_exchange air.is air.names (record {
       events = All-nil (λ (event : Event × ℕ). IsEvent event.0 event.1 × (event.1 < tags));
       missed = All-nil (λ tag. IsPlace tag × (tag < tags));
       choice = tt;
     }) in
-    record {
-      link = keeps.link;
-      several = keeps.several;
-      groups = keeps.groups;
+    air_keeps draft (said_first draft number happening).air keeps (record {
       closed = entries.0;
       last = last_is_said tags number (with_happening no_entry happening) nothing;
       rising = entries.1;
-      below = last_below draft.air.closed draft.air.exchange number draft.air.latest above keeps.below;
-      steps = keeps.steps;
-      round = keeps.round;
-      operations = keeps.operations;
-      few_tags = keeps.few_tags;
-      few_airs = omega (arith, air.room);
-      few_steps = keeps.few_steps;
+      below = last_below draft.air.closed draft.air.exchange number draft.air.latest above keeps.air.below;
+      few = omega (arith, air.room);
       count = ap length (first_air_lines draft number happening some)
-          ∙ length-append (air_lines (entries_of draft.air)) (lines.Air number happening ∷ []) ∙ ap (λ n. n + 1) keeps.count;
+          ∙ length-append (air_lines (entries_of draft.air)) (lines.Air number happening ∷ []) ∙ ap (λ n. n + 1) keeps.air.count;
       none = λ zero. not_none draft.air.count zero;
-    }
+    })
 
 -- the lines of a draft without steps, with one air line more
 lines_with_air : (draft : DraftValue) (entries : List (ℕ × Entry)) (line : Line) → steps_of draft.steps ≡ [] → air_lines entries ≡ air_lines (entries_of draft.air) ++ line ∷ []
@@ -602,28 +572,22 @@ air_follows draft number happening follows = record {
 }
 
 -- what one line settles
-settles_one : (from : ScenarioStanding) (line : Line) → StandingKeeps from → MayStandNext from line
+pub settles_one : (from : ScenarioStanding) (line : Line) → StandingKeeps from → MayStandNext from line
     → (standing_lines (standing_after from line) ≡ standing_lines from ++ line ∷ []) × StandingKeeps (standing_after from line)
 settles_one start (lines.Version version) keeps follows = (refl, tt)
-settles_one start line keeps follows = absurd follows.stands
 settles_one (begun One) (lines.Link link) keeps follows = (refl, new_draft_keeps (first_head link) follows.is.coherent refl)
 settles_one (begun Two) (lines.Link link) keeps follows = (refl, follows.is.coherent)
-settles_one (begun version) line keeps follows = absurd follows.stands
 settles_one (linked link) (lines.Default several) keeps follows = (refl, new_draft_keeps (second_head link several) keeps tt)
-settles_one (linked link) line keeps follows = absurd follows.stands
-settles_one (within draft) (lines.Version version) keeps follows = absurd follows.stands
-settles_one (within draft) (lines.Link link) keeps follows = absurd follows.stands
-settles_one (within draft) (lines.Default several) keeps follows = absurd follows.stands
 settles_one (within draft) (lines.Tag tag) keeps follows =
     let group = one_tag draft.head.version tag (record { form = follows.is.form; pc = follows.is.coherent }) in (
-      tag_lines draft (record { count = 1; spec = tag }) (lines.Tag tag) refl (keeps.none follows.stands.0) follows.stands.1,
+      tag_lines draft (record { count = 1; spec = tag }) (lines.Tag tag) refl (keeps.air.none follows.stands.0) follows.stands.1,
       group_keeps draft (record { count = 1; spec = tag }) keeps group follows.stands.0 follows.stands.1 (omega (arith, follows.room)),
     )
 settles_one (within draft) (lines.Copies count tag) keeps follows =
     let several = follows.is.form.0.0 in
     let copies = follows.agrees.copies in
     let group = some_copies draft.head.version count tag follows.stands.0 several (record { form = follows.is.form.1; pc = follows.is.coherent }) copies.0 in (
-      tag_lines draft (record { count = count; spec = tag }) (lines.Copies count tag) (copies_line count tag several) (keeps.none follows.stands.1) follows.stands.2,
+      tag_lines draft (record { count = count; spec = tag }) (lines.Copies count tag) (copies_line count tag several) (keeps.air.none follows.stands.1) follows.stands.2,
       group_keeps draft (record { count = count; spec = tag }) keeps group follows.stands.1 follows.stands.2
           (copies_fit draft.head.version (tag_count draft) count follows.stands.0 copies.1),
     )
@@ -651,7 +615,7 @@ settles_one (within draft) (lines.Op op) keeps follows =
       op_keeps draft op keeps follows.is.form follows.room,
     )
 settles_one (within draft) lines.End keeps follows = (refl, keeps)
-settles_one (ended draft) line keeps follows = absurd follows.stands
+settles_one from line keeps follows = absurd follows.stands
 
 -- what lines settle that follow one another
 pub settle : (from to : ScenarioStanding) (said : List Line) → StandingKeeps from → LinesLead from said to
@@ -665,19 +629,17 @@ settle from to (line ∷ said) keeps leads =
 
 draft_is_scenario : (draft : DraftValue) → Keeps draft → IsScenario (scenario_of draft)
 draft_is_scenario draft keeps =
-    let entries = entries_keep draft keeps in
-    let count = keeps.count in
-    let few = keeps.few_airs in
+    let entries = entries_keep (tag_count draft) draft.air keeps.air in
     record {
       link = keeps.link;
       several = keeps.several;
       groups = keeps.groups;
       entries = entries.0;
       rising = entries.1;
-      steps = steps_keep draft keeps;
+      steps = steps_keep draft.head.version (tag_count draft) draft.steps keeps.steps;
       few_tags = keeps.few_tags;
-      few_air_lines = omega arith;
-      few_steps = keeps.few_steps;
+      few_air_lines = omega (arith, keeps.air.count, keeps.air.few);
+      few_steps = keeps.steps.few;
     }
 
 -- lines that lead from the start to the end are those of a scenario that keeps the limits

@@ -33,12 +33,13 @@ use Rattle.scenario.specs.EntryLines.{air_lines, choice_lines, entry_lines}
 use Rattle.scenario.specs.ScenarioText.{group_line, head_lines, only_lines, operation_lines, scenario_lines, step_lines}
 use Rattle.scenario.specs.Limits.{IsDefault, IsEntry, IsGroup, IsOpList, IsScenario, IsStep, SaysSomething, most_air_lines, most_ops, most_steps, most_tags_of}
 use Rattle.air_events.specs.Entries.{Rises, no_entry}
-use Rattle.scenario_text.specs.AirLines.{ChoosesOnce, entries_of, last_entry, with_said}
+use Rattle.scenario_text.specs.AirLines.{ChoosesOnce, entries_of, with_said}
 use Rattle.scenario_text.specs.Draft.{DraftValue, HeadValue, draft_with_step, new_draft, scenario_of, tag_count}
 use Rattle.scenario_text.specs.Standing.{MayStandNext, IsSaid, LinesLead, ScenarioStanding, standing_after, begun, ended, linked, start, within}
 use Rattle.scenario_text.specs.StepLines.{steps_of}
 use Rattle.scenario_text.proofs.Counts.{tags_more}
 use Rattle.scenario_text.proofs.Leading.{leads_on}
+use Rattle.scenario_text.proofs.Settled.{last_one}
 
 -- a link that keeps its ranges has the form of a line's
 legal_form : (link : LinkValue) → IsLegalLink link → IsLinkForm link
@@ -104,7 +105,7 @@ join head before (suc zero) tag fits = join_one head before tag fits
 join head before (suc (suc more)) tag fits = join_several head.version head.link head.several before (suc (suc more)) tag (omega arith) fits
 
 -- the tags of a group, and of others behind it
-tags_first : (group : TagGroup) (todo : List TagGroup) → length (tags_of (group ∷ todo)) ≡ group.count + length (tags_of todo)
+pub tags_first : (group : TagGroup) (todo : List TagGroup) → length (tags_of (group ∷ todo)) ≡ group.count + length (tags_of todo)
 tags_first group todo = length-append (copies_of group) (tags_of todo) ∙ ap (λ n. n + length (tags_of todo)) (count_copies group.count group.spec)
 
 speak_groups : (head : HeadValue) (before todo : List TagGroup) → All (IsGroup head.version) todo
@@ -288,10 +289,6 @@ speak_entry draft entry no_steps is above few =
     (speak_on_exchange draft entry no_steps is few) in
     subst (λ (said : List Line). LinesLead (within draft) said to) (sym first.2) (air_turns draft entry.0 first.0 first.1 to above leads)
 
-last_entry_one : (number : ℕ) (entry : Entry) → 0 < number → last_entry number entry ≡ (number, entry) ∷ []
-last_entry_one zero entry some = absurd (omega arith)
-last_entry_one (suc before) entry some = refl
-
 -- a draft to which these entries were added
 record SpokenEntries (draft : DraftValue) (todo : List (ℕ × Entry)) : Type 0 where
   to : DraftValue
@@ -319,7 +316,7 @@ speak_entries draft (entry ∷ todo) no_steps are rising few =
     let some : 0 < entry.0 = omega (arith, is.exchange.0) in
     let first = speak_entry draft entry no_steps is rising.0 (omega arith) in
     let others = speak_entries one todo no_steps (All-tail IsIt entry todo are) rising.1 (omega arith) in
-    let added : entries_of one.air ≡ entries_of draft.air ++ entry ∷ [] = ap (λ (last : List (ℕ × Entry)). entries_of draft.air ++ last) (last_entry_one entry.0 entry.1 some) in
+    let added : entries_of one.air ≡ entries_of draft.air ++ entry ∷ [] = ap (λ (last : List (ℕ × Entry)). entries_of draft.air ++ last) (last_one entry.0 entry.1 some) in
     record {
       to = others.to;
       leads = leads_on _ _ _ (entry_lines entry) (air_lines todo) first others.leads;
@@ -416,19 +413,7 @@ speak_step : (draft : DraftValue) (step : Step) → IsStep draft.head.version (t
 speak_step draft (steps.Select (commands.Select target action bank pointer mask)) is room =
     speak_plain draft _ _ refl
     (record { is = record { form = is; coherent = tt }; stands = tt; room = room; agrees = record { version = tt; copies = tt; names = tt; order = tt; once = tt } }) refl
-speak_step draft (steps.Select (commands.QueryRep session)) is room = absurd is
-speak_step draft (steps.Select (commands.Ack rn)) is room = absurd is
-speak_step draft (steps.Select (commands.Query dr code trext sel session target q)) is room = absurd is
-speak_step draft (steps.Select (commands.QueryAdjust session updn)) is room = absurd is
-speak_step draft (steps.Select commands.Nak) is room = absurd is
-speak_step draft (steps.Select (commands.ReqRn rn)) is room = absurd is
-speak_step draft (steps.Select (commands.Read bank pointer count rn)) is room = absurd is
-speak_step draft (steps.Select (commands.Write bank pointer covered rn)) is room = absurd is
-speak_step draft (steps.Select (commands.Kill covered rn)) is room = absurd is
-speak_step draft (steps.Select (commands.Lock payload rn)) is room = absurd is
-speak_step draft (steps.Select (commands.Access covered rn)) is room = absurd is
-speak_step draft (steps.Select (commands.BlockWrite bank pointer words rn)) is room = absurd is
-speak_step draft (steps.Select (commands.BlockErase bank pointer count rn)) is room = absurd is
+speak_step draft (steps.Select command) is room = absurd is
 speak_step draft steps.Nak is room =
     speak_plain draft steps.Nak lines.Nak refl
     (record { is = record { form = tt; coherent = tt }; stands = tt; room = room; agrees = record { version = tt; copies = tt; names = tt; order = tt; once = tt } }) refl

@@ -1,5 +1,5 @@
 -- Profile: what the lines of a scenario have said so far, from the first line behind its head on.
-use Rattle.std.specs.Prelude.{ℕ, ◌+◌, List, [], ◌∷◌, ◌++◌, length}
+use Rattle.std.specs.Prelude.{ℕ, List, [], ◌∷◌, ◌++◌, length}
 use Rattle.air_events.specs.declared.Several.{Several}
 use Rattle.command_grammar.specs.declared.commands.Command.TheVariants as commands
 use Rattle.pie_line.specs.Link.{LinkValue}
@@ -12,7 +12,7 @@ use Rattle.scenario.specs.declared.values.TagGroup.{TagGroup}
 use Rattle.scenario.specs.declared.values.Scenario.{Scenario}
 use Rattle.scenario.specs.Groups.{tags_of}
 use Rattle.scenario_text.specs.AirLines.{AirLinesValue, entries_of, no_air_lines, with_air_line}
-use Rattle.scenario_text.specs.StepLines.{StepLinesValue, step_line_count, no_step_lines, steps_of, with_only, with_op, with_round, with_step}
+use Rattle.scenario_text.specs.StepLines.{StepLinesValue, no_step_lines, steps_of, with_only, with_op, with_round, with_step}
 
 -- what the lines say that stand before all others
 pub record HeadValue : Type 0 where
@@ -32,10 +32,6 @@ new_draft head = record { head = head; groups = []; air = no_air_lines; steps = 
 -- how many tags there are
 abbrev pub tag_count : DraftValue → ℕ
 tag_count draft = length (tags_of draft.groups)
-
--- how many lines say a draft, behind its head
-abbrev pub size : DraftValue → ℕ
-size draft = length draft.groups + draft.air.count + step_line_count (steps_of draft.steps)
 
 -- the scenario that is said
 abbrev pub scenario_of : DraftValue → Scenario

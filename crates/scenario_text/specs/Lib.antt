@@ -6,7 +6,6 @@ pub mod Standing
 pub mod Faults
 pub mod FaultWords
 pub mod Taking
-pub mod Rest
 pub mod Beginnings
 pub mod LinesBefore
 pub use Rattle.scenario.specs.Limits

@@ -14,6 +14,7 @@ use Rattle.scenario_lines.specs.declared.line.Line.TheVariants as lines
 use Rattle.scenario_text.specs.declared.fault.Fault.{Fault}
 use Rattle.scenario_text.specs.declared.fault.Fault.TheVariants.{Line as LineReason, Copies, Tag, Order, Twice}
 use Rattle.scenario.specs.Limits.{most_tags_of, most_air_lines, most_ops, most_steps}
+use Rattle.scenario_text.specs.Faults.{FailsFirst}
 use Rattle.scenario_text.specs.Standing.{IsOfVersion, MayCopy, NamesTag, head_size}
 
 -- the version that the first line names
@@ -139,13 +140,13 @@ abbrev pub ChoosesFirst : List Line → Line → Type 0
 ChoosesFirst before (lines.Air exchange (happenings.Choice choice)) = AllByRecursion (ChoosesOther exchange) before
 ChoosesFirst before line = Unit {0}
 
--- the first reason for which a line that may stand here doesn't agree with the lines before it: it is a round of another
+-- The first reason for which a line that may stand here doesn't agree with the lines before it: it is a round of another
 -- version; it is copies that have no EPC to differ in, or are too many; its tag has no line among them; it is out of order; or
--- it is a second choice
+-- it is a second choice.
 abbrev pub DisagreesWith : List Line → Line → Fault → Type 0
-DisagreesWith before line (LineReason line_faults.Number) = ¬ IsOfVersion (version_in before) line
-DisagreesWith before line Copies = ¬ MayCopy (tags_in before) line
-DisagreesWith before line Tag = ¬ NamesTag (tags_in before) line
-DisagreesWith before line Order = NamesTag (tags_in before) line × (¬ KeepsOrderBehind before line)
-DisagreesWith before line Twice = NamesTag (tags_in before) line × KeepsOrderBehind before line × (¬ ChoosesFirst before line)
-DisagreesWith before line fault = ⊥
+DisagreesWith before line =
+    FailsFirst (IsOfVersion (version_in before) line) (LineReason line_faults.Number)
+    (FailsFirst (MayCopy (tags_in before) line) Copies
+    (FailsFirst (NamesTag (tags_in before) line) Tag
+    (FailsFirst (KeepsOrderBehind before line) Order
+    (FailsFirst (ChoosesFirst before line) Twice (λ fault. ⊥)))))

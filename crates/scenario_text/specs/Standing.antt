@@ -17,7 +17,7 @@ use Rattle.scenario.specs.declared.values.Scenario.{Scenario}
 use Rattle.scenario.specs.Limits.{most_tags_of, most_air_lines, most_ops, most_steps}
 use Rattle.scenario_text.specs.AirLines.{ChoosesOnce, KeepsOrder}
 use Rattle.scenario_text.specs.StepLines.{IsBareRound, steps_of}
-use Rattle.scenario_text.specs.Draft.{DraftValue, HeadValue, draft_after, new_draft, scenario_of, size, tag_count}
+use Rattle.scenario_text.specs.Draft.{DraftValue, HeadValue, draft_after, new_draft, scenario_of, tag_count}
 
 -- where a scenario stands after some of its lines
 pub data ScenarioStanding : Type 0 where
@@ -43,14 +43,6 @@ second_head link several = record { version = Two; link = link; several = severa
 abbrev pub head_size : Version → ℕ
 head_size One = 2
 head_size Two = 3
-
--- how many lines stand before it
-abbrev pub lines_before : ScenarioStanding → ℕ
-lines_before start = 0
-lines_before (begun version) = 1
-lines_before (linked link) = 2
-lines_before (within draft) = head_size draft.head.version + size draft
-lines_before (ended draft) = head_size draft.head.version + size draft + 1
 
 -- a line whose keyword is this may follow
 abbrev pub MayStand : ScenarioStanding → Keyword → Type 0

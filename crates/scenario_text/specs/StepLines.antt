@@ -1,13 +1,10 @@
 -- Profile: what the lines of the steps of a scenario have said so far.
-use Rattle.std.specs.Prelude.{◌≡◌, ◌≢◌, ℕ, ◌+◌, ◌*◌, ◌≤◌, List, [], ◌∷◌, ◌++◌, length, Option, Some, None}
-use Rattle.std.specs.List.{flat_map}
+use Rattle.std.specs.Prelude.{◌≡◌, ◌≢◌, ℕ, ◌≤◌, List, [], ◌∷◌, ◌++◌, length, Option, Some, None}
 use Rattle.access_ops.specs.declared.Op.{Op}
 use Rattle.access_ops.specs.declared.OpList.{OpList}
 use Rattle.q_round.specs.SpecValue.{SpecValue}
 use Rattle.scenario.specs.declared.values.Step.{Step}
 use Rattle.scenario.specs.declared.values.Step.TheVariants as steps
-use Rattle.scenario_lines.specs.declared.version.Version.TheVariants.{Two}
-use Rattle.scenario.specs.ScenarioText.{step_lines}
 use Rattle.scenario.specs.Limits.{most_ops, most_steps, no_operations}
 
 -- The last step stands apart where it is a round, since more may be said of its operations.
@@ -30,16 +27,10 @@ with_last before (Some spec) operations = before ++ steps.Round spec operations 
 abbrev pub steps_of : StepLinesValue → List Step
 steps_of said = with_last said.closed said.round said.operations
 
--- how many lines say steps, which is the same in both versions
-abbrev pub step_line_count : List Step → ℕ
-step_line_count steps = length (flat_map (step_lines Two) steps)
-
 -- they are no more than the limits allow
 pub record AreFewStepLines (said : StepLinesValue) : Type 0 where
   pub steps : length (steps_of said) ≤ most_steps
   pub ops : length said.operations.ops ≤ most_ops
-  -- a round has its own line, that of its EPC and those of its operations
-  pub lines : step_line_count said.closed ≤ (2 + most_ops) * length said.closed
 
 -- nothing is said yet of the operations of the last step, which is a round
 pub record IsBareRound (said : StepLinesValue) : Type 0 where

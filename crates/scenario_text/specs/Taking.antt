@@ -1,14 +1,14 @@
--- What a line does to the reader of a scenario.
-use Rattle.std.specs.Prelude.{◌≡◌, ℕ, List}
-use Rattle.text_fields.specs.Lines.{fields_of}
-use Rattle.scenario_lines.specs.declared.line.Line.{Line}
-use Rattle.scenario_lines.specs.LineFaults.{SpellsLine}
+-- What the reader of a scenario does with a line, and with all of them.
+use Rattle.std.specs.Prelude.{◌≡◌, ℕ, List, []}
+use Rattle.checked_lines.specs.TextRules.{IsText}
+use Rattle.scenario.specs.declared.values.Scenario.{Scenario}
+use Rattle.scenario_text.specs.declared.fault.ScenarioFault.{ScenarioFault}
+use Rattle.scenario_text.specs.declared.fault.ScenarioFault.TheVariants as faults
 use Rattle.scenario_text.specs.declared.progress.Progress.{Progress}
-use Rattle.scenario_text.specs.declared.progress.Progress.TheVariants.{Start, Begun, Linked, Within}
-use Rattle.scenario_text.specs.declared.progress.Taken.{Taken}
-use Rattle.scenario_text.specs.declared.progress.Taken.TheVariants.{More, End, Faulty}
-use Rattle.scenario_text.specs.Standing.{ScenarioStanding, start, begun, linked, within, ended, MayStandNext, standing_after}
-use Rattle.scenario_text.specs.Faults.{IsFaultyHere}
+use Rattle.scenario_text.specs.declared.progress.Progress.TheVariants.{Start, Begun, Linked, Within, Ended}
+use Rattle.scenario_text.specs.Draft.{DraftValue, scenario_of}
+use Rattle.scenario_text.specs.Standing.{ScenarioStanding, start, begun, linked, within, ended}
+use Rattle.scenario_text.specs.Faults.{IsFaultyHere, ScenarioMayEnd, scenario_rules, unended_reason}
 
 -- where the scenario stands when its reader has come so far
 abbrev pub standing_of : Progress → ScenarioStanding
@@ -16,24 +16,26 @@ standing_of Start = start
 standing_of (Begun version) = begun version
 standing_of (Linked link) = linked link
 standing_of (Within draft) = within draft
+standing_of (Ended draft) = ended draft
 
--- the line spells what may follow, and it leads there
-pub record LeadsBy (line : List ℕ) (old new : ScenarioStanding) : Type 0 where
-  pub said : Line
-  pub spelling : SpellsLine (fields_of line) said
-  pub follows : MayStandNext old said
-  pub leads : standing_after old said ≡ new
+-- why the line of this number is not taken
+abbrev pub IsNotTaken : ScenarioStanding → List ℕ → ℕ → ScenarioFault → Type 0
+IsNotTaken standing line number (faults.Line at fault) = (at ≡ number) × IsFaultyHere standing line fault
+IsNotTaken standing line number faults.OutOfMemory = Unit {0}
 
--- what this line did, and how far the reader has come then
-abbrev pub Takes : ScenarioStanding → List ℕ → Taken → Progress → Type 0
-Takes old line More new = LeadsBy line old (standing_of new)
-Takes old line End (Within draft) = LeadsBy line old (ended draft)
-Takes old line End new = ⊥
-Takes old line (Faulty fault) new = IsFaultyHere old line fault
+-- why no scenario is said, where these bytes stand behind the last line feed, as the line of this number
+abbrev pub IsUnfinished : ScenarioStanding → List ℕ → ℕ → ScenarioFault → Type 0
+IsUnfinished standing rest number (faults.Line at fault) = (at ≡ number) × (fault ≡ unended_reason standing) × (rest ≡ [] → ¬ ScenarioMayEnd standing)
+IsUnfinished standing rest number faults.OutOfMemory = Unit {0}
 
--- the standing is the one that is reached then
-abbrev pub LeadsTo : ScenarioStanding → Taken → Progress → Type 0
-LeadsTo standing More new = standing ≡ standing_of new
-LeadsTo standing End (Within draft) = standing ≡ ended draft
-LeadsTo standing End new = ⊥
-LeadsTo standing (Faulty fault) new = ⊥
+-- the scenario is said there
+pub record StandsFor (standing : ScenarioStanding) (scenario : Scenario) : Type 0 where
+  pub draft : DraftValue
+  pub is : standing ≡ ended draft
+  pub says : scenario_of draft ≡ scenario
+
+-- the bytes are a text that says the scenario
+pub record SaysScenario (bytes : List ℕ) (scenario : Scenario) : Type 0 where
+  pub draft : DraftValue
+  pub whole : IsText scenario_rules bytes (ended draft)
+  pub says : scenario_of draft ≡ scenario

@@ -1,8 +1,8 @@
 //! What the lines of a scenario have said so far, from its head on.
-ghost use Rattle.std.specs.Prelude.{◌≡◌, ◌≤◌, ◌↔◌, IsTrue, IfOk, IfErr, OnOk};
+ghost use Rattle.std.specs.Prelude.{◌≡◌, ◌↔◌, IsTrue, IfOk, IfErr, OnOk};
 ghost use Rattle.scenario_text.specs.Draft.{draft_after, new_draft, scenario_of, tag_count};
 ghost use Rattle.scenario_text.specs.Faults.{DisagreesBy};
-ghost use Rattle.scenario_text.specs.Standing.{Agrees, MayStandNext, HasRoomForLine, IsOfVersion, MayStand, NamesTag, lines_before, within};
+ghost use Rattle.scenario_text.specs.Standing.{Agrees, MayStandNext, HasRoomForLine, IsOfVersion, MayStand, NamesTag, within};
 
 mod air;
 mod latest;
@@ -67,19 +67,6 @@ impl Draft {
             air: AirLines::new(alloc),
             steps: StepLines::new(alloc),
         }
-    }
-
-    /// How many lines there are: two in the head, or three where it has a default; one for each group of tags,
-    /// air line, step and operation, and each EPC that operations are for.
-    pub(crate) fn line_count(&self) -> u32
-        ensures count { result ≡ lines_before (within self.now) }
-        ensures small { result ≤ 43045 }
-    {
-        let head = match self.head.version {
-            Version::One => 2,
-            Version::Two => 3,
-        };
-        head + self.tags.line_count() + self.air.count() + self.steps.line_count()
     }
 
     /// Whether no line stands behind those of the tags.

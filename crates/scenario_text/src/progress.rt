@@ -1,20 +1,21 @@
 //! How far the reader of a scenario has come, and what the next line says.
-ghost use Rattle.std.specs.Prelude.{◌≡◌, ◌≤◌, ◌+◌, ◌↔◌, IsTrue, IsOkAnd, IfOk, IfErr, OnOk};
+ghost use Rattle.std.specs.Prelude.{◌≡◌, ◌↔◌, [], IsTrue, IfOk, IfErr, OnOk};
 ghost use Rattle.text_fields.specs.Lines.{fields_of};
-ghost use Rattle.scenario_lines.specs.declared.line.Line.{Line};
 ghost use Rattle.scenario_lines.specs.LineFaults.{SpellsLine};
 ghost use Rattle.scenario_lines.specs.Spelling.{line_text};
-ghost use Rattle.scenario_text.specs.Faults.{DisagreesAt, IsFaultyAt, IsFaultyHere};
-ghost use Rattle.scenario_text.specs.Standing.{AgreesWith, MayStandNext, HasRoomForLine, MayStand, standing_after, begun, lines_before, start};
-ghost use Rattle.scenario_text.specs.Taking.{LeadsTo, Takes, standing_of};
+ghost use Rattle.scenario_text.specs.Faults.{DisagreesAt, IsFaultyAt, IsFaultyHere, LeadsBy};
+ghost use Rattle.scenario_text.specs.Standing.{AgreesWith, MayStandNext, HasRoomForLine, MayStand, standing_after, begun, start};
+ghost use Rattle.scenario_text.specs.Taking.{IsNotTaken, IsUnfinished, StandsFor, standing_of};
 
-use crate::Fault;
 use crate::draft::Draft;
+use crate::{Fault, ScenarioFault};
 use air_events::Several;
 use bit_strings::OutOfMemory;
 use pie_line::Link;
+use scenario::Scenario;
 use scenario_lines::{BegunLine, Keyword, Line, LineFault, Version};
 use std::alloc::Global;
+use std::mem;
 
 /// How far the reader of a scenario has come.
 #[derive(Drop)]
@@ -27,17 +28,8 @@ pub(crate) enum Progress {
     Linked(Link),
     /// Behind the head, or a line after it.
     Within(Draft),
-}
-
-/// What a line did.
-#[derive(Clone, Copy)]
-pub(crate) enum Taken {
-    /// The reader has come further, and goes on.
-    More,
-    /// The line is the end, and the draft is whole.
-    End,
-    /// The line is faulty, for this reason.
-    Faulty(Fault),
+    /// Behind the end.
+    Ended(Draft),
 }
 
 /// The version that the first line says.
@@ -68,19 +60,6 @@ fn behind_link(alloc: Global, version: Version, link: Link) -> Progress
 }
 
 impl Progress {
-    /// The number of the next line, counted from 1.
-    pub(crate) fn next_line(&self) -> u32
-        ensures number { result ≡ 1 + lines_before (standing_of self.now) }
-        ensures small { result ≤ 43046 }
-    {
-        match self {
-            Progress::Start => 1,
-            Progress::Begun(_) => 2,
-            Progress::Linked(_) => 3,
-            Progress::Within(draft) => 1 + draft.line_count(),
-        }
-    }
-
     /// Whether a line that begins with this keyword may follow.
     fn may_stand(&self, keyword: Keyword) -> bool
         ensures { IsTrue result ↔ MayStand (standing_of self.now) keyword }
@@ -90,6 +69,7 @@ impl Progress {
             Progress::Begun(_) => matches!(keyword, Keyword::Link),
             Progress::Linked(_) => matches!(keyword, Keyword::Default),
             Progress::Within(draft) => draft.may_stand(keyword),
+            Progress::Ended(_) => false,
         }
     }
 
@@ -98,7 +78,7 @@ impl Progress {
         ensures { IsTrue result ↔ HasRoomForLine (standing_of self.now) keyword }
     {
         match self {
-            Progress::Start | Progress::Begun(_) | Progress::Linked(_) => true,
+            Progress::Start | Progress::Begun(_) | Progress::Linked(_) | Progress::Ended(_) => true,
             Progress::Within(draft) => draft.has_room(keyword),
         }
     }
@@ -113,7 +93,9 @@ impl Progress {
         ensures disagrees { IfErr result (DisagreesAt (standing_of self.now) line.now) }
     {
         match self {
-            Progress::Start | Progress::Begun(_) | Progress::Linked(_) => Ok(()),
+            Progress::Start | Progress::Begun(_) | Progress::Linked(_) | Progress::Ended(_) => Ok(
+                (),
+            ),
             Progress::Within(draft) => draft.agree(line),
         }
     }
@@ -127,8 +109,6 @@ impl Progress {
         ensures ok { IfOk result
             (λ said. SpellsLine (fields_of line.now) said
             × MayStandNext (standing_of self.now) said) }
-        ensures only { (said : Line) → SpellsLine (fields_of line.now) said
-            → MayStandNext (standing_of self.now) said → IsOkAnd result (λ it. it ≡ said) }
         ensures refused { IfErr result (IsFaultyAt (standing_of self.now) (fields_of line.now)) }
     {
         let Some(begun) = BegunLine::new(line) else {
@@ -155,8 +135,6 @@ impl Progress {
         ensures ok { IfOk result
             (λ said. SpellsLine (fields_of line.now) said
             × MayStandNext (standing_of self.now) said) }
-        ensures only { (said : Line) → SpellsLine (fields_of line.now) said
-            → MayStandNext (standing_of self.now) said → IsOkAnd result (λ it. it ≡ said) }
         ensures refused { IfErr result (IsFaultyHere (standing_of self.now) line.now) }
     {
         match self {
@@ -164,63 +142,100 @@ impl Progress {
             Progress::Begun(_) | Progress::Linked(_) | Progress::Within(_) => {
                 self.said_behind_first(line)
             }
+            Progress::Ended(_) => Err(Fault::Extra),
+        }
+    }
+
+    /// Goes behind the end.
+    fn end(&mut self)
+        requires { MayStand (standing_of self.old) Keyword.End }
+        ensures { standing_of self.new ≡ standing_after (standing_of self.old) Line.End }
+    {
+        match mem::replace(self, Progress::Start) {
+            Progress::Within(draft) => *self = Progress::Ended(draft),
+            // The end stands behind the head alone.
+            Progress::Start | Progress::Begun(_) | Progress::Linked(_) | Progress::Ended(_) => {
+                unreachable!()
+            }
         }
     }
 
     /// Goes on by what a line says that may follow.
-    fn go_on(&mut self, alloc: Global, said: Line) -> Result<Taken, OutOfMemory>
+    fn go_on(&mut self, alloc: Global, said: Line) -> Result<(), OutOfMemory>
         requires { MayStandNext (standing_of self.old) said }
-        ensures { IfOk result
-            (λ taken. LeadsTo (standing_after (standing_of self.old) said.entry) taken self.new) }
+        ensures { OnOk result
+            (standing_of self.new ≡ standing_after (standing_of self.old) said.entry) }
     {
+        if matches!(&said, Line::End) {
+            self.end();
+            return Ok(());
+        }
         match self {
             Progress::Start => match said {
-                Line::Version(version) => {
-                    *self = Progress::Begun(version);
-                    Ok(Taken::More)
-                }
+                Line::Version(version) => *self = Progress::Begun(version),
                 // Only a version may stand first.
                 _ => unreachable!(),
             },
             Progress::Begun(version) => match said {
-                Line::Link(link) => {
-                    *self = behind_link(alloc, *version, link);
-                    Ok(Taken::More)
-                }
+                Line::Link(link) => *self = behind_link(alloc, *version, link),
                 // Only a link may stand behind the version.
                 _ => unreachable!(),
             },
             Progress::Linked(link) => match said {
                 Line::Default(several) => {
                     *self = Progress::Within(Draft::new(alloc, Version::Two, *link, several));
-                    Ok(Taken::More)
                 }
                 // Only the default may stand behind the link of version 2.
                 _ => unreachable!(),
             },
-            Progress::Within(draft) => {
-                if matches!(&said, Line::End) {
-                    return Ok(Taken::End);
-                }
-                draft.add(alloc, said)?;
-                Ok(Taken::More)
-            }
+            Progress::Within(draft) => draft.add(alloc, said)?,
+            // Nothing may stand behind the end.
+            Progress::Ended(_) => unreachable!(),
         }
+        Ok(())
     }
 
-    /// Takes the next line, which is given without its line feed. After an error no more is known of how far
-    /// the reader has come.
-    pub(crate) fn take(&mut self, alloc: Global, line: &[u8]) -> Result<Taken, OutOfMemory>
-        ensures taken { IfOk result
-            (λ taken. Takes (standing_of self.old) line.now taken self.new) }
-        ensures only { (said : Line) → SpellsLine (fields_of line.now) said
-            → MayStandNext (standing_of self.old) said
-            → IfOk result (λ taken. LeadsTo
-            (standing_after (standing_of self.old) said) taken self.new) }
+    /// Takes the next line, which has this number and is given without its line feed. After an error no more is known of
+    /// how far the reader has come.
+    ///
+    /// # Errors
+    ///
+    /// The first reason for which the line may not stand here; or there was no memory.
+    pub(crate) fn take(
+        &mut self,
+        alloc: Global,
+        line: &[u8],
+        number: u32,
+    ) -> Result<(), ScenarioFault>
+        ensures taken { OnOk result
+            (LeadsBy (standing_of self.old) line.now (standing_of self.new)) }
+        ensures refused { IfErr result (IsNotTaken (standing_of self.old) line.now number) }
     {
         match self.next_said(line) {
-            Ok(said) => self.go_on(alloc, said),
-            Err(fault) => Ok(Taken::Faulty(fault)),
+            Ok(said) => Ok(self.go_on(alloc, said)?),
+            Err(fault) => Err(ScenarioFault::Line(number, fault)),
+        }
+    }
+    /// The scenario that the lines said, where these bytes stand behind the last line feed, as the line of this number.
+    ///
+    /// # Errors
+    ///
+    /// The text may not end so; or there was no memory.
+    pub(crate) fn finish(self, rest: &[u8], number: u32) -> Result<Scenario, ScenarioFault>
+        ensures ok { IfOk result
+            (λ scenario. (rest.now ≡ []) × StandsFor (standing_of self) scenario) }
+        ensures refused { IfErr result (IsUnfinished (standing_of self) rest.now number) }
+    {
+        match self {
+            Progress::Start | Progress::Begun(_) | Progress::Linked(_) | Progress::Within(_) => {
+                Err(ScenarioFault::Line(number, Fault::End))
+            }
+            Progress::Ended(draft) => {
+                if !rest.is_empty() {
+                    return Err(ScenarioFault::Line(number, Fault::Extra));
+                }
+                Ok(draft.finish()?)
+            }
         }
     }
 }

@@ -1,9 +1,7 @@
 //! What the lines of the steps of a scenario have said so far.
-ghost use Rattle.std.specs.Prelude.{◌≡◌, ◌≢◌, ◌<◌, ◌≤◌, ◌+◌, ◌^◌, ◌↔◌, ◌++◌, [], length, None, IsTrue, IfOk, OnOk, OnErr};
+ghost use Rattle.std.specs.Prelude.{◌≡◌, ◌≢◌, ◌<◌, ◌≤◌, ◌^◌, ◌↔◌, ◌++◌, [], length, None, IsTrue, IfOk, OnOk, OnErr};
 ghost use Rattle.scenario.specs.Limits.{most_ops, most_steps, no_operations};
-ghost use Rattle.scenario.specs.ScenarioText.{step_lines};
-ghost use Rattle.scenario_lines.specs.declared.version.Version.TheVariants.{Two};
-ghost use Rattle.scenario_text.specs.StepLines.{IsBareRound, step_line_count, no_step_lines, steps_of, with_last, with_only, with_op, with_round, with_step};
+ghost use Rattle.scenario_text.specs.StepLines.{IsBareRound, no_step_lines, steps_of, with_last, with_only, with_op, with_round, with_step};
 
 use access_ops::{Op, OpList};
 use bit_strings::{List, OutOfMemory};
@@ -30,20 +28,17 @@ pub(crate) struct StepLines {
     /// What is said of its operations.
     only: Option<EpcWords>,
     ops: Vec<Op>,
-    /// How many lines say the steps before that round.
-    closed_lines: u32,
 }
 
 impl Model for StepLines {
-    ghost use Rattle.std.specs.Prelude.{◌≡◌};
-    ghost use Rattle.scenario_text.specs.StepLines.{AreFewStepLines, StepLinesValue, step_line_count};
+    ghost use Rattle.scenario_text.specs.StepLines.{AreFewStepLines, StepLinesValue};
 
     ghost Value = { StepLinesValue };
 
     ghost view = { λ a. record { closed = a.closed.items; round = a.round; operations = record { only = a.only; ops = a.ops.items } } };
 
-    ghost invariant = { λ a. (a.closed_lines ≡ step_line_count a.closed.items)
-        × AreFewStepLines (record { closed = a.closed.items; round = a.round; operations = record { only = a.only; ops = a.ops.items } }) };
+    ghost invariant = { λ a. AreFewStepLines
+        (record { closed = a.closed.items; round = a.round; operations = record { only = a.only; ops = a.ops.items } }) };
 }
 
 impl StepLines {
@@ -56,21 +51,7 @@ impl StepLines {
             round: None,
             only: None,
             ops: Vec::new(alloc),
-            closed_lines: 0,
         }
-    }
-
-    /// How many lines say the last step, where that is a round: its own, that of the EPC which the
-    /// operations are for, and theirs.
-    fn round_lines(&self) -> u32
-        ensures lines { step_line_count (steps_of self.now) ≡ step_line_count self.now.closed
-            + result }
-        ensures small { result ≤ 2 + most_ops }
-    {
-        if self.round.is_none() {
-            return 0;
-        }
-        1 + u32::from(self.only.is_some()) + self.ops.len() as u32
     }
 
     /// How many steps there are.
@@ -79,15 +60,6 @@ impl StepLines {
         ensures small { result ≤ 1024 }
     {
         self.closed.len() + usize::from(self.round.is_some())
-    }
-
-    /// How many lines say the steps: one each, one for each operation, and one for each EPC that
-    /// operations are for.
-    pub(crate) fn line_count(&self) -> u32
-        ensures count { result ≡ step_line_count (steps_of self.now) }
-        ensures small { result ≤ 34850 }
-    {
-        self.closed_lines + self.round_lines()
     }
 
     /// Whether the last step is a round.
@@ -128,25 +100,20 @@ impl StepLines {
               operations = no_operations;
             }) }
     {
-        let lines = self.round_lines();
         let round = self.round.take();
         let only = self.only.take();
         let ops = mem::replace(&mut self.ops, Vec::new(alloc));
         close(&mut self.closed, round, only, ops)?;
-        self.closed_lines += lines;
         Ok(())
     }
 
-    /// Adds a step that is said by one line, and is no round.
-    #[tactic(auto, using(crate::proofs::Counts::one_line_more))]
+    /// Adds a step that is no round.
     pub(crate) fn add_step(&mut self, alloc: Global, step: Step) -> Result<(), OutOfMemory>
-        requires room { length (steps_of self.old) < most_steps }
-        requires line { length (step_lines Two step) ≡ 1 }
+        requires { length (steps_of self.old) < most_steps }
         ensures { OnOk result (self.new ≡ with_step self.old step) }
     {
         self.end_round(alloc)?;
         self.closed.push(step)?;
-        self.closed_lines += 1;
         Ok(())
     }
 
@@ -185,7 +152,6 @@ impl StepLines {
             round,
             only,
             ops,
-            closed_lines: _,
         } = self;
         close(&mut closed, round, only, ops)?;
         Ok(List::new(closed))

@@ -67,14 +67,6 @@ impl TagLines {
         self.count
     }
 
-    /// How many lines say them.
-    pub(crate) fn line_count(&self) -> u32
-        ensures count { result ≡ length self.now }
-        ensures small { result ≤ most_tags }
-    {
-        self.groups.len() as u32
-    }
-
     /// Whether one tag more is none too many in a scenario of this version.
     pub(crate) fn has_room(&self, version: Version) -> bool
         ensures { IsTrue result ↔ (length (tags_of self.now) < most_tags_of version) }

@@ -4,7 +4,7 @@ use Rattle.scenario_text.proofs.Reader.{IsRead}
 use Rattle.scenario_text.proofs.reading.read_lines.Given as goal
 
 abbrev pub invariant-loop-line : goal.invariant-loop-line
-invariant-loop-line l = IsRead l.text l.rest (standing_of l.progress)
+invariant-loop-line l = IsRead l.text l.rest (standing_of l.progress) l.number
 
 abbrev pub decreases-loop-line : goal.decreases-loop-line
 decreases-loop-line l = length l.rest

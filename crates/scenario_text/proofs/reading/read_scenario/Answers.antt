@@ -5,9 +5,8 @@ use Rattle.scenario_text.specs.declared.fault.ScenarioFault.TheVariants as fault
 use Rattle.scenario.specs.ScenarioText.{scenario_text}
 use Rattle.scenario.specs.Limits.{IsScenario}
 use Rattle.scenario_text.specs.Faults.{IsRefused}
-use Rattle.scenario_text.specs.Rest.{SaysScenario}
-use Rattle.scenario_text.proofs.OneFault.{none_is_read, told_exactly}
-use Rattle.scenario_text.proofs.Reader.{is_the_one, read_is_spelled}
+use Rattle.scenario_text.specs.Taking.{SaysScenario}
+use Rattle.scenario_text.proofs.WholeTexts.{is_the_one, memory_alone, none_is_read, read_is_spelled, told_exactly}
 use Rattle.scenario_text.proofs.reading.read_scenario.Goals as goal
 
 pub returns-clause-ok : goal.returns-clause-ok
@@ -16,7 +15,12 @@ returns-clause-ok c =
     (λ scenario read. read_is_spelled c.args.text.now scenario read) c.read_lines.ensures.ok
 
 pub returns-clause-only : goal.returns-clause-only
-returns-clause-only c = λ said is same. is_the_one c.line_laws.ensures c.args.text.now c.read_lines.result said is same c.read_lines.ensures.only
+returns-clause-only c = λ said is same. (
+  IfOk-weaker c.read_lines.result (SaysScenario c.args.text.now) (λ scenario. scenario ≡ said)
+      (λ scenario read. is_the_one c.line_laws.ensures c.args.text.now said scenario is same read) c.read_lines.ensures.ok,
+  IfErr-weaker c.read_lines.result (IsRefused c.args.text.now) (λ fault. fault ≡ faults.OutOfMemory)
+      (λ refusal refused. memory_alone c.line_laws.ensures c.args.text.now said refusal is same refused) c.read_lines.ensures.refused,
+)
 
 pub returns-clause-exact : goal.returns-clause-exact
 returns-clause-exact c = λ number fault first. (
