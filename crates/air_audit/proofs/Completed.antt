@@ -1,22 +1,22 @@
 -- Each standing that lines lead to can be completed to the end of a trace, so that a refused line is the first with which none
 -- goes on.
-use Rattle.std.proofs.Common.{◌≡◌, ◌+◌, ◌<◌, ◌≤◌, ℕ, zero, suc, List, [], ◌∷◌, ◌++◌, length, map, take, drop, Option, Some, None, slice_get, arith, ap, inr, refl, sym, ◌∙◌, subst, append_assoc, length-append, take-append-drop}
-use Rattle.std.proofs.Math.Seq.{take-append-add}
-use Rattle.std.proofs.lemmas.List.{take-append-le}
+use Rattle.std.proofs.Common.{◌≡◌, ◌+◌, ◌<◌, ◌≤◌, ℕ, zero, suc, List, [], ◌∷◌, ◌++◌, length, map, take, drop, Option, Some, None, slice_get, arith, ap, inl, inr, refl, ◌∙◌, subst}
 use Rattle.text_fields.specs.Lines.{lines_of}
 use Rattle.air_model.specs.Past.{Start, Item, exchanged, tags_behind}
-use Rattle.report_lines.specs.ReportLine.{BlfLine, TagLine, DoneLine}
+use Rattle.checked_lines.specs.TextRules.{Faulty, HasOutcomeFrom, Lead}
+use Rattle.report_lines.specs.ReportLine.{TagLine, DoneLine}
+use Rattle.report_lines.specs.ReadLines.{text_of}
 use Rattle.runs.specs.Listing.{Listed, listed_by}
 use Rattle.runs.specs.Report.{list_line, tag_lines}
-use Rattle.pie_line.specs.Link.{blf_of}
 use Rattle.tag_machine.specs.TagValue.{TagValue}
+use Rattle.air_audit.specs.AuditedTrace.{trace_rules}
+use Rattle.air_audit.specs.FirstRefusal.{BeginTrace, IsFirstRefusal, IsFirstThatBeginsNone}
+use Rattle.air_audit.specs.Standing.{TraceStanding, begun, between, sending, listing, telling, ended, behind_exchange, link_line, rx_line, told_line, behind_told, next_tag, TellsNextTag, TraceGoesOn}
+use Rattle.air_audit.specs.declared.first_words.Word.TheVariants as words
 use Rattle.air_audit.specs.declared.verdict.AuditReason.{AuditReason}
-use Rattle.air_audit.specs.FirstRefusal.{IsFirstRefusal, FirstTraceLinesBegin, IsFirstThatBeginsNone}
-use Rattle.air_audit.specs.Standing.{TraceStanding, begun, between, sending, listing, telling, ended, behind_exchange, rx_line, told_line, behind_told, next_tag, TellsNextTag, TraceGoesOn, TraceLeads}
-use Rattle.report_lines.specs.ReadLines.{text_of}
-use Rattle.air_audit.proofs.Leading.{leads-on, leads-off}
-use Rattle.air_audit.proofs.OneReason.{more-unrefused}
 use Rattle.air_audit.proofs.OneStanding.{Laws}
+use Rattle.air_audit.proofs.OneVerdict.{unambiguous}
+use Rattle.air_audit.proofs.Words.{goes-as, rx-is-rx, told-goes}
 
 slice_get-drop : {X : Type 0} (xs : List X) (n place : ℕ) → slice_get (drop n xs) place ≡ slice_get xs (n + place)
 slice_get-drop xs zero place = let same : place ≡ 0 + place = omega arith in ap (slice_get xs) same
@@ -40,7 +40,7 @@ tells-next start past told next is = record {
 
 -- the lines of the tags from one on lead to the end
 pub rest-leads : (start : Start) (past : List Item) (told : ℕ) (rest : List TagValue) (from : TraceStanding)
-    → ((place : ℕ) → slice_get rest place ≡ next_tag start past (told + place)) → TellsFrom start past told from → TraceLeads start from (rest_lines told rest) (ended past)
+    → ((place : ℕ) → slice_get rest place ≡ next_tag start past (told + place)) → TellsFrom start past told from → Lead (trace_rules start) from (rest_lines told rest) (ended past)
 rest-leads start past told [] from are goes =
     let same : told + 0 ≡ told = omega arith in
     (ended past, goes (text_of DoneLine) (ended past) (tells-next start past told None (are 0 ∙ ap (λ (n : ℕ). next_tag start past n) same)), refl)
@@ -50,14 +50,14 @@ rest-leads start past told (tag ∷ rest) from are goes =
       goes (text_of (TagLine told tag)) (telling past (told + 1)) (tells-next start past told (Some tag) (are 0 ∙ ap (λ (n : ℕ). next_tag start past n) same)),
       rest-leads start past (told + 1) rest (telling past (told + 1))
           (λ place. let later : told + suc place ≡ told + 1 + place = omega arith in are (suc place) ∙ ap (λ (n : ℕ). next_tag start past n) later)
-          (λ line to tells. tells),
+          (λ line to tells. told-goes start past (told + 1) (telling past (told + 1)) line to tells tells),
     )
 
 -- a standing and lines that lead from it to the end of a trace
 record Completes (start : Start) (from : TraceStanding) : Type 0 where
   pub more : List (List ℕ)
   pub past : List Item
-  pub leads : TraceLeads start from more (ended past)
+  pub leads : Lead (trace_rules start) from more (ended past)
 
 completes-more : (start : Start) (from : TraceStanding) (line : List ℕ) (behind : TraceStanding) → TraceGoesOn start from line behind → Completes start behind → Completes start from
 completes-more start from line behind goes rest = record { more = line ∷ rest.more; past = rest.past; leads = (behind, goes, rest.leads) }
@@ -70,7 +70,7 @@ completes-told start past told from goes = record {
 }
 
 completes-between : (start : Start) (past : List Item) → Completes start (between past)
-completes-between start past = completes-told start past 0 (between past) (λ line to tells. inr (inr tells))
+completes-between start past = completes-told start past 0 (between past) (λ line to tells. told-goes start past 0 (between past) line to tells tells)
 
 completes-listed : (start : Start) (past : List Item) (listed : List Listed) → Completes start (behind_exchange past listed)
 completes-listed start past [] = completes-between start past
@@ -79,57 +79,57 @@ completes-listed start past (listed ∷ others) =
 
 completes : (start : Start) (from : TraceStanding) → Completes start from
 completes start begun =
-    completes-more start begun (text_of (BlfLine (blf_of start.link).0 (blf_of start.link).1)) (between []) (record { text = refl; leads = refl }) (completes-between start [])
+    completes-more start begun (text_of (link_line start.link)) (between []) (record { text = refl; leads = refl }) (completes-between start [])
 completes start (between past) = completes-between start past
 completes start (sending past sent) =
     completes-more start (sending past sent) (text_of (rx_line start sent)) (behind_exchange (exchanged sent ∷ past) (listed_by sent))
-    (record { text = refl; leads = refl }) (completes-listed start (exchanged sent ∷ past) (listed_by sent))
+    (goes-as start (sending past sent) (text_of (rx_line start sent)) (behind_exchange (exchanged sent ∷ past) (listed_by sent)) words.Rx (rx-is-rx start sent) (record { text = refl; leads = refl }))
+    (completes-listed start (exchanged sent ∷ past) (listed_by sent))
 completes start (listing past listed) = completes-listed start past (listed ∷ [])
-completes start (telling past told) = completes-told start past told (telling past told) (λ line to tells. tells)
+completes start (telling past told) = completes-told start past told (telling past told) (λ line to tells. told-goes start past told (telling past told) line to tells tells)
 completes start (ended past) = record { more = []; past = past; leads = refl }
 
 -- the lines before a refused one begin a trace, and so does each front of them
-fewer-begin : (start : Start) (bytes : List ℕ) (number : ℕ) (reason : AuditReason) → IsFirstRefusal start bytes number reason → (fewer : ℕ) → fewer < number
-    → FirstTraceLinesBegin start bytes fewer
-fewer-begin start bytes number reason first fewer less =
-    let rest = completes start first.standing in
-    let place : number ≡ length first.before + 1 = first.place in
-    let within : fewer ≤ length first.before = omega arith in
-    let count : length (lines_of bytes) ≡ length first.before + length (first.line ∷ first.behind) =
-    ap length first.cut ∙ length-append first.before (first.line ∷ first.behind) in
-    let front : take fewer (lines_of bytes) ≡ take fewer first.before = ap (take fewer) first.cut ∙ take-append-le fewer first.before (first.line ∷ first.behind) within in
-    let lines : first.before ++ rest.more ≡ take fewer (lines_of bytes) ++ (drop fewer first.before ++ rest.more) =
-    ap (λ (before : List (List ℕ)). before ++ rest.more) (sym (take-append-drop fewer first.before))
-    ∙ append_assoc (take fewer first.before) (drop fewer first.before) rest.more
-    ∙ ap (λ (taken : List (List ℕ)). taken ++ (drop fewer first.before ++ rest.more)) (sym front) in
-    record {
-      whole = omega arith;
-      more = drop fewer first.before ++ rest.more;
-      past = rest.past;
-      leads = subst (λ (all : List (List ℕ)). TraceLeads start begun all (ended rest.past)) lines
-          (leads-on start begun first.standing (ended rest.past) first.before rest.more first.leads rest.leads);
-    }
+fewer-go : (start : Start) (from : TraceStanding) (first : ℕ) (lines : List (List ℕ)) (number : ℕ) (reason : AuditReason) → HasOutcomeFrom (trace_rules start) from first lines (Faulty number reason)
+    → (fewer : ℕ) → fewer + first ≤ number → BeginTrace start from lines fewer
+fewer-go start from first [] number reason is fewer within = absurd is
+fewer-go start from first (line ∷ lines) number reason is zero within =
+    let rest = completes start from in record { whole = omega arith; more = rest.more; past = rest.past; leads = rest.leads }
+fewer-go start from first (line ∷ []) number reason is (suc fewer) within = absurd (omega (arith, is.1))
+fewer-go start from first (line ∷ next ∷ lines) number reason (inl stops) (suc fewer) within = absurd (omega (arith, stops.1))
+fewer-go start from first (line ∷ next ∷ lines) number reason (inr more) (suc fewer) within =
+    let rest = fewer-go start more.0 (first + 1) (next ∷ lines) number reason more.2 fewer (omega arith) in
+    record { whole = omega (arith, rest.whole); more = rest.more; past = rest.past; leads = (more.0, more.1, rest.leads) }
 
--- ... and with it none does
-none-begins : Laws → (start : Start) (bytes : List ℕ) (number : ℕ) (reason : AuditReason) → IsFirstRefusal start bytes number reason → FirstTraceLinesBegin start bytes number → ⊥
-none-begins laws start bytes number reason first begins =
-    let place : number ≡ length first.before + 1 = first.place in
-    let whole : number < length (lines_of bytes) = begins.whole in
-    let count : length (lines_of bytes) ≡ length first.before + length (first.line ∷ first.behind) =
-    ap length first.cut ∙ length-append first.before (first.line ∷ first.behind) in
-    let some : 1 ≤ length first.behind = omega arith in
-    let taken : take number (lines_of bytes) ++ begins.more ≡ first.before ++ (first.line ∷ begins.more) =
-    ap (λ (all : List (List ℕ)). take number all ++ begins.more) first.cut
-    ∙ ap (λ (n : ℕ). take n (first.before ++ first.line ∷ first.behind) ++ begins.more) place
-    ∙ ap (λ (front : List (List ℕ)). front ++ begins.more) (take-append-add first.before (first.line ∷ first.behind) 1)
-    ∙ append_assoc first.before (first.line ∷ []) begins.more in
-    let goes = leads-off laws start begun first.standing (ended begins.past) first.before (first.line ∷ begins.more) first.leads
-    (subst (λ (all : List (List ℕ)). TraceLeads start begun all (ended begins.past)) taken begins.leads) in
-    more-unrefused start first.standing first.line first.behind goes.0 reason (λ none. let count_of_none = ap length none in omega arith) goes.1 first.refused
+-- no line before the first is the refused one
+not-before : (start : Start) (from : TraceStanding) (first : ℕ) (lines : List (List ℕ)) (number : ℕ) (reason : AuditReason) → HasOutcomeFrom (trace_rules start) from first lines (Faulty number reason)
+    → first ≤ number
+not-before start from first [] number reason is = absurd is
+not-before start from first (line ∷ []) number reason is = omega (arith, is.1)
+not-before start from first (line ∷ next ∷ lines) number reason (inl stops) = omega (arith, stops.1)
+not-before start from first (line ∷ next ∷ lines) number reason (inr more) = omega (arith, not-before start more.0 (first + 1) (next ∷ lines) number reason more.2)
+
+-- with the refused line they don't
+none-go : Laws → (start : Start) (from : TraceStanding) (first : ℕ) (lines : List (List ℕ)) (number : ℕ) (reason : AuditReason) → HasOutcomeFrom (trace_rules start) from first lines (Faulty number reason)
+    → (count : ℕ) → count + first ≡ number + 1 → BeginTrace start from lines count → ⊥
+none-go laws start from first lines number reason is zero place go = omega (arith, place, not-before start from first lines number reason is)
+none-go laws start from first [] number reason is (suc count) place go = is
+none-go laws start from first (line ∷ []) number reason is (suc count) place go = omega (arith, go.whole)
+none-go laws start from first (line ∷ next ∷ lines) number reason (inl stops) (suc count) place go =
+    (unambiguous laws start).not_faulty from go.leads.0 line reason go.leads.1 stops.0
+none-go laws start from first (line ∷ next ∷ lines) number reason (inr more) (suc count) place go =
+    let same = (unambiguous laws start).one_standing from go.leads.0 more.0 line go.leads.1 more.1 in
+    none-go laws start more.0 (first + 1) (next ∷ lines) number reason more.2 count (omega (arith, place))
+    (record {
+      whole = omega (arith, go.whole);
+      more = go.more;
+      past = go.past;
+      leads = subst (λ (s : TraceStanding). Lead (trace_rules start) s (take count (next ∷ lines) ++ go.more) (ended go.past)) same go.leads.2;
+    })
 
 pub first-that-begins-none : Laws → (start : Start) (bytes : List ℕ) (number : ℕ) (reason : AuditReason) → IsFirstRefusal start bytes number reason
     → IsFirstThatBeginsNone start bytes number
 first-that-begins-none laws start bytes number reason first = record {
-  before = fewer-begin start bytes number reason first;
-  none = none-begins laws start bytes number reason first;
+  before = λ fewer less. fewer-go start begun 1 (lines_of bytes) number reason first fewer (omega (arith, less));
+  none = none-go laws start begun 1 (lines_of bytes) number reason first number refl;
 }

@@ -1,32 +1,20 @@
--- Parts of which each holds the one before: there is one first part that fails.
-use Rattle.std.proofs.Common.{◌≡◌, ◌<◌, ◌≤◌, ℕ, zero, suc, arith, ⊎_elim, eq-or-lt_of_le, subst, sym}
+-- Parts that are looked for one after another: one alone is the first that fails, and none is where each holds.
+use Rattle.std.proofs.Common.{◌≡◌, inl, inr, List, [], ◌∷◌, sym, ◌∙◌}
+use Rattle.air_audit.specs.LineRefusals.{Part, FirstFails}
+use Rattle.air_audit.specs.declared.verdict.AuditReason.{AuditReason}
 
--- the parts before one hold
-abbrev pub HoldsBefore : (ℕ → Type 0) → ℕ → Type 0
-HoldsBefore Part zero = Unit {0}
-HoldsBefore Part (suc place) = Part place
+pub one-first : (parts : List Part) (one other : AuditReason) → FirstFails parts one → FirstFails parts other → one ≡ other
+one-first [] one other a b = absurd a
+one-first (part ∷ parts) one other (inl a) (inl b) = a.1 ∙ sym b.1
+one-first (part ∷ parts) one other (inl a) (inr b) = absurd (a.0 b.0)
+one-first (part ∷ parts) one other (inr a) (inl b) = absurd (b.0 a.0)
+one-first (part ∷ parts) one other (inr a) (inr b) = one-first parts one other a.1 b.1
 
--- this is the first part that fails
-pub record FailsAt (Part : ℕ → Type 0) (place : ℕ) : Type 0 where
-  pub before : HoldsBefore Part place
-  pub fails : ¬ Part place
+abbrev pub AllHold : List Part → Type 0
+AllHold [] = Unit {0}
+AllHold (part ∷ parts) = part.holds × AllHold parts
 
--- each part holds the one before
-abbrev pub Narrows : (ℕ → Type 0) → Type 0
-Narrows Part = (place : ℕ) → Part (suc place) → Part place
-
--- ... and so each earlier one
-pub holds-down : (Part : ℕ → Type 0) → Narrows Part → (low high : ℕ) → low ≤ high → Part high → Part low
-holds-down Part down low zero within holds = subst Part (omega arith) holds
-holds-down Part down low (suc high) within holds =
-    ⊎_elim (λ same. subst Part (sym same) holds) (λ below. holds-down Part down low high (omega arith) (down high holds)) (eq-or-lt_of_le within)
-
-not-earlier : (Part : ℕ → Type 0) → Narrows Part → (low high : ℕ) → low < high → FailsAt Part low → FailsAt Part high → ⊥
-not-earlier Part down low zero below first other = omega arith
-not-earlier Part down low (suc high) below first other = first.fails (holds-down Part down low high (omega arith) other.before)
-
-pub one-first : (Part : ℕ → Type 0) → Narrows Part → (one other : ℕ) → FailsAt Part one → FailsAt Part other → one ≡ other
-one-first Part down one other first second =
-    let below : one < other → ⊥ = λ less. not-earlier Part down one other less first second in
-    let above : other < one → ⊥ = λ less. not-earlier Part down other one less second first in
-    omega arith
+pub none-fails : (parts : List Part) (reason : AuditReason) → AllHold parts → FirstFails parts reason → ⊥
+none-fails [] reason all fails = fails
+none-fails (part ∷ parts) reason all (inl fails) = fails.0 all.0
+none-fails (part ∷ parts) reason all (inr fails) = none-fails parts reason all.1 fails.1

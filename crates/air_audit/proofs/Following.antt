@@ -1,30 +1,34 @@
 -- How a trace goes on with a line, or why it doesn't, from what is known of the auditor.
-use Rattle.std.proofs.Common.{◌≡◌, ◌≢◌, ℕ, ◌+◌, ◌≤◌, inl, inr, Bool, List, [], ◌∷◌, ◌++◌, length, Option, Some, None, slice_get, Result, Ok, Err, codes, refl, sym, ap, ◌∙◌, subst, arith}
+use Rattle.std.proofs.Common.{◌≡◌, ◌≢◌, ℕ, ◌+◌, ◌≤◌, Bool, List, [], ◌∷◌, ◌++◌, length, Option, Some, None, slice_get, Result, Ok, Err, codes, refl, sym, ap, ◌∙◌, subst, arith}
 use Rattle.std.specs.Prelude.{IfErr, IsOk}
 use Rattle.std.proofs.lemmas.List.{append_cancel_right}
 use Rattle.text_fields.specs.Lines.{line_feed}
-use Rattle.pie_line.specs.Link.{LinkValue, blf_of}
+use Rattle.pie_line.specs.Link.{LinkValue}
 use Rattle.tag_machine.specs.Answers.{Sent, IsSent}
 use Rattle.tag_machine.specs.TagValue.{TagValue}
 use Rattle.air_model.specs.Channel.{Given, heard_levels}
-use Rattle.air_model.specs.Past.{Start, Record, Item, exchanges_in, next_entry, tags_behind}
+use Rattle.air_model.specs.Past.{Start, Record, Item, exchanged, exchanges_in, next_entry, tags_behind}
 use Rattle.air_model.specs.Reception.{IsGiven}
 use Rattle.air_model.proofs.ReceptionLaws.{heard_most}
-use Rattle.report_lines.specs.ReportLine.{ReportLine, BlfLine, RxLine, report_line_text}
-use Rattle.runs.proofs.Answering.{TagLaws, given-of-answers}
-use Rattle.air_audit.specs.Auditing.{AuditorValue, GoesOnOrStops, GoesOnWith, AuditorIsAt, IsHearing, KeepsUp, SendsTo, AuditorStandsAt, StopsAt, TellsLine, TellsOther, position_behind}
-use Rattle.air_audit.specs.LineRefusals.{DiffersFirst, IsNoTxLine, IsRefusedHere}
-use Rattle.air_audit.specs.Standing.{begun, between, sending, telling, TellsNextTag, behind_told, next_tag, record_of, rx_line, told_line}
 use Rattle.report_lines.specs.ReadLines.{first_field, most_rx_levels, text_of}
-use Rattle.air_audit.specs.TraceLines.{IsOfTags, IsUnjudged}
+use Rattle.report_lines.specs.ReportLine.{ReportLine, ListLine, RxLine, report_line_text}
+use Rattle.runs.proofs.Answering.{TagLaws, given-of-answers}
+use Rattle.runs.specs.Listing.{Listed, listed_by}
+use Rattle.air_audit.specs.Auditing.{AuditorValue, GoesOnOrStops, GoesOnWith, AuditorIsAt, IsHearing, KeepsUp, SendsTo, AuditorStandsAt, StopsAt, TellsLine, TellsOther, position_behind}
+use Rattle.air_audit.specs.FirstWords.{first_word, word_of}
+use Rattle.air_audit.specs.LineRefusals.{DiffersFirst, IsNoTxLine, IsOther, IsRefusedAs, IsRefusedHere}
+use Rattle.air_audit.specs.Standing.{GoesOnAs, TraceStanding, begun, between, sending, telling, TellsNextTag, behind_exchange, behind_told, link_line, next_tag, record_of, rx_line, told_line}
 use Rattle.air_audit.specs.declared.auditor.Position.{Position}
 use Rattle.air_audit.specs.declared.auditor.Position.TheVariants as positions
+use Rattle.air_audit.specs.declared.first_words.Word.{Word}
+use Rattle.air_audit.specs.declared.first_words.Word.TheVariants as words
 use Rattle.air_audit.specs.declared.stop.Stop.{Stop}
 use Rattle.air_audit.specs.declared.stop.Stop.TheVariants as stops
 use Rattle.air_audit.specs.declared.verdict.AuditReason.{AuditReason}
 use Rattle.air_audit.specs.declared.verdict.AuditReason.TheVariants as reasons
 use Rattle.air_audit.proofs.Received.{made-length}
 use Rattle.air_audit.proofs.RxLines.{IsReadable, rx-differs}
+use Rattle.air_audit.proofs.Words.{goes-as}
 
 -- a line has the text that was written
 pub same-text : (line text : List ℕ) (expected : ReportLine) → text ≡ report_line_text expected → line ++ line_feed ∷ [] ≡ text → line ≡ text_of expected
@@ -53,10 +57,7 @@ keeps-moved start past before after moved keeps =
     subst (λ (a : AuditorValue). KeepsUp start past a) (sym moved.moves) same
 
 -- the first line is that of the link
-abbrev pub blf_text : LinkValue → List ℕ
-blf_text link = text_of (BlfLine (blf_of link).0 (blf_of link).1)
-
-pub begins : (start : Start) (line : List ℕ) (before after : AuditorValue) → KeepsUp start [] before → line ≡ blf_text start.link → Moved before after
+pub begins : (start : Start) (line : List ℕ) (before after : AuditorValue) → KeepsUp start [] before → line ≡ text_of (link_line start.link) → Moved before after
     → after.position ≡ positions.Between → GoesOnWith start begun line after
 begins start line before after keeps text moved position = record {
   next = between [];
@@ -64,30 +65,34 @@ begins start line before after keeps text moved position = record {
   stands = record { position_is = position; keeps = keeps-moved start [] before after moved keeps };
 }
 
-pub begins-not : (start : Start) (line : List ℕ) (link : LinkValue) → link ≡ start.link → line ≢ blf_text link → IsRefusedHere start begun line reasons.Blf
-begins-not start line link same other = (refl, λ text. other (text ∙ sym (ap blf_text same)))
+pub begins-not : (start : Start) (line : List ℕ) (link : LinkValue) → link ≡ start.link → line ≢ text_of (link_line link) → IsRefusedHere start begun line reasons.Blf
+begins-not start line link same other = (refl, λ text. other (text ∙ sym (ap (λ (l : LinkValue). text_of (link_line l)) same)))
+
+-- a line is refused by the word that it begins with
+pub refused-as : (start : Start) (from : TraceStanding) (line : List ℕ) (reason : AuditReason) (word : Word) → first_word line ≡ word → IsRefusedAs start from word line reason
+    → IsRefusedHere start from line reason
+refused-as start from line reason word is refused = subst (λ (w : Word). IsRefusedAs start from w line reason) (sym is) refused
 
 -- the line sends a command
-pub sends-on : (start : Start) (past : List Item) (line : List ℕ) (after : AuditorValue) → SendsTo start past line after → GoesOnWith start (between past) line after
-sends-on start past line after to = record {
+pub sends-on : (start : Start) (past : List Item) (line : List ℕ) (after : AuditorValue) → first_word line ≡ words.Tx → SendsTo start past line after → GoesOnWith start (between past) line after
+sends-on start past line after word to = record {
   next = sending past (record_of start past to.command);
-  goes = inl (record { command = to.command; sends = to.sends; leads = refl });
+  goes = goes-as start (between past) line _ words.Tx word (record { command = to.command; sends = to.sends; leads = refl });
   stands = to.hearing;
 }
 
 -- ... or none
-pub sends-not : (start : Start) (past : List Item) (line : List ℕ) (exchange : ℕ) (reason : AuditReason) → first_field line ≡ codes "tx" → exchange ≡ exchanges_in past + 1
+pub sends-not : (start : Start) (past : List Item) (line : List ℕ) (exchange : ℕ) (reason : AuditReason) → first_word line ≡ words.Tx → exchange ≡ exchanges_in past + 1
     → IsNoTxLine exchange line reason → IsRefusedHere start (between past) line reason
-sends-not start past line exchange reasons.List word number refused = absurd refused
-sends-not start past line exchange reasons.Word word number refused = absurd refused
-sends-not start past line exchange reason word number refused = inl (word, subst (λ n. IsNoTxLine n line reason) number refused)
+sends-not start past line exchange reason word number refused =
+    refused-as start (between past) line reason words.Tx word (subst (λ n. IsNoTxLine n line reason) number refused)
 
 -- nothing in the line is judged
-pub passes-by : (start : Start) (past : List Item) (line : List ℕ) (auditor : AuditorValue) → IsUnjudged (first_field line) → AuditorIsAt positions.Between start past auditor
+pub passes-by : (start : Start) (past : List Item) (line : List ℕ) (auditor : AuditorValue) → first_word line ≡ words.Unjudged → AuditorIsAt positions.Between start past auditor
     → GoesOnWith start (between past) line auditor
-passes-by start past line auditor unjudged at = record {
+passes-by start past line auditor word at = record {
   next = between past;
-  goes = inr (inl (record { unjudged = unjudged; leads = refl }));
+  goes = goes-as start (between past) line (between past) words.Unjudged word refl;
   stands = at;
 }
 
@@ -104,33 +109,48 @@ stands-told : (start : Start) (past : List Item) (told : ℕ) (next : Option Tag
 stands-told start past told None after keeps position = record { position_is = position; keeps = keeps }
 stands-told start past told (Some tag) after keeps position = record { position_is = position; keeps = keeps }
 
-pub told-on : (start : Start) (past : List Item) (told : ℕ) (line : List ℕ) (before after : AuditorValue) → KeepsUp start past before
-    → TellsLine told (slice_get before.tags told) line before after → GoesOnWith start (telling past told) line after
-told-on start past told line before after keeps tells =
-    let position : after.position ≡ position_behind told (slice_get before.tags told) = ap (λ (a : AuditorValue). a.position) tells.moves in
-    record {
-      next = behind_told past told (next_tag start past told);
-      goes = tells-next start past told line before after keeps tells;
-      stands =
-          stands-told start past told (next_tag start past told) after
-          (keeps-moved start past before after (record { moves = tells.moves ∙ ap (λ (p : Position). record before { position = p; text = after.text }) (sym position) }) keeps)
-          (position ∙ ap (λ (tags : List TagValue). position_behind told (slice_get tags told)) keeps.tags);
-    }
+-- The line of the next tag behind so many may follow here, and another that begins as one is refused.
+pub record TagsFollow (start : Start) (past : List Item) (told : ℕ) (from : TraceStanding) : Type 0 where
+  pub goes : (line : List ℕ) (to : TraceStanding) → TellsNextTag start past told line to → GoesOnAs start from words.OfTags line to
+  pub refused : (line : List ℕ) (reason : AuditReason) → IsOther (told_line told (next_tag start past told)) reasons.Tag line reason → IsRefusedAs start from words.OfTags line reason
 
--- ... as the first of them
-pub told-first : (start : Start) (past : List Item) (line : List ℕ) (after : AuditorValue) → GoesOnWith start (telling past 0) line after → GoesOnWith start (between past) line after
-told-first start past line after on = record { next = on.next; goes = inr (inr on.goes); stands = on.stands }
+-- the line of a tag, or the last line, or why it is none
+pub record TellsOrStops (told : ℕ) (line : List ℕ) (before after : AuditorValue) (result : Result (Unit {0}) Stop) : Type 0 where
+  pub tells : IsOk result → TellsLine told (slice_get before.tags told) line before after
+  pub other : IfErr result (TellsOther (told_line told (slice_get before.tags told)) line)
 
-tag-not : (start : Start) (past : List Item) (told : ℕ) (line : List ℕ) (before : AuditorValue) → KeepsUp start past before
-    → line ≢ text_of (told_line told (slice_get before.tags told)) → line ≢ text_of (told_line told (next_tag start past told))
-tag-not start past told line before keeps other text =
-    other (text ∙ sym (ap (λ (tags : List TagValue). text_of (told_line told (slice_get tags told))) keeps.tags))
+module _ (start : Start) (past : List Item) (told : ℕ) (from : TraceStanding) (follow : TagsFollow start past told from) (line : List ℕ) (word : first_word line ≡ words.OfTags)
+    (before after : AuditorValue) (keeps : KeepsUp start past before) where
+  told-on : TellsLine told (slice_get before.tags told) line before after → GoesOnWith start from line after
+  told-on tells =
+      let position : after.position ≡ position_behind told (slice_get before.tags told) = ap (λ (a : AuditorValue). a.position) tells.moves in
+      let to = behind_told past told (next_tag start past told) in
+      record {
+        next = to;
+        goes = goes-as start from line to words.OfTags word (follow.goes line to (tells-next start past told line before after keeps tells));
+        stands =
+            stands-told start past told (next_tag start past told) after
+            (keeps-moved start past before after (record { moves = tells.moves ∙ ap (λ (p : Position). record before { position = p; text = after.text }) (sym position) }) keeps)
+            (position ∙ ap (λ (tags : List TagValue). position_behind told (slice_get tags told)) keeps.tags);
+      }
 
-pub first-not : (start : Start) (past : List Item) (line : List ℕ) (before : AuditorValue) (stop : Stop) → KeepsUp start past before → IsOfTags (first_field line)
-    → TellsOther (told_line 0 (slice_get before.tags 0)) line stop → StopsAt stop start (between past) line
-first-not start past line before (stops.OutOfMemory error) keeps word other = tt
-first-not start past line before (stops.Refused reason) keeps word other =
-    subst (λ (r : AuditReason). IsRefusedHere start (between past) line r) (sym other.0) (inr (word, tag-not start past 0 line before keeps other.1))
+  told-not : (stop : Stop) → TellsOther (told_line told (slice_get before.tags told)) line stop → StopsAt stop start from line
+  told-not (stops.OutOfMemory error) other = tt
+  told-not (stops.Refused reason) other =
+      refused-as start from line reason words.OfTags word
+      (follow.refused line reason
+      (other.0, λ text. other.1 (text ∙ sym (ap (λ (tags : List TagValue). text_of (told_line told (slice_get tags told))) keeps.tags))))
+
+  -- the answer to a line that begins as the line of a tag, or as the last one
+  pub tells-or-stops : (result : Result (Unit {0}) Stop) → TellsOrStops told line before after result → GoesOnOrStops result start from line after
+  tells-or-stops (Ok done) told = told-on (told.tells refl)
+  tells-or-stops (Err stop) told = told-not stop told.other
+
+pub tags-first : (start : Start) (past : List Item) → TagsFollow start past 0 (between past)
+tags-first start past = record { goes = λ line to tells. tells; refused = λ line reason other. other }
+
+pub tags-next : (start : Start) (past : List Item) (told : ℕ) → TagsFollow start past told (telling past told)
+tags-next start past told = record { goes = λ line to tells. tells; refused = λ line reason other. other }
 
 -- no levels come that are too many for a line
 pub levels-few : TagLaws → (start : Start) (past : List Item) (sent : Record) (auditor : AuditorValue) → IsHearing start past sent auditor → length auditor.answers.levels ≤ most_rx_levels
@@ -152,17 +172,35 @@ rx-is start past sent auditor is =
     let levels = is.levels in
     cc
 
--- the line is another
-rx-refused : (start : Start) (past : List Item) (sent : Record) (line : List ℕ) (reason : AuditReason) → first_field line ≡ codes "rx" → line ≢ text_of (rx_line start sent)
-    → DiffersFirst sent.exchange (length sent.replies) (heard_levels start.link sent.given) line reason → IsRefusedHere start (sending past sent) line reason
-rx-refused start past sent line reasons.List word other first = absurd first
-rx-refused start past sent line reasons.Word word other first = absurd first
-rx-refused start past sent line reason word other first = (word, record { other = other; first = first })
+pub rx-alike : (exchange exchange' count count' : ℕ) (levels levels' : List Bool) → exchange ≡ exchange' → count ≡ count' → levels ≡ levels'
+    → text_of (RxLine exchange count levels) ≡ text_of (RxLine exchange' count' levels')
+rx-alike exchange exchange' count count' levels levels' same_exchange same_count same_levels = rw (same_exchange, same_count, same_levels) refl
+
+-- the line is that of what was heard, behind which a list line has to stand or none
+pub heard-on : (start : Start) (past : List Item) (sent : Record) (line : List ℕ) (auditor after : AuditorValue) (listed : List Listed) → IsHearing start past sent auditor
+    → first_field line ≡ codes "rx" → line ≡ text_of (RxLine auditor.exchanges auditor.answers.count auditor.answers.levels) → listed_by sent ≡ listed
+    → AuditorStandsAt start (behind_exchange (exchanged sent ∷ past) listed) after → GoesOnWith start (sending past sent) line after
+heard-on start past sent line auditor after listed is word text same stands = record {
+  next = behind_exchange (exchanged sent ∷ past) listed;
+  goes = goes-as start (sending past sent) line (behind_exchange (exchanged sent ∷ past) listed) words.Rx (ap word_of word)
+      (record { text = text ∙ ap text_of (rx-is start past sent auditor is); leads = ap (behind_exchange (exchanged sent ∷ past)) (sym same) });
+  stands = stands;
+}
+
+-- the list line that is written has the round and the slot of the record
+pub list-written : (start : Start) (past : List Item) (sent : Record) (auditor : AuditorValue) (new old : List ℕ) (round slot pc : ℕ) (epc : List ℕ) → IsHearing start past sent auditor
+    → new ≡ old ++ report_line_text (ListLine round slot pc epc) → old ≡ [] → round ≡ auditor.round → slot ≡ auditor.slot
+    → new ≡ report_line_text (ListLine sent.round sent.slot pc epc)
+list-written start past sent auditor new old round slot pc epc is written none round_is slot_is =
+    let round_of = round_is ∙ is.keeps.round ∙ sym (ap (λ (r : Record). r.round) is.made) in
+    let slot_of = slot_is ∙ is.keeps.slot ∙ sym (ap (λ (r : Record). r.slot) is.made) in
+    written ∙ ap (λ (l : List ℕ). l ++ report_line_text (ListLine round slot pc epc)) none ∙ ap (λ n. report_line_text (ListLine n slot pc epc)) round_of
+    ∙ ap (λ n. report_line_text (ListLine sent.round n pc epc)) slot_of
 
 -- why a line that begins with rx isn't what an auditor heard, which may be read
 pub record IsNotHeard (line : List ℕ) (auditor : AuditorValue) (reason : AuditReason) : Type 0 where
   pub readable : IsReadable auditor.exchanges auditor.answers.count auditor.answers.levels
-  pub word : first_field line ≡ codes "rx"
+  pub word : first_word line ≡ words.Rx
   pub first : DiffersFirst auditor.exchanges auditor.answers.count auditor.answers.levels line reason
 
 pub rx-not : (start : Start) (past : List Item) (sent : Record) (line : List ℕ) (auditor : AuditorValue) (reason : AuditReason) → IsHearing start past sent auditor
@@ -170,19 +208,11 @@ pub rx-not : (start : Start) (past : List Item) (sent : Record) (line : List ℕ
 rx-not start past sent line auditor reason is not =
     let other = rx-differs auditor.exchanges auditor.answers.count auditor.answers.levels line reason not.readable not.first in
     let number = number-kept start past sent auditor is in
-    let same : DiffersFirst sent.exchange (length sent.replies) (heard_levels start.link sent.given) line reason =
-    subst (λ n. DiffersFirst n (length sent.replies) (heard_levels start.link sent.given) line reason) number
-    (subst (λ n. DiffersFirst auditor.exchanges n (heard_levels start.link sent.given) line reason) is.count
-    (subst (λ (l : List Bool). DiffersFirst auditor.exchanges auditor.answers.count l line reason) is.levels not.first)) in
-    rx-refused start past sent line reason not.word (λ text. other (text ∙ sym (ap text_of (rx-is start past sent auditor is)))) same
-
--- the line of the first tag, or the last line, or why it is none
-pub record TellsFirst (line : List ℕ) (before after : AuditorValue) (result : Result (Unit {0}) Stop) : Type 0 where
-  pub told : IsOk result → TellsLine 0 (slice_get before.tags 0) line before after
-  pub other : IfErr result (TellsOther (told_line 0 (slice_get before.tags 0)) line)
-
--- the answer to a line that begins as the line of a tag, or as the last one
-pub tells-first : (start : Start) (past : List Item) (line : List ℕ) (before after : AuditorValue) (result : Result (Unit {0}) Stop) → KeepsUp start past before → IsOfTags (first_field line)
-    → TellsFirst line before after result → GoesOnOrStops result start (between past) line after
-tells-first start past line before after (Ok done) keeps word tells = told-first start past line after (told-on start past 0 line before after keeps (tells.told refl))
-tells-first start past line before after (Err stop) keeps word tells = first-not start past line before stop keeps word tells.other
+    refused-as start (sending past sent) line reason words.Rx not.word
+    (record {
+      other = λ text. other (text ∙ sym (ap text_of (rx-is start past sent auditor is)));
+      first =
+          subst (λ n. DiffersFirst n (length sent.replies) (heard_levels start.link sent.given) line reason) number
+          (subst (λ n. DiffersFirst auditor.exchanges n (heard_levels start.link sent.given) line reason) is.count
+          (subst (λ (l : List Bool). DiffersFirst auditor.exchanges auditor.answers.count l line reason) is.levels not.first));
+    })

@@ -1,8 +1,6 @@
 pub mod Words
 pub mod FirstPart
 pub mod OneStanding
-pub mod OneReason
-pub mod Leading
 pub mod OneVerdict
 pub mod Completed
 pub mod Spelled
@@ -15,7 +13,6 @@ pub mod Exchanges
 pub mod Following
 pub mod OneExchange
 pub mod HeardAnswers
-pub mod Positions
 pub mod ReadLines
 pub mod Received
 pub mod SentFrames

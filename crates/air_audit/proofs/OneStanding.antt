@@ -1,5 +1,5 @@
--- A line that follows leads to one standing: a tx line sends one command, and no line is of two kinds.
-use Rattle.std.proofs.Common.{◌≡◌, ◌+◌, ◌≤◌, ℕ, Bool, inl, inr, List, [], ◌∷◌, map, get_or, codes, arith, ap, refl, sym, ◌∙◌, subst}
+-- A line that follows leads to one standing: a tx line sends one command.
+use Rattle.std.proofs.Common.{◌≡◌, ◌+◌, ◌≤◌, ℕ, Bool, List, [], ◌∷◌, map, get_or, codes, arith, ap, refl, sym, ◌∙◌, subst}
 use Rattle.std.specs.Prelude.{All}
 use Rattle.std.specs.Fmt.{decimal}
 use Rattle.text_fields.specs.Binary.{binary}
@@ -9,11 +9,13 @@ use Rattle.command_grammar.specs.Commands.{SpellsCommand}
 use Rattle.command_grammar.specs.declared.commands.Command.{Command}
 use Rattle.pie_line.specs.Pie.{IsFrame, longest_interval}
 use Rattle.pie_line.specs.declared.frame.FrameKind.{FrameKind}
-use Rattle.air_model.specs.Past.{Start, Item, exchanges_in}
-use Rattle.air_audit.specs.Standing.{TraceStanding, begun, between, sending, listing, telling, ended, TellsNextTag, TraceGoesOn, record_of, next_tag}
-use Rattle.report_lines.specs.ReadLines.{first_field, TxFields, RxFields}
-use Rattle.air_audit.specs.TraceLines.{IsOfTags, AreFrameOf, Sends}
-use Rattle.air_audit.proofs.Words.{told-word, tx-unjudged, tx-tags, unjudged-tags}
+use Rattle.air_model.specs.Past.{Start, exchanges_in}
+use Rattle.report_lines.specs.ReadLines.{TxFields, RxFields}
+use Rattle.air_audit.specs.FirstWords.{first_word, word_of}
+use Rattle.air_audit.specs.Standing.{GoesOnAs, TraceStanding, begun, between, sending, listing, telling, record_of}
+use Rattle.air_audit.specs.TraceLines.{AreFrameOf, Sends}
+use Rattle.air_audit.specs.declared.first_words.Word.{Word}
+use Rattle.air_audit.specs.declared.first_words.Word.TheVariants as words
 
 -- the laws of frames and of commands that this goes by
 pub record Laws : Type 0 where
@@ -58,32 +60,17 @@ sends-one laws exchange line one other first second =
     frame-one laws one other second.tx.intervals (subst (AreFrameOf one) (tx-same line first.tx second.tx).1 first.frame) second.frame
 
 -- a line that sends a command begins with tx
-pub tx-word : (line : List ℕ) → TxFields line → first_field line ≡ codes "tx"
-tx-word line tx = ap (λ (fields : List (List ℕ)). get_or fields 0 []) tx.are
+pub tx-is-tx : (line : List ℕ) → TxFields line → first_word line ≡ words.Tx
+tx-is-tx line tx = ap (λ (fields : List (List ℕ)). word_of (get_or fields 0 [])) tx.are
 
--- ... and one that tells of a tag with tag or done
-pub tells-word : (start : Start) (past : List Item) (told : ℕ) (line : List ℕ) (to : TraceStanding) → TellsNextTag start past told line to → IsOfTags (first_field line)
-tells-word start past told line to tells =
-    subst (λ (text : List ℕ). IsOfTags (first_field text)) (sym tells.text) (told-word told (next_tag start past told))
-
-pub goes-one : Laws → (start : Start) (from : TraceStanding) (line : List ℕ) (to other : TraceStanding) → TraceGoesOn start from line to → TraceGoesOn start from line other → to ≡ other
-goes-one laws start begun line to other one second = one.leads ∙ sym second.leads
-goes-one laws start (between past) line to other (inl one) (inl second) =
-    let same = sends-one laws (exchanges_in past + 1) line one.command second.command one.sends second.sends in
-    one.leads ∙ ap (λ (command : Command). sending past (record_of start past command)) same ∙ sym second.leads
-goes-one laws start (between past) line to other (inl one) (inr (inl second)) = absurd (tx-unjudged (first_field line) (tx-word line one.sends.tx) second.unjudged)
-goes-one laws start (between past) line to other (inl one) (inr (inr second)) =
-    absurd (tx-tags (first_field line) (tx-word line one.sends.tx) (tells-word start past 0 line other second))
-goes-one laws start (between past) line to other (inr (inl one)) (inl second) = absurd (tx-unjudged (first_field line) (tx-word line second.sends.tx) one.unjudged)
-goes-one laws start (between past) line to other (inr (inl one)) (inr (inl second)) = one.leads ∙ sym second.leads
-goes-one laws start (between past) line to other (inr (inl one)) (inr (inr second)) =
-    absurd (unjudged-tags (first_field line) one.unjudged (tells-word start past 0 line other second))
-goes-one laws start (between past) line to other (inr (inr one)) (inl second) =
-    absurd (tx-tags (first_field line) (tx-word line second.sends.tx) (tells-word start past 0 line to one))
-goes-one laws start (between past) line to other (inr (inr one)) (inr (inl second)) =
-    absurd (unjudged-tags (first_field line) second.unjudged (tells-word start past 0 line to one))
-goes-one laws start (between past) line to other (inr (inr one)) (inr (inr second)) = one.leads ∙ sym second.leads
-goes-one laws start (sending past sent) line to other one second = one.leads ∙ sym second.leads
-goes-one laws start (listing past listed) line to other one second = one.leads ∙ sym second.leads
-goes-one laws start (telling past told) line to other one second = one.leads ∙ sym second.leads
-goes-one laws start (ended past) line to other one second = absurd one
+pub goes-one : Laws → (start : Start) (from : TraceStanding) (word : Word) (line : List ℕ) (one other : TraceStanding) → GoesOnAs start from word line one → GoesOnAs start from word line other
+    → one ≡ other
+goes-one laws start begun word line one other a b = a.leads ∙ sym b.leads
+goes-one laws start (between past) words.Tx line one other a b =
+    a.leads ∙ ap (λ (command : Command). sending past (record_of start past command)) (sends-one laws (exchanges_in past + 1) line a.command b.command a.sends b.sends) ∙ sym b.leads
+goes-one laws start (between past) words.Unjudged line one other a b = a ∙ sym b
+goes-one laws start (between past) words.OfTags line one other a b = a.leads ∙ sym b.leads
+goes-one laws start (sending past sent) words.Rx line one other a b = a.leads ∙ sym b.leads
+goes-one laws start (listing past listed) word line one other a b = a.leads ∙ sym b.leads
+goes-one laws start (telling past told) words.OfTags line one other a b = a.leads ∙ sym b.leads
+goes-one laws start from word line one other a b = absurd a

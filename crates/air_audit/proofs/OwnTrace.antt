@@ -1,5 +1,5 @@
 -- The trace of a run without events is audited: its lines follow one another, and lead to the end.
-use Rattle.std.proofs.Common.{◌≡◌, ◌+◌, ◌*◌, ◌^◌, ◌<◌, ◌≤◌, ℕ, false, filter, inl, inr, List, [], ◌∷◌, ◌++◌, length, map, codes, slice_get, arith, ap, ap₂, refl, sym, ◌∙◌, subst, append_assoc}
+use Rattle.std.proofs.Common.{◌≡◌, ◌+◌, ◌*◌, ◌^◌, ◌<◌, ◌≤◌, ℕ, false, filter, List, [], ◌∷◌, ◌++◌, length, map, slice_get, arith, ap, ap₂, refl, sym, ◌∙◌, subst, append_assoc}
 use Rattle.std.specs.List.{AllByRecursion}
 use Rattle.std.proofs.lemmas.List.{map-append}
 use Rattle.std.proofs.lemmas.List.Elements.{filter-append}
@@ -30,17 +30,27 @@ use Rattle.scenario.specs.declared.values.Scenario.{Scenario}
 use Rattle.scenario.specs.declared.values.Step.{Step}
 use Rattle.tag_machine.specs.Exchange.{outcome_in}
 use Rattle.tag_machine.specs.TagValue.{TagValue}
-use Rattle.air_audit.specs.AuditedTrace.{IsAudited}
+use Rattle.report_lines.specs.ReadLines.{text_of}
+use Rattle.checked_lines.specs.TextRules.{HasOutcomeFrom, Lead, Whole}
+use Rattle.checked_lines.specs.laws.ReadingOn.{outcome_behind}
+use Rattle.air_audit.specs.AuditedTrace.{IsAudited, trace_rules}
+use Rattle.air_audit.specs.FirstWords.{first_word}
 use Rattle.air_audit.specs.OwnTraces.{HasNoEventStep}
-use Rattle.air_audit.specs.Standing.{Place, TraceStanding, begun, between, sending, ended, behind_exchange, place_in, place_of_command, record_of, rx_line, TraceLeads}
-use Rattle.report_lines.specs.ReadLines.{text_of, first_field}
-use Rattle.air_audit.specs.TraceLines.{IsUnjudged, Sends}
+use Rattle.air_audit.specs.Standing.{Place, TraceStanding, begun, between, sending, ended, behind_exchange, place_in, place_of_command, record_of, rx_line}
+use Rattle.air_audit.specs.TraceLines.{Sends}
+use Rattle.air_audit.specs.declared.first_words.Word.TheVariants as words
 use Rattle.air_audit.proofs.Completed.{rest_lines, rest-leads}
-use Rattle.air_audit.proofs.Leading.{leads-on}
+use Rattle.air_audit.proofs.OneStanding.{tx-is-tx}
 use Rattle.air_audit.proofs.Places.{IsAck, IsInPlace, stands-in-place}
 use Rattle.air_audit.proofs.SentLines.{WrittenLaws, frame-sends}
 use Rattle.air_audit.proofs.Spelled.{IsOfTrace, lines-of-trace}
-use Rattle.air_audit.proofs.Words.{line-word, word-text}
+use Rattle.air_audit.proofs.Words.{goes-as, op-unjudged, round-unjudged, rx-is-rx, seen-unjudged, told-goes}
+
+-- lines that follow others
+leads-on : (start : Start) (from middle to : TraceStanding) (lines more : List (List ℕ)) → Lead (trace_rules start) from lines middle → Lead (trace_rules start) middle more to
+    → Lead (trace_rules start) from (lines ++ more) to
+leads-on start from middle to [] more first then = subst (λ (standing : TraceStanding). Lead (trace_rules start) standing more to) (sym first) then
+leads-on start from middle to (line ∷ lines) more first then = (first.0, first.1, leads-on start first.0 middle to lines more first.2 then)
 
 -- a record of a run: it is made of its command, which is legal and not beyond all numbers, and an ACK stands in its place
 record IsOwnRecord (start : Start) (past : List Item) (sent : Record) : Type 0 where
@@ -112,7 +122,7 @@ listed-same sent other command is is' same =
 
 -- the list lines of an exchange, one or none
 lists-lead : (start : Start) (past : List Item) (sent : Record) (reception : Reception)
-    → TraceLeads start (behind_exchange past (listed_from sent reception)) (map text_of (map list_line (listed_from sent reception))) (between past)
+    → Lead (trace_rules start) (behind_exchange past (listed_from sent reception)) (map text_of (map list_line (listed_from sent reception))) (between past)
 lists-lead start past sent (whole_reply (replies.Epc pc epc)) = (between past, record { text = refl; leads = refl }, refl)
 lists-lead start past sent reception = refl
 
@@ -123,7 +133,7 @@ judged-ack start own sent (commands.Ack rn) ack place = ap (λ (p : Place). next
 judged-ack start own sent command ack place = absurd ack
 
 exchange-leads : WrittenLaws → (start : Start) (past own : List Item) (sent : Record) → IsLegalLink start.link → IsSame past own → IsOwnRecord start past sent
-    → TraceLeads start (between own) (map text_of (wave_lines start.link sent ++ map list_line (listed_by sent))) (between (exchanged (record_of start own sent.command) ∷ own))
+    → Lead (trace_rules start) (between own) (map text_of (wave_lines start.link sent ++ map list_line (listed_by sent))) (between (exchanged (record_of start own sent.command) ∷ own))
 exchange-leads laws start past own sent lawful same is =
     let judge : Record = record_of start own sent.command in
     let made = made-same start past own sent same is in
@@ -135,29 +145,22 @@ exchange-leads laws start past own sent lawful same is =
     let listed : listed_by sent ≡ listed_by judge =
     listed-same sent judge sent.command refl refl (λ ack. made ∙ judged-ack start own sent sent.command ack (sym same.place ∙ is.in_place ack)) in (
       sending own judge,
-      inl (record { command = sent.command; sends = sends; leads = refl }),
+      goes-as start (between own) _ (sending own judge) words.Tx (tx-is-tx _ sends.tx) (record { command = sent.command; sends = sends; leads = refl }),
       (
         behind_exchange (exchanged judge ∷ own) (listed_by judge),
-        record { text = ap (λ (r : Record). text_of (rx_line start r)) made; leads = refl },
-        subst (λ (listed : List Listed). TraceLeads start (behind_exchange (exchanged judge ∷ own) (listed_by judge)) (map text_of (map list_line listed)) (between (exchanged judge ∷ own)))
+        goes-as start (sending own judge) _ (behind_exchange (exchanged judge ∷ own) (listed_by judge)) words.Rx (rx-is-rx start sent)
+            (record { text = ap (λ (r : Record). text_of (rx_line start r)) made; leads = refl }),
+        subst (λ (listed : List Listed). Lead (trace_rules start) (behind_exchange (exchanged judge ∷ own) (listed_by judge)) (map text_of (map list_line listed)) (between (exchanged judge ∷ own)))
             (sym listed) (lists-lead start (exchanged judge ∷ own) judge (reception_of_ack judge judge.command)),
       ),
     )
 
 -- lines that aren't judged
-unjudged-lead : (start : Start) (past : List Item) (lines : List ReportLine) → AllByRecursion (λ line. IsUnjudged (first_field (text_of line))) lines
-    → TraceLeads start (between past) (map text_of lines) (between past)
+unjudged-lead : (start : Start) (past : List Item) (lines : List ReportLine) → AllByRecursion (λ line. first_word (text_of line) ≡ words.Unjudged) lines
+    → Lead (trace_rules start) (between past) (map text_of lines) (between past)
 unjudged-lead start past [] are = refl
-unjudged-lead start past (line ∷ lines) are = (between past, inr (inl (record { unjudged = are.0; leads = refl })), unjudged-lead start past lines are.1)
-
-op-unjudged : (round slot index : ℕ) (result : OpResult) → IsUnjudged (first_field (text_of (OpLine round slot index result)))
-op-unjudged round slot index result = inl (line-word (OpLine round slot index result) (codes "op") _ refl (word-text 111 (codes "p") refl))
-
-round-unjudged : (round : ℕ) (end : RoundEnd) (slots : ℕ) → IsUnjudged (first_field (text_of (RoundLine round end slots)))
-round-unjudged round end slots = inr (inl (line-word (RoundLine round end slots) (codes "round") _ refl (word-text 114 (codes "ound") refl)))
-
-seen-unjudged : (count pc : ℕ) (epc : List ℕ) → IsUnjudged (first_field (text_of (SeenLine count pc epc)))
-seen-unjudged count pc epc = inr (inr (line-word (SeenLine count pc epc) (codes "seen") _ refl (word-text 115 (codes "een") refl)))
+unjudged-lead start past (line ∷ lines) are =
+    (between past, goes-as start (between past) (text_of line) (between past) words.Unjudged are.0 refl, unjudged-lead start past lines are.1)
 
 -- what a trace has of lines
 abbrev kept_lines : List ReportLine → List ReportLine
@@ -196,24 +199,24 @@ exchange-kept link sent =
 
 -- the lines of what happened once follow those of the past
 more-lead : (start : Start) (past : List Item) (item : Item) (own : List Item) (to : TraceStanding)
-    → TraceLeads start begun (map text_of (kept_lines (past_lines start.link past))) (between own)
-    → TraceLeads start (between own) (map text_of (kept_lines (item_lines start.link item))) to
-    → TraceLeads start begun (map text_of (kept_lines (past_lines start.link (item ∷ past)))) to
+    → Lead (trace_rules start) begun (map text_of (kept_lines (past_lines start.link past))) (between own)
+    → Lead (trace_rules start) (between own) (map text_of (kept_lines (item_lines start.link item))) to
+    → Lead (trace_rules start) begun (map text_of (kept_lines (past_lines start.link (item ∷ past)))) to
 more-lead start past item own to first then =
     let one = kept_lines (past_lines start.link past) in
     let other = kept_lines (item_lines start.link item) in
     let lines : map text_of one ++ map text_of other ≡ map text_of (kept_lines (past_lines start.link (item ∷ past))) =
     sym (map-append text_of one other) ∙ ap (map text_of) (sym (filter-append (keeps Trace) (past_lines start.link past) (item_lines start.link item))) in
-    subst (λ (all : List (List ℕ)). TraceLeads start begun all to) lines (leads-on start begun (between own) to (map text_of one) (map text_of other) first then)
+    subst (λ (all : List (List ℕ)). Lead (trace_rules start) begun all to) lines (leads-on start begun (between own) to (map text_of one) (map text_of other) first then)
 
 -- the lines of a past
 past-leads : WrittenLaws → (start : Start) (past : List Item) → IsLegalLink start.link → AreOwn start past
-    → TraceLeads start begun (map text_of (kept_lines (past_lines start.link past))) (between (judged start past))
+    → Lead (trace_rules start) begun (map text_of (kept_lines (past_lines start.link past))) (between (judged start past))
 past-leads laws start [] lawful are = (between [], record { text = refl; leads = refl }, refl)
 past-leads laws start (befell event number ∷ past) lawful are = absurd are.0
 past-leads laws start (exchanged sent ∷ past) lawful are =
     more-lead start past (exchanged sent) (judged start past) (between (judged start (exchanged sent ∷ past))) (past-leads laws start past lawful are.1)
-    (subst (λ (lines : List ReportLine). TraceLeads start (between (judged start past)) (map text_of lines) (between (judged start (exchanged sent ∷ past))))
+    (subst (λ (lines : List ReportLine). Lead (trace_rules start) (between (judged start past)) (map text_of lines) (between (judged start (exchanged sent ∷ past))))
     (sym (exchange-kept start.link sent)) (exchange-leads laws start past (judged start past) sent lawful (judged-same start past are.1) are.0))
 past-leads laws start (operated round slot index result ∷ past) lawful are =
     more-lead start past (operated round slot index result) (judged start past) (between (judged start past)) (past-leads laws start past lawful are.1)
@@ -222,7 +225,7 @@ past-leads laws start (round_ended round end slots ∷ past) lawful are =
     more-lead start past (round_ended round end slots) (judged start past) (between (judged start past)) (past-leads laws start past lawful are.1)
     (unjudged-lead start (judged start past) (RoundLine round end slots ∷ []) (round-unjudged round end slots, tt))
 
-seen-all : (seen : List SeenCount) → AllByRecursion (λ line. IsUnjudged (first_field (text_of line))) (map (λ (each : SeenCount). SeenLine each.count each.pc each.epc) seen)
+seen-all : (seen : List SeenCount) → AllByRecursion (λ line. first_word (text_of line) ≡ words.Unjudged) (map (λ (each : SeenCount). SeenLine each.count each.pc each.epc) seen)
 seen-all [] = tt
 seen-all (each ∷ seen) = (seen-unjudged each.count each.pc each.epc, seen-all seen)
 
@@ -248,7 +251,7 @@ last-kept start past =
 
 -- the lines of a trace of a run
 run-leads : WrittenLaws → (start : Start) (steps : List Step) → IsLegalLink start.link → AreOwn start (history_of start steps)
-    → TraceLeads start begun (map text_of (report_of Trace start steps)) (ended (judged start (history_of start steps)))
+    → Lead (trace_rules start) begun (map text_of (report_of Trace start steps)) (ended (judged start (history_of start steps)))
 run-leads laws start steps lawful are =
     let past : List Item = history_of start steps in
     let own : List Item = judged start past in
@@ -260,7 +263,7 @@ run-leads laws start steps lawful are =
     ∙ sym (map-append text_of first (seen ++ (tags ++ DoneLine ∷ [])))
     ∙ ap (λ (more : List ReportLine). map text_of (first ++ more)) (sym (append_assoc seen tags (DoneLine ∷ [])) ∙ sym (last-kept start past))
     ∙ ap (map text_of) (sym (filter-append (keeps Trace) (past_lines start.link past) (last_lines start past))) in
-    subst (λ (all : List (List ℕ)). TraceLeads start begun all (ended own)) lines
+    subst (λ (all : List (List ℕ)). Lead (trace_rules start) begun all (ended own)) lines
     (leads-on start begun (between own) (ended own) (map text_of first) (map text_of seen ++ rest_lines 0 (tags_behind start past))
     (past-leads laws start past lawful are)
     (leads-on start (between own) (between own) (ended own) (map text_of seen) (rest_lines 0 (tags_behind start past))
@@ -268,7 +271,7 @@ run-leads laws start steps lawful are =
     (rest-leads start own 0 (tags_behind start past) (between own)
     (λ place. let same : place ≡ 0 + place = omega arith in
     ap₂ (λ (values : List TagValue) (n : ℕ). slice_get values n) (tags-same start past own (judged-same start past are)) same)
-    (λ line to tells. inr (inr tells)))))
+    (λ line to tells. told-goes start own 0 (between own) line to tells tells))))
 
 -- the run of a scenario without events, and what laws say of it
 pub record OwnRun (scenario : Scenario) : Type 0 where
@@ -319,9 +322,7 @@ own-audited written scenario run =
     let start : Start = start_of scenario in
     let are = own-behind scenario run [] (history scenario) refl run.grows in (
       judged start (history scenario),
-      record {
-        lines = map text_of (report_of Trace start scenario.steps);
-        cut = lines-of-trace scenario.link (run_lines start scenario.steps);
-        leads = run-leads written start scenario.steps run.limits.link are;
-      },
+      subst (λ (lines : List (List ℕ)). HasOutcomeFrom (trace_rules start) begun 1 lines (Whole (ended (judged start (history scenario))))) (sym (lines-of-trace scenario.link (run_lines start scenario.steps)))
+          (outcome_behind (trace_rules start) begun (ended (judged start (history scenario))) 1 _ (map text_of (report_of Trace start scenario.steps)) ([] ∷ []) (Whole (ended (judged start (history scenario))))
+          (λ none. cc) refl (run-leads written start scenario.steps run.limits.link are) (refl, tt, refl)),
     )

@@ -12,7 +12,7 @@ use Rattle.command_grammar.specs.declared.commands.Command.{Command}
 use Rattle.command_grammar.specs.declared.commands.Command.TheVariants as commands
 use Rattle.pie_line.specs.Link.{LinkValue}
 use Rattle.command_fields.specs.declared.choices.UpDn.TheVariants.{Up, Same, Down}
-use Rattle.q_round.specs.Rounds.{Turn, query, adjust, rep, quiet, limit, all_silent, next_of_turn, course_of, goes_down, goes_up, next_command, qfp_of, refused_in, turn_after, turn_of}
+use Rattle.q_round.specs.Rounds.{adjust, rep, quiet, limit, all_silent, next_of_turn, course_of, goes_down, goes_up, next_command, qfp_of, refused_in}
 use Rattle.q_round.specs.SpecValue.{SpecValue}
 use Rattle.q_round.specs.declared.frame.Outcome.{Outcome}
 use Rattle.q_round.specs.declared.round.Next.{Next}
@@ -22,6 +22,8 @@ use Rattle.reply_grammar.specs.declared.expected.Expect.{Expect}
 use Rattle.runs.specs.Headline.{IsSelect, IsLegalStep, AreLegalSteps, begins_slot, slot_records}
 use Rattle.runs.specs.NextItem.{GrowsByNext, dialogue_left, dialogue_behind_exchange, dialogue_behind_record, dialogue_behind_result, item_by_rule, item_in_round, item_of_slots, item_of_step, outcomes_of_round, reception_of_slot, rn_of, rn_received, finished_in}
 use Rattle.runs.proofs.Growth.{begun-awaits}
+use Rattle.runs.proofs.HeadlineLines.{and-false, and-true}
+use Rattle.runs.proofs.HeadlineSlots.{expects-begins-none, next-begins}
 use Rattle.scenario.specs.declared.values.Step.{Step}
 use Rattle.scenario.specs.declared.values.Step.TheVariants as steps
 use Rattle.air_audit.specs.OwnTraces.{IsToldByLines, HasNoEventStep}
@@ -58,44 +60,45 @@ record GoesInPlace (past : List Item) (item : Item) : Type 0 where
   pub in_place : IsInPlace past item
   pub counts : Counts (item ∷ past)
 
--- a command that begins no slot
-record IsWithinSlot (command : Command) : Type 0 where
-  pub no_slot : begins_slot command ≡ false
-  pub same_place : (place : Place) → place_of_command place command ≡ place
+-- a command that begins no slot leaves the place
+place-kept : (place : Place) (command : Command) → begins_slot command ≡ false → place_of_command place command ≡ place
+place-kept place (commands.Query dr line_code trext sel session target q) none = absurd (cc)
+place-kept place (commands.QueryRep session) none = absurd (cc)
+place-kept place (commands.QueryAdjust session updn) none = absurd (cc)
+place-kept place command none = refl
 
-select-within : (command : Command) → IsSelect command → IsWithinSlot command
-select-within (commands.Select target action bank pointer mask) is = record { no_slot = refl; same_place = λ place. refl }
-select-within command is = absurd is
+select-begins-none : (command : Command) → IsSelect command → begins_slot command ≡ false
+select-begins-none (commands.Select target action bank pointer mask) is = refl
+select-begins-none command is = absurd is
 
+-- neither a Select, a command of an operation nor one that begins a slot is an ACK
 select-no-ack : (command : Command) → IsSelect command → IsAck command → ⊥
 select-no-ack (commands.Ack rn) is ack = is
 select-no-ack command is ack = ack
 
-operation-within : (command : Command) (expect : Expect) (extended : Bool) → Expects command expect extended → IsWithinSlot command
-operation-within (commands.QueryRep session) expect extended is = absurd is
-operation-within (commands.Query dr line_code trext sel session target q) expect extended is = absurd is
-operation-within (commands.QueryAdjust session updn) expect extended is = absurd is
-operation-within command expect extended is = record { no_slot = refl; same_place = λ place. refl }
-
 operation-no-ack : (command : Command) (expect : Expect) (extended : Bool) → Expects command expect extended → IsAck command → ⊥
 operation-no-ack (commands.Ack rn) expect extended is ack = is
 operation-no-ack command expect extended is ack = ack
+
+slot-no-ack : (command : Command) → begins_slot command ≡ true → IsAck command → ⊥
+slot-no-ack (commands.Ack rn) begins ack = cc
+slot-no-ack command begins ack = ack
 
 -- an exchange within a slot, or outside rounds, changes no count
 within-none : (round : ℕ) (sent : Record) (past : List Item) → begins_slot sent.command ≡ false → slot_records round (exchanged sent ∷ past) ≡ slot_records round past
 within-none round sent past none =
     ap (λ (begins : Bool). if begins && sent.round == round then sent ∷ slot_records round past else slot_records round past) none
 
-within-counts : (sent : Record) (past : List Item) → IsWithinSlot sent.command → Counts past → Counts (exchanged sent ∷ past)
-within-counts sent past within counts =
+within-counts : (sent : Record) (past : List Item) → begins_slot sent.command ≡ false → Counts past → Counts (exchanged sent ∷ past)
+within-counts sent past none counts =
     let round = rounds_in past + 1 in
-    let same : slots_begun (exchanged sent ∷ past) ≡ slots_begun past = ap length (within-none round sent past within.no_slot) in
-    let place : place_in (exchanged sent ∷ past) ≡ place_in past = within.same_place (place_in past) in
+    let same : slots_begun (exchanged sent ∷ past) ≡ slots_begun past = ap length (within-none round sent past none) in
+    let place : place_in (exchanged sent ∷ past) ≡ place_in past = place-kept (place_in past) sent.command none in
     record {
       place = subst (λ (here : Place). IsPlace (slots_begun (exchanged sent ∷ past)) (rounds_in past) here) (sym place)
           (subst (λ (slots : ℕ). IsPlace slots (rounds_in past) (place_in past)) (sym same) counts.place);
-      later = λ other above. within-none other sent past within.no_slot ∙ counts.later other above;
-      received = λ rn is. absurd (nothing-received (begins_slot sent.command) sent rn within.no_slot is);
+      later = λ other above. within-none other sent past none ∙ counts.later other above;
+      received = λ rn is. absurd (nothing-received (begins_slot sent.command) sent rn none is);
     }
   where
     nothing-received : (begins : Bool) (sent : Record) (rn : ℕ) → begins ≡ false
@@ -110,18 +113,6 @@ IsSlotTurn (suc slots) (commands.QueryRep session) = Unit {0}
 IsSlotTurn (suc slots) (commands.QueryAdjust session updn) = Unit {0}
 IsSlotTurn slots command = ⊥
 
-turn-begins : (slots : ℕ) (command : Command) → IsSlotTurn slots command → begins_slot command ≡ true
-turn-begins slots (commands.Query dr line_code trext sel session target q) is = refl
-turn-begins slots (commands.QueryRep session) is = refl
-turn-begins slots (commands.QueryAdjust session updn) is = refl
-turn-begins zero command is = absurd is
-turn-begins (suc slots) command is = absurd is
-
-turn-no-ack : (slots : ℕ) (command : Command) → IsSlotTurn slots command → IsAck command → ⊥
-turn-no-ack zero (commands.Ack rn) is ack = is
-turn-no-ack (suc slots) (commands.Ack rn) is ack = is
-turn-no-ack slots command is ack = ack
-
 turn-place : (slots rounds : ℕ) (command : Command) (place : Place) → IsSlotTurn slots command → IsPlace slots rounds place
     → IsPlace (suc slots) rounds (place_of_command place command)
 turn-place zero rounds (commands.Query dr line_code trext sel session target q) place is here =
@@ -135,44 +126,30 @@ turn-place (suc slots) rounds (commands.QueryAdjust session updn) place is here 
 turn-place zero rounds command place is here = absurd is
 turn-place (suc slots) rounds command place is here = absurd is
 
--- a round goes on with no second Query
-abbrev IsLaterTurn : Turn → Type 0
-IsLaterTurn query = ⊥
-IsLaterTurn turn = Unit {0}
+-- a round begins with its Query, and goes on with no second one
+sent-is : (one other : Command) → nexts.Send one ≡ nexts.Send other → one ≡ other
+sent-is one other same = cc
 
-later-among : (quiet_frame at_limit up down whole : Bool)
-    → IsLaterTurn (if quiet_frame then quiet else if at_limit then limit else if up then adjust Up else if down then adjust Down else if whole then adjust Same else rep)
-later-among true at_limit up down whole = tt
-later-among false true up down whole = tt
-later-among false false true down whole = tt
-later-among false false false true whole = tt
-later-among false false false false true = tt
-later-among false false false false false = tt
-
-later-after : (spec : SpecValue) (sent q qfp : ℕ) (frame : List Outcome) → IsLaterTurn (turn_after spec sent q qfp frame)
-later-after spec sent q qfp frame =
-    later-among (length frame == 2 ^ q && all_silent frame) (sent == spec.limit) (goes_up spec.rule q qfp (length frame) (refused_in frame))
-    (goes_down spec.rule q qfp (length frame) (refused_in frame)) (length frame == 2 ^ q)
-
-later-turn : (spec : SpecValue) (outcome : Outcome) (before : List Outcome) → IsLaterTurn (turn_of spec (outcome ∷ before))
-later-turn spec outcome before =
-    let course = course_of spec before in
-    later-after spec (length before + 1) course.q (qfp_of spec (outcome ∷ before)) (outcome ∷ course.frame)
-
-later-sends : (spec : SpecValue) (link : LinkValue) (turn : Turn) (slots : ℕ) (command : Command) → IsLaterTurn turn
-    → next_of_turn spec link turn ≡ nexts.Send command → IsSlotTurn (suc slots) command
-later-sends spec link query slots command later is = absurd later
-later-sends spec link (adjust updn) slots command later is =
-    let same : commands.QueryAdjust spec.session updn ≡ command = cc in subst (IsSlotTurn (suc slots)) same tt
-later-sends spec link rep slots command later is = let same : commands.QueryRep spec.session ≡ command = cc in subst (IsSlotTurn (suc slots)) same tt
-later-sends spec link quiet slots command later is = absurd (cc)
-later-sends spec link limit slots command later is = absurd (cc)
+turn-behind : (spec : SpecValue) (link : LinkValue) (slots : ℕ) (command : Command) (over full up down whole : Bool)
+    → next_of_turn spec link (if over then quiet else if full then limit else if up then adjust Up else if down then adjust Down else if whole then adjust Same else rep) ≡ nexts.Send command
+    → IsSlotTurn (suc slots) command
+turn-behind spec link slots command true full up down whole is = absurd (cc)
+turn-behind spec link slots command false true up down whole is = absurd (cc)
+turn-behind spec link slots command false false true down whole is = subst (IsSlotTurn (suc slots)) (sent-is (commands.QueryAdjust spec.session Up) command is) tt
+turn-behind spec link slots command false false false true whole is = subst (IsSlotTurn (suc slots)) (sent-is (commands.QueryAdjust spec.session Down) command is) tt
+turn-behind spec link slots command false false false false true is = subst (IsSlotTurn (suc slots)) (sent-is (commands.QueryAdjust spec.session Same) command is) tt
+turn-behind spec link slots command false false false false false is = subst (IsSlotTurn (suc slots)) (sent-is (commands.QueryRep spec.session) command is) tt
 
 sent-turn : (spec : SpecValue) (link : LinkValue) (outcomes : List Outcome) (command : Command) → next_command spec link outcomes ≡ nexts.Send command
     → IsSlotTurn (length outcomes) command
 sent-turn spec link [] command is =
-    let same : commands.Query link.dr link.code link.trext spec.sel spec.session spec.target spec.q ≡ command = cc in subst (IsSlotTurn zero) same tt
-sent-turn spec link (outcome ∷ before) command is = later-sends spec link (turn_of spec (outcome ∷ before)) (length before) command (later-turn spec outcome before) is
+    subst (IsSlotTurn zero) (sent-is (commands.Query link.dr link.code link.trext spec.sel spec.session spec.target spec.q) command is) tt
+sent-turn spec link (outcome ∷ before) command is =
+    let course = course_of spec before in
+    let frame = outcome ∷ course.frame in
+    let qfp = qfp_of spec (outcome ∷ before) in
+    turn-behind spec link (length before) command (length frame == 2 ^ course.q && all_silent frame) (length before + 1 == spec.limit)
+    (goes_up spec.rule course.q qfp (length frame) (refused_in frame)) (goes_down spec.rule course.q qfp (length frame) (refused_in frame)) (length frame == 2 ^ course.q) is
 
 -- an end comes behind an outcome alone
 abbrev IsEnd : Next → Type 0
@@ -184,29 +161,18 @@ ends-late : (spec : SpecValue) (link : LinkValue) (outcomes : List Outcome) → 
 ends-late spec link [] end = absurd end
 ends-late spec link (outcome ∷ before) end = omega arith
 
-and-false : (one : Bool) → (one && false) ≡ false
-and-false true = refl
-and-false false = refl
-
 -- the slot command of a round begins its next slot, and no other round's
 begun-here : (round : ℕ) (sent : Record) (past : List Item) → begins_slot sent.command ≡ true → sent.round ≡ round
     → slot_records round (exchanged sent ∷ past) ≡ sent ∷ slot_records round past
-begun-here round sent past begins is =
-    let equal : (sent.round == round) ≡ true = eq-eqb sent.round round is in
-    ap (λ (first : Bool). if first && sent.round == round then sent ∷ slot_records round past else slot_records round past) begins
-    ∙ ap (λ (here : Bool). if here then sent ∷ slot_records round past else slot_records round past) equal
+begun-here round sent past begins is = rw (and-true (begins_slot sent.command) (sent.round == round) begins (eq-eqb sent.round round is)) refl
 
 begun-elsewhere : (round : ℕ) (sent : Record) (past : List Item) → sent.round ≢ round → slot_records round (exchanged sent ∷ past) ≡ slot_records round past
-begun-elsewhere round sent past other =
-    let unequal : (sent.round == round) ≡ false = ne_eqb sent.round round other in
-    ap (λ (here : Bool). if begins_slot sent.command && here then sent ∷ slot_records round past else slot_records round past) unequal
-    ∙ ap (λ (here : Bool). if here then sent ∷ slot_records round past else slot_records round past) (and-false (begins_slot sent.command))
+begun-elsewhere round sent past other = rw (and-false (begins_slot sent.command) (sent.round == round) (ne_eqb sent.round round other)) refl
 
-slot-counts : (sent : Record) (past : List Item) → sent.round ≡ rounds_in past + 1 → IsSlotTurn (slots_begun past) sent.command → Counts past
+slot-counts : (sent : Record) (past : List Item) → sent.round ≡ rounds_in past + 1 → begins_slot sent.command ≡ true → IsSlotTurn (slots_begun past) sent.command → Counts past
     → Counts (exchanged sent ∷ past)
-slot-counts sent past here turn counts =
+slot-counts sent past here begins turn counts =
     let round : ℕ = rounds_in past + 1 in
-    let begins = turn-begins (slots_begun past) sent.command turn in
     let more : slots_begun (exchanged sent ∷ past) ≡ suc (slots_begun past) = ap length (begun-here round sent past begins here) in
     record {
       place = subst (λ (slots : ℕ). IsPlace slots (rounds_in past) (place_of_command (place_in past) sent.command)) (sym more)
@@ -238,9 +204,10 @@ rule-goes : (start : Start) (spec : SpecValue) (past : List Item) (outcomes : Li
     → next_command spec start.link outcomes ≡ next → Counts past → GoesInPlace past (item_by_rule start (rounds_in past + 1) outcomes past next)
 rule-goes start spec past outcomes (nexts.Send command) few is counts =
     let turn : IsSlotTurn (slots_begun past) command = subst (λ (slots : ℕ). IsSlotTurn slots command) few (sent-turn spec start.link outcomes command is) in
+    let begins = next-begins spec start.link outcomes command is in
     record {
-      in_place = λ ack. absurd (turn-no-ack (slots_begun past) command turn ack);
-      counts = slot-counts (next_record start (rounds_in past + 1) (length outcomes + 1) command past) past refl turn counts;
+      in_place = λ ack. absurd (slot-no-ack command begins ack);
+      counts = slot-counts (next_record start (rounds_in past + 1) (length outcomes + 1) command past) past refl begins turn counts;
     }
 rule-goes start spec past outcomes nexts.Quiet few is counts =
     let some : 1 ≤ length outcomes = ends-late spec start.link outcomes (subst IsEnd (sym is) tt) in
@@ -255,7 +222,7 @@ slots-go : (start : Start) (spec : SpecValue) (past : List Item) (outcomes : Lis
 slots-go start spec past outcomes (Some rn) few is counts = record {
   in_place = λ ack. place-round (slots_begun past) (rounds_in past) (place_in past) (counts.received rn is) counts.place
       ∙ ap (λ (slot : ℕ). record { round = rounds_in past + 1; slot = slot }) (sym few);
-  counts = within-counts (next_record start (rounds_in past + 1) (length outcomes) (commands.Ack rn) past) past (record { no_slot = refl; same_place = λ place. refl }) counts;
+  counts = within-counts (next_record start (rounds_in past + 1) (length outcomes) (commands.Ack rn) past) past refl counts;
 }
 slots-go start spec past outcomes None few is counts = rule-goes start spec past outcomes (next_command spec start.link outcomes) few refl counts
 
@@ -264,7 +231,7 @@ round-goes : (start : Start) (spec : SpecValue) (past : List Item) (outcomes : L
     → AwaitsReplies dialogue → Counts past → GoesInPlace past (item_in_round start spec (rounds_in past + 1) outcomes past dialogue)
 round-goes start spec past outcomes (sends command expect extended go_on) few awaits counts = record {
   in_place = λ ack. absurd (operation-no-ack command expect extended awaits.0 ack);
-  counts = within-counts (next_record start (rounds_in past + 1) (length outcomes) command past) past (operation-within command expect extended awaits.0) counts;
+  counts = within-counts (next_record start (rounds_in past + 1) (length outcomes) command past) past (expects-begins-none command expect extended awaits.0) counts;
 }
 round-goes start spec past outcomes (tells result later) few awaits counts = record { in_place = tt; counts = operated-counts _ _ _ result past counts }
 round-goes start spec past outcomes done few awaits counts = slots-go start spec past outcomes (rn_received past) few refl counts
@@ -304,7 +271,7 @@ outside-goes start command past item is same counts =
     let item_is : exchanged (next_record start 0 0 command past) ≡ item = cc in
     subst (GoesInPlace past) item_is (record {
       in_place = λ ack. absurd (select-no-ack command is ack);
-      counts = within-counts (next_record start 0 0 command past) past (select-within command is) counts;
+      counts = within-counts (next_record start 0 0 command past) past (select-begins-none command is) counts;
     })
 
 step-goes : (start : Start) (past : List Item) (step : Option Step) (item : Item) → IsOwnStep step → item_of_step start past step ≡ Some item → Counts past
@@ -315,7 +282,7 @@ step-goes start past (Some steps.Nak) item own is counts =
     let item_is : exchanged (next_record start 0 0 commands.Nak past) ≡ item = cc in
     subst (GoesInPlace past) item_is (record {
       in_place = λ ack. absurd ack;
-      counts = within-counts (next_record start 0 0 commands.Nak past) past (record { no_slot = refl; same_place = λ place. refl }) counts;
+      counts = within-counts (next_record start 0 0 commands.Nak past) past refl counts;
     })
 step-goes start past (Some (steps.Event event number)) item own is counts = absurd own.1
 step-goes start past (Some (steps.Round spec operations)) item own is counts =

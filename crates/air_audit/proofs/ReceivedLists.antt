@@ -6,7 +6,7 @@ use Rattle.command_grammar.specs.Commands.{IsLegalCommand}
 use Rattle.command_grammar.specs.declared.commands.Command.{Command}
 use Rattle.command_grammar.specs.declared.commands.Command.TheVariants as commands
 use Rattle.line_codes.specs.Codes.{table_of}
-use Rattle.pie_line.specs.Link.{LinkValue, blf_of}
+use Rattle.pie_line.specs.Link.{LinkValue}
 use Rattle.reply_grammar.specs.Reception.{Reception, no_stream, whole_reply, no_such_reply}
 use Rattle.reply_grammar.specs.declared.expected.Expect.TheVariants as expects
 use Rattle.reply_grammar.specs.declared.expected.Received.TheVariants.{Whole}
@@ -20,20 +20,24 @@ use Rattle.air_model.specs.Past.{Start, Record, Item, exchanged, exchanges_in, n
 use Rattle.air_model.specs.Reception.{IsGivenFor, reception_of}
 use Rattle.air_model.proofs.ReceptionLaws.{whole_is_heard}
 use Rattle.report_lines.specs.ReadLines.{first_field, text_of}
-use Rattle.report_lines.specs.ReportLine.{BlfLine, RxLine}
 use Rattle.runs.proofs.Answering.{TagLaws, given-in-expected}
 use Rattle.runs.proofs.MadeRecords.{made-read}
 use Rattle.runs.specs.Listing.{Listed, listed_by, listed_from, reception_of_ack}
 use Rattle.runs.specs.NextItem.{expectation_of}
+use Rattle.runs.specs.Report.{list_line}
 use Rattle.runs.specs.laws.Replies.{events-legal}
 use Rattle.runs.proofs.Tags.{tags-exchanged}
-use Rattle.air_audit.specs.AuditedTrace.{IsAudited}
+use Rattle.text_fields.specs.Lines.{lines_of}
+use Rattle.checked_lines.specs.TextRules.{HasOutcomeFrom, Whole}
+use Rattle.air_audit.specs.AuditedTrace.{IsAudited, trace_rules}
+use Rattle.air_audit.specs.FirstWords.{first_word, word_of}
 use Rattle.air_audit.specs.ReceivedLists.{IsReceivedBefore, ListsWhatIsReceived}
-use Rattle.air_audit.specs.Standing.{TraceStanding, begun, between, sending, listing, telling, ended, TraceGoesOn, TraceLeads, behind_exchange, behind_told, next_tag, record_of, rx_line}
+use Rattle.air_audit.specs.Standing.{GoesOnAs, TraceStanding, begun, between, sending, listing, telling, ended, TraceGoesOn, behind_exchange, behind_told, link_line, next_tag, record_of, rx_line}
 use Rattle.air_audit.specs.TraceLines.{Sends}
-use Rattle.air_audit.proofs.OneStanding.{tells-word, tx-word}
+use Rattle.air_audit.specs.declared.first_words.Word.{Word}
+use Rattle.air_audit.specs.declared.first_words.Word.TheVariants as words
 use Rattle.air_audit.proofs.Received.{made-again}
-use Rattle.air_audit.proofs.Words.{differ, line-word, list-rx, list-tags, list-tx, list-unjudged, word-text}
+use Rattle.air_audit.proofs.Words.{link-is-other}
 
 -- the laws of tags that this goes by
 abbrev pub HeardLegal : Type 0
@@ -69,26 +73,12 @@ record IsSentLast (start : Start) (front : List (List ℕ)) (past : List Item) (
   made : sent ≡ record_of start past sent.command
   legal : AreLegalTags (tags_behind start past)
 
--- an exchange that lists this, whose lines stand last
-record IsHeardLast (link : LinkValue) (front : List (List ℕ)) (listed : Listed) : Type 0 where
-  earlier : List (List ℕ)
-  tx : List ℕ
-  rx : List ℕ
-  front_is : front ≡ earlier ++ tx ∷ rx ∷ []
-  exchange : ℕ
-  rn : ℕ
-  count : ℕ
-  levels : List Bool
-  sends : Sends exchange tx (commands.Ack rn)
-  heard : rx ≡ text_of (RxLine exchange count levels)
-  received : IsReceived (table_of link.code) link.trext expects.Epc levels (Whole (replies.Epc listed.pc listed.epc))
-
 -- what is known where a trace stands behind these lines
 abbrev IsKnown : Start → List (List ℕ) → TraceStanding → Type 0
 IsKnown start front begun = AreLegalTags (tags_behind start [])
 IsKnown start front (between past) = AreLegalTags (tags_behind start past)
 IsKnown start front (sending past sent) = IsSentLast start front past sent
-IsKnown start front (listing past listed) = AreLegalTags (tags_behind start past) × IsHeardLast start.link front listed
+IsKnown start front (listing past listed) = AreLegalTags (tags_behind start past) × IsReceivedBefore start.link front (text_of (list_line listed))
 IsKnown start front (telling past told) = Unit {0}
 IsKnown start front (ended past) = Unit {0}
 
@@ -150,16 +140,20 @@ heard-known laws start front past sent line (listed ∷ others) last text are =
         earlier = last.earlier;
         tx = last.tx;
         rx = line;
-        front_is = ap (λ (f : List (List ℕ)). f ++ line ∷ []) last.front_is ∙ append_assoc last.earlier (last.tx ∷ []) (line ∷ []);
-        exchange = sent.exchange;
-        rn = is.rn;
-        count = length sent.replies;
-        levels = heard_levels start.link sent.given;
-        sends =
-            subst (λ n. Sends n last.tx (commands.Ack is.rn)) (sym number)
-            (subst (λ (c : Command). Sends (exchanges_in past + 1) last.tx c) is.ack last.sends);
-        heard = text;
-        received = heard-whole laws start front past sent listed last is;
+        before_is = ap (λ (f : List (List ℕ)). f ++ line ∷ []) last.front_is ∙ append_assoc last.earlier (last.tx ∷ []) (line ∷ []);
+        is = record {
+          exchange = sent.exchange;
+          rn = is.rn;
+          count = length sent.replies;
+          levels = heard_levels start.link sent.given;
+          listed = listed;
+          sends =
+              subst (λ n. Sends n last.tx (commands.Ack is.rn)) (sym number)
+              (subst (λ (c : Command). Sends (exchanges_in past + 1) last.tx c) is.ack last.sends);
+          heard = text;
+          received = heard-whole laws start front past sent listed last is;
+          text = refl;
+        };
       },
     )
 
@@ -168,91 +162,62 @@ told-known start front past told None = tt
 told-known start front past told (Some tag) = tt
 
 -- what is known behind one line more
-known-next : Laws → (start : Start) (front : List (List ℕ)) (from : TraceStanding) (line : List ℕ) (to : TraceStanding) → IsKnown start front from → TraceGoesOn start from line to
+known-next : Laws → (start : Start) (front : List (List ℕ)) (from : TraceStanding) (word : Word) (line : List ℕ) (to : TraceStanding) → IsKnown start front from → GoesOnAs start from word line to
     → IsKnown start (front ++ line ∷ []) to
-known-next laws start front begun line to known goes = subst (λ (s : TraceStanding). IsKnown start (front ++ line ∷ []) s) (sym goes.leads) known
-known-next laws start front (between past) line to known (inl goes) =
+known-next laws start front begun word line to known goes = subst (λ (s : TraceStanding). IsKnown start (front ++ line ∷ []) s) (sym goes.leads) known
+known-next laws start front (between past) words.Tx line to known goes =
     subst (λ (s : TraceStanding). IsKnown start (front ++ line ∷ []) s) (sym goes.leads)
     (record { earlier = front; tx = line; front_is = refl; sends = goes.sends; made = refl; legal = known })
-known-next laws start front (between past) line to known (inr (inl goes)) = subst (λ (s : TraceStanding). IsKnown start (front ++ line ∷ []) s) (sym goes.leads) known
-known-next laws start front (between past) line to known (inr (inr goes)) =
+known-next laws start front (between past) words.Unjudged line to known goes = subst (λ (s : TraceStanding). IsKnown start (front ++ line ∷ []) s) (sym goes) known
+known-next laws start front (between past) words.OfTags line to known goes =
     subst (λ (s : TraceStanding). IsKnown start (front ++ line ∷ []) s) (sym goes.leads) (told-known start (front ++ line ∷ []) past 0 (next_tag start past 0))
-known-next laws start front (sending past sent) line to known goes =
+known-next laws start front (sending past sent) words.Rx line to known goes =
     subst (λ (s : TraceStanding). IsKnown start (front ++ line ∷ []) s) (sym goes.leads)
     (heard-known laws start front past sent line (listed_by sent) known goes.text refl)
-known-next laws start front (listing past listed) line to known goes = subst (λ (s : TraceStanding). IsKnown start (front ++ line ∷ []) s) (sym goes.leads) known.0
-known-next laws start front (telling past told) line to known goes =
+known-next laws start front (listing past listed) word line to known goes = subst (λ (s : TraceStanding). IsKnown start (front ++ line ∷ []) s) (sym goes.leads) known.0
+known-next laws start front (telling past told) words.OfTags line to known goes =
     subst (λ (s : TraceStanding). IsKnown start (front ++ line ∷ []) s) (sym goes.leads) (told-known start (front ++ line ∷ []) past told (next_tag start past told))
-known-next laws start front (ended past) line to known goes = absurd goes
+known-next laws start front from word line to known goes = absurd goes
 
 -- the word of the first line is another
-no-blf : (word : List ℕ) → word ≡ codes "list" → word ≡ codes "blf" → ⊥
-no-blf word is other = differ (codes "list") (codes "blf") 0 (λ same. omega arith) (sym is ∙ other)
+no-link : (link : LinkValue) (line : List ℕ) → line ≡ text_of (link_line link) → first_word line ≡ words.List → ⊥
+no-link link line text word = let same = sym word ∙ ap first_word text ∙ link-is-other link in absurd (cc)
+
+-- a list line that may follow is what is received of the levels before it
+list-known : (start : Start) (front : List (List ℕ)) (from : TraceStanding) (line : List ℕ) (to : TraceStanding) → IsKnown start front from → GoesOnAs start from words.List line to
+    → first_word line ≡ words.List → IsReceivedBefore start.link front line
+list-known start front begun line to known goes word = absurd (no-link start.link line goes.text word)
+list-known start front (listing past listed) line to known goes word = subst (λ (l : List ℕ). IsReceivedBefore start.link front l) (sym goes.text) known.1
+list-known start front from line to known goes word = absurd goes
 
 no-word : [] ≡ codes "list" → ⊥
 no-word is = cc
 
--- a list line that may follow is what is received of the levels before it
-list-known : (start : Start) (front : List (List ℕ)) (from : TraceStanding) (line : List ℕ) (to : TraceStanding) → IsKnown start front from → TraceGoesOn start from line to
-    → first_field line ≡ codes "list" → IsReceivedBefore start.link front line
-list-known start front begun line to known goes word =
-    absurd (no-blf (first_field line) word
-    (ap first_field goes.text ∙ line-word (BlfLine (blf_of start.link).0 (blf_of start.link).1) (codes "blf") _ refl (word-text 98 (codes "lf") refl)))
-list-known start front (between past) line to known (inl goes) word = absurd (list-tx (first_field line) word (tx-word line goes.sends.tx))
-list-known start front (between past) line to known (inr (inl goes)) word = absurd (list-unjudged (first_field line) word goes.unjudged)
-list-known start front (between past) line to known (inr (inr goes)) word = absurd (list-tags (first_field line) word (tells-word start past 0 line to goes))
-list-known start front (sending past sent) line to known goes word =
-    absurd (list-rx (first_field line) word (ap first_field goes.text ∙ line-word (rx_line start sent) (codes "rx") _ refl (word-text 114 (codes "x") refl)))
-list-known start front (listing past listed) line to known goes word =
-    let last = known.1 in record {
-      earlier = last.earlier;
-      tx = last.tx;
-      rx = last.rx;
-      before_is = last.front_is;
-      is = record {
-        exchange = last.exchange;
-        rn = last.rn;
-        count = last.count;
-        levels = last.levels;
-        listed = listed;
-        sends = last.sends;
-        heard = last.heard;
-        received = last.received;
-        text = goes.text;
-      };
-    }
-list-known start front (telling past told) line to known goes word = absurd (list-tags (first_field line) word (tells-word start past told line to goes))
-list-known start front (ended past) line to known goes word = absurd goes
-
--- a line of a trace, by the lines before it and behind it
-record IsLine (lines before : List (List ℕ)) (line : List ℕ) : Type 0 where
-  behind : List (List ℕ)
-  cut : lines ++ [] ∷ [] ≡ before ++ line ∷ behind
-  word : first_field line ≡ codes "list"
-
 -- so does each list line of lines that follow one another
-lists-received : Laws → (start : Start) (front : List (List ℕ)) (from : TraceStanding) (lines : List (List ℕ)) (to : TraceStanding) (before : List (List ℕ)) (line : List ℕ)
-    → IsKnown start front from → TraceLeads start from lines to → IsLine lines before line → IsReceivedBefore start.link (front ++ before) line
-lists-received laws start front from [] to [] line known leads is =
-    let none : line ≡ [] = let same = is.cut in cc in absurd (no-word (sym (ap first_field none) ∙ is.word))
-lists-received laws start front from [] to (first ∷ []) line known leads is = absurd (let same = is.cut in cc)
-lists-received laws start front from [] to (first ∷ second ∷ more) line known leads is = absurd (let same = is.cut in cc)
-lists-received laws start front from (first ∷ lines) to [] line known leads is =
-    let one : first ≡ line = let same = is.cut in cc in
+lists-received : Laws → (start : Start) (front : List (List ℕ)) (from : TraceStanding) (number : ℕ) (lines : List (List ℕ)) (to : TraceStanding) (before : List (List ℕ)) (line : List ℕ)
+    (behind : List (List ℕ)) → IsKnown start front from → HasOutcomeFrom (trace_rules start) from number lines (Whole to) → lines ≡ before ++ line ∷ behind → first_field line ≡ codes "list"
+    → IsReceivedBefore start.link (front ++ before) line
+lists-received laws start front from number [] to before line behind known is cut word = absurd is
+lists-received laws start front from number (last ∷ []) to [] line behind known is cut word =
+    let same : last ≡ line = cc in absurd (no-word (ap first_field (sym is.0 ∙ same) ∙ word))
+lists-received laws start front from number (last ∷ []) to (other ∷ []) line behind known is cut word = absurd (cc)
+lists-received laws start front from number (last ∷ []) to (other ∷ next ∷ before) line behind known is cut word = absurd (cc)
+lists-received laws start front from number (first ∷ next ∷ lines) to before line behind known (inl stops) cut word = absurd stops
+lists-received laws start front from number (first ∷ next ∷ lines) to [] line behind known (inr more) cut word =
+    let one : first ≡ line = cc in
+    let is : first_word line ≡ words.List = ap word_of word in
+    let goes : TraceGoesOn start from line more.0 = subst (λ (l : List ℕ). TraceGoesOn start from l more.0) one more.1 in
     subst (λ (f : List (List ℕ)). IsReceivedBefore start.link f line) (sym (append-nil front))
-    (list-known start front from line leads.0 known (subst (λ (l : List ℕ). TraceGoesOn start from l leads.0) one leads.1) is.word)
-lists-received laws start front from (first ∷ lines) to (other ∷ before) line known leads is =
-    let one : first ≡ other = let same = is.cut in cc in
-    let rest : lines ++ [] ∷ [] ≡ before ++ line ∷ is.behind = let same = is.cut in cc in
+    (list-known start front from line more.0 known (subst (λ (w : Word). GoesOnAs start from w line more.0) is goes) is)
+lists-received laws start front from number (first ∷ next ∷ lines) to (other ∷ before) line behind known (inr more) cut word =
+    let one : first ≡ other = cc in
+    let rest : next ∷ lines ≡ before ++ line ∷ behind = cc in
     let longer : (front ++ first ∷ []) ++ before ≡ front ++ other ∷ before =
     append_assoc front (first ∷ []) before ∙ ap (λ (l : List ℕ). front ++ l ∷ before) one in
     subst (λ (f : List (List ℕ)). IsReceivedBefore start.link f line) longer
-    (lists-received laws start (front ++ first ∷ []) leads.0 lines to before line (known-next laws start front from first leads.0 known leads.1) leads.2
-    (record { behind = is.behind; cut = rest; word = is.word }))
+    (lists-received laws start (front ++ first ∷ []) more.0 (number + 1) (next ∷ lines) to before line behind (known-next laws start front from (first_word first) first more.0 known more.1) more.2 rest word)
 
 -- ... and each of an audited trace
 pub audited-lists : Laws → (start : Start) (bytes : List ℕ) → AreLegalTags start.tags → IsAudited start bytes → ListsWhatIsReceived start.link bytes
 audited-lists laws start bytes legal audited = λ before line behind cut word.
-    let trace = audited.1 in
-    lists-received laws start [] begun trace.lines _ before line (first-legal 0 start.tags legal) trace.leads
-    (record { behind = behind; cut = sym trace.cut ∙ cut; word = word })
+    lists-received laws start [] begun 1 (lines_of bytes) (ended audited.0) before line behind (first-legal 0 start.tags legal) audited.1 cut word

@@ -1,15 +1,15 @@
 -- The rx line of a record is read back, so that a line that differs from it in some part is another.
-use Rattle.std.proofs.Common.{◌≡◌, ◌≢◌, ◌^◌, ◌<◌, ◌≤◌, ℕ, Bool, zero, suc, List, length, codes, arith, ap, refl, sym, subst}
+use Rattle.std.proofs.Common.{◌≡◌, ◌≢◌, ◌^◌, ◌<◌, ◌≤◌, ℕ, Bool, List, length, codes, arith, ap, refl, subst}
 use Rattle.std.specs.Fmt.{decimal}
 use Rattle.std.proofs.lemmas.List.Elements.{All-from_recursion}
 use Rattle.report_lines.specs.ReportLine.{RxLine, report_fields}
 use Rattle.text_fields.specs.Lines.{Lacks, fields_of, space}
 use Rattle.text_fields.proofs.FieldTextLaws.{IsFieldText-binary}
 use Rattle.text_fields.proofs.LineLaws.{fields_come_back}
-use Rattle.air_audit.specs.LineRefusals.{DiffersFirst}
+use Rattle.air_audit.specs.LineRefusals.{DiffersFirst, rx_parts}
 use Rattle.report_lines.specs.ReadLines.{text_of, most_rx_levels, RxFields}
 use Rattle.air_audit.specs.declared.verdict.AuditReason.{AuditReason}
-use Rattle.air_audit.proofs.OneReason.{rx_part, rx-refusal}
+use Rattle.air_audit.proofs.FirstPart.{none-fails}
 use Rattle.air_audit.proofs.SentLines.{number-is}
 use Rattle.air_audit.proofs.Spelled.{decimal-lacks}
 use Rattle.air_audit.proofs.Words.{word-text}
@@ -20,7 +20,7 @@ pub record IsReadable (exchange count : ℕ) (levels : List Bool) : Type 0 where
   pub count_small : count < 2 ^ 64
   pub few : length levels ≤ most_rx_levels
 
-pub rx-fields : (exchange count : ℕ) (levels : List Bool) → fields_of (text_of (RxLine exchange count levels)) ≡ report_fields (RxLine exchange count levels)
+rx-fields : (exchange count : ℕ) (levels : List Bool) → fields_of (text_of (RxLine exchange count levels)) ≡ report_fields (RxLine exchange count levels)
 rx-fields exchange count levels =
     fields_come_back (report_fields (RxLine exchange count levels)) (λ none. cc)
     (All-from_recursion (Lacks space) (report_fields (RxLine exchange count levels)) (
@@ -34,7 +34,7 @@ rx-fields exchange count levels =
       ),
     ))
 
-rx-read : (exchange count : ℕ) (levels : List Bool) → IsReadable exchange count levels → RxFields (text_of (RxLine exchange count levels))
+abbrev rx-read : (exchange count : ℕ) (levels : List Bool) → IsReadable exchange count levels → RxFields (text_of (RxLine exchange count levels))
 rx-read exchange count levels is = record {
   exchange = decimal exchange;
   count = decimal count;
@@ -45,17 +45,10 @@ rx-read exchange count levels is = record {
   few = is.few;
 }
 
-rx-holds : (exchange count : ℕ) (levels : List Bool) → IsReadable exchange count levels → (place : ℕ)
-    → rx_part exchange count levels (text_of (RxLine exchange count levels)) place
-unfolding rx-read
-rx-holds exchange count levels is zero = ap length (rx-fields exchange count levels)
-rx-holds exchange count levels is (suc zero) = rx-read exchange count levels is
-rx-holds exchange count levels is (suc (suc zero)) = (rx-read exchange count levels is, refl)
-rx-holds exchange count levels is (suc (suc (suc zero))) = (rx-read exchange count levels is, refl, refl)
-rx-holds exchange count levels is (suc (suc (suc (suc place)))) = (rx-read exchange count levels is, refl, refl, refl)
-
 pub rx-differs : (exchange count : ℕ) (levels : List Bool) (line : List ℕ) (reason : AuditReason) → IsReadable exchange count levels
     → DiffersFirst exchange count levels line reason → line ≢ text_of (RxLine exchange count levels)
 rx-differs exchange count levels line reason is first same =
-    let refusal = rx-refusal exchange count levels line reason first in
-    refusal.fails.fails (subst (λ (text : List ℕ). rx_part exchange count levels text refusal.place) (sym same) (rx-holds exchange count levels is refusal.place))
+    let rx = rx-read exchange count levels is in
+    none-fails (rx_parts exchange count levels (text_of (RxLine exchange count levels))) reason
+    (ap length (rx-fields exchange count levels), (rx, ((rx, refl), ((rx, refl, refl), ((rx, refl, refl, refl), tt)))))
+    (subst (λ (text : List ℕ). DiffersFirst exchange count levels text reason) same first)

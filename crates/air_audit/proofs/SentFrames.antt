@@ -14,6 +14,7 @@ use Rattle.report_lines.specs.ReadLines.{TxFields}
 use Rattle.air_audit.specs.TraceLines.{AreFrameOf, FrameBeginsWith}
 use Rattle.air_audit.specs.declared.verdict.AuditReason.{AuditReason}
 use Rattle.air_audit.specs.declared.verdict.AuditReason.TheVariants as reasons
+use Rattle.air_audit.proofs.ReadLines.{tx-no-frame}
 
 -- what a decoder answers of intervals that are a frame, where these bits are read from them
 abbrev pub ReadsFrames : List ℕ → List Bool → Result FrameKind PieRefusal → Type 0
@@ -80,4 +81,4 @@ line-sends exchange line intervals answer has reads = record {
 pub line-refused : (exchange : ℕ) (line intervals : List ℕ) (reason : AuditReason) → HasIntervals exchange line intervals → IsNoFrame intervals reason
     → IsNoTxLine exchange line reason
 line-refused exchange line intervals reason has none =
-    subst (IsNoTxLine exchange line) (sym none.named) (has.0, has.1, λ command frame. none.none command (subst (AreFrameOf command) has.2 frame))
+    subst (IsNoTxLine exchange line) (sym none.named) (tx-no-frame exchange line has.0 has.1 (λ command frame. none.none command (subst (AreFrameOf command) has.2 frame)))

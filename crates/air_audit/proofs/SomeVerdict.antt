@@ -1,20 +1,24 @@
 -- Each trace has a verdict: each line goes on from where a trace stands, or is refused there for some reason.
-use Rattle.std.proofs.Common.{◌≡◌, ◌≢◌, ◌⊎◌, ◌+◌, ◌<◌, ◌≤◌, ◌^◌, ℕ, Bool, true, false, inl, inr, List, [], ◌∷◌, ◌++◌, All, length, map, get_or, codes, arith, refl, sym, ap, ◌∙◌, subst, append_assoc}
+use Rattle.std.proofs.Common.{◌≡◌, ◌≢◌, ◌⊎◌, ◌+◌, ◌<◌, ◌≤◌, ◌^◌, ℕ, Bool, true, false, inl, inr, List, [], ◌∷◌, All, length, map, get_or, codes, arith, refl, sym, ap, ◌∙◌, subst}
+use Rattle.std.specs.Cmp.{booleans_Decides}
 use Rattle.std.specs.Fmt.{decimal}
+use Rattle.std.specs.Prelude.{Decides}
 use Rattle.std.proofs.lemmas.Bool.{cases_eq, cases_lt}
+use Rattle.std.proofs.lemmas.Bool.Decides.{Decides-eqb, not_from_Decides}
 use Rattle.std.proofs.lemmas.Fmt.{decimal_is_IsNumeral}
 use Rattle.std.proofs.lemmas.List.{length-map}
 use Rattle.std.proofs.lemmas.List.Elements.{All-nil, All-cons, All-head, All-tail}
+use Rattle.std.proofs.lemmas.Slice.Eq.{slice_eq-Decides}
 use Rattle.bit_strings.specs.Family.{IsBadAt, IsShortAt}
 use Rattle.text_fields.specs.Binary.{binary, bits_of_digits, hyphen}
 use Rattle.text_fields.specs.Lines.{fields_of, lines_of}
 use Rattle.text_fields.proofs.BinaryLaws.{bits_of_digits-map}
-use Rattle.text_fields.proofs.LineLaws.{some_line}
 use Rattle.text_fields.proofs.ToldApart.{binary_told}
+use Rattle.checked_lines.specs.TextRules.{Faulty, HasOutcome, Outcome, Whole}
+use Rattle.checked_lines.specs.laws.OneOutcome.{some_outcome, whole_ends}
 use Rattle.command_grammar.specs.Commands.{SpellsCommand, Spellings}
 use Rattle.command_grammar.specs.declared.commands.Command.{Command}
 use Rattle.pie_line.specs.FrameAnswer.{HasOneAnswer}
-use Rattle.pie_line.specs.Link.{blf_of}
 use Rattle.pie_line.specs.Pie.{IsFrame, longest_interval}
 use Rattle.pie_line.specs.declared.frame.FrameKind.{FrameKind}
 use Rattle.pie_line.specs.declared.frame.FrameKind.TheVariants as kinds
@@ -25,19 +29,22 @@ use Rattle.pie_text.specs.declared.numbers.NotNumbers.{NotNumbers}
 use Rattle.pie_text.specs.declared.numbers.NotNumbers.TheVariants as faults
 use Rattle.air_model.specs.Channel.{heard_levels, lead_of}
 use Rattle.air_model.specs.Past.{Start, Record, Item, exchanges_in}
-use Rattle.report_lines.specs.ReadLines.{IsDecimal, HasRxShape, HasTxShape, RxFields, TxFields, first_field, most_tx_intervals, most_rx_levels, text_of}
-use Rattle.report_lines.specs.ReportLine.{BlfLine}
+use Rattle.report_lines.specs.ReadLines.{IsDecimal, HasTxShape, RxFields, TxFields, most_tx_intervals, most_rx_levels, text_of}
+use Rattle.report_lines.specs.ReportLine.{ReportLine, RxLine}
 use Rattle.runs.specs.Report.{list_line}
-use Rattle.air_audit.specs.FirstRefusal.{IsRefusedBefore, IsAuditVerdict}
-use Rattle.air_audit.specs.LineRefusals.{IsRefusedHere}
-use Rattle.air_audit.specs.Standing.{TraceStanding, begun, between, sending, listing, telling, ended, TraceGoesOn, TraceLeads, TellsNextTag, behind_exchange, behind_told, next_tag, record_of, rx_line, told_line}
-use Rattle.air_audit.specs.TraceLines.{AreFrameOf, FrameBeginsWith, IsOfTags, IsUnjudged}
+use Rattle.air_audit.specs.AuditedTrace.{TraceMayEnd, trace_rules}
+use Rattle.air_audit.specs.FirstRefusal.{IsAuditVerdict}
+use Rattle.air_audit.specs.FirstWords.{first_word}
+use Rattle.air_audit.specs.LineRefusals.{DiffersFirst, IsOther, IsRefusedAs}
+use Rattle.air_audit.specs.Standing.{GoesOnAs, IsTheLine, TraceStanding, begun, between, sending, listing, telling, ended, behind_exchange, behind_told, link_line, next_tag, record_of, rx_line, told_line}
+use Rattle.air_audit.specs.TraceLines.{AreFrameOf, FrameBeginsWith}
+use Rattle.air_audit.specs.declared.first_words.Word.{Word}
+use Rattle.air_audit.specs.declared.first_words.Word.TheVariants as words
 use Rattle.air_audit.specs.declared.verdict.AuditReason.{AuditReason}
 use Rattle.air_audit.specs.declared.verdict.AuditReason.TheVariants as reasons
 use Rattle.air_audit.specs.declared.verdict.Verdict.{Verdict}
 use Rattle.air_audit.specs.declared.verdict.Verdict.TheVariants.{Yes, No}
-use Rattle.air_audit.proofs.Leading.{leads-on}
-use Rattle.air_audit.proofs.ReadLines.{rx-text}
+use Rattle.air_audit.proofs.ReadLines.{rx-other-count, rx-other-levels, rx-other-number, rx-text, tx-no-frame, tx-other}
 
 -- it holds, or it doesn't
 abbrev OrNot : Type 0 → Type 0
@@ -58,30 +65,16 @@ pub record Laws : Type 0 where
   pub not_bad : (bits : List Bool) (place : ℕ) → Spellings bits → IsBadAt Spellings bits place → ⊥
   pub not_short : (bits : List Bool) (count : ℕ) → Spellings bits → IsShortAt Spellings bits count → ⊥
 
+or-not : {P : Type 0} (test : Bool) → Decides test P → OrNot P
+or-not true decides = inl (decides.0 refl)
+or-not false decides = inr (not_from_Decides false decides refl)
+
 -- two lists of bytes, or of bits, are one or are not
-same-bytes : (xs ys : List ℕ) → (xs ≡ ys) ⊎ (xs ≢ ys)
-same-bytes [] [] = inl refl
-same-bytes [] (y ∷ ys) = inr (λ same. cc)
-same-bytes (x ∷ xs) [] = inr (λ same. cc)
-same-bytes (x ∷ xs) (y ∷ ys) = elim (cases_eq x y) [
-  | inr differs ↦ inr (λ same. let first : x ≡ y = cc in differs first)
-  | inl first ↦ elim (same-bytes xs ys) [ inl others ↦ inl (cc) | inr differ ↦ inr (λ same. let others : xs ≡ ys = cc in differ others) ]
-]
+same-bytes : (xs ys : List ℕ) → OrNot (xs ≡ ys)
+same-bytes xs ys = or-not _ (slice_eq-Decides Decides-eqb xs ys _ refl)
 
-same-bit : (x y : Bool) → (x ≡ y) ⊎ (x ≢ y)
-same-bit true true = inl refl
-same-bit false false = inl refl
-same-bit true false = inr (λ same. cc)
-same-bit false true = inr (λ same. cc)
-
-same-bits : (xs ys : List Bool) → (xs ≡ ys) ⊎ (xs ≢ ys)
-same-bits [] [] = inl refl
-same-bits [] (y ∷ ys) = inr (λ same. cc)
-same-bits (x ∷ xs) [] = inr (λ same. cc)
-same-bits (x ∷ xs) (y ∷ ys) = elim (same-bit x y) [
-  | inr differs ↦ inr (λ same. let first : x ≡ y = cc in differs first)
-  | inl first ↦ elim (same-bits xs ys) [ inl others ↦ inl (cc) | inr differ ↦ inr (λ same. let others : xs ≡ ys = cc in differ others) ]
-]
+same-bits : (xs ys : List Bool) → OrNot (xs ≡ ys)
+same-bits xs ys = or-not _ (slice_eq-Decides booleans_Decides xs ys _ refl)
 
 -- a fact holds of each byte, or not of each
 each-or : (P : ℕ → Type 0) → ((byte : ℕ) → OrNot (P byte)) → (bytes : List ℕ) → OrNot (All P bytes)
@@ -144,35 +137,42 @@ not-refused fields intervals faults.Shape spells refused =
 not-refused fields intervals faults.Number spells refused = refused.1 intervals spells.within spells.spelling
 
 -- a line of enough fields is a tx line or none
-tx-by-fields : Laws → (line : List ℕ) (fields : List (List ℕ)) → fields_of line ≡ fields → get_or fields 0 [] ≡ codes "tx" → 3 ≤ length fields
-    → length fields ≤ most_tx_intervals + 2 → OrNot (TxFields line)
-tx-by-fields laws line [] are word some few = absurd (omega (arith, some))
-tx-by-fields laws line (first ∷ []) are word some few = absurd (omega (arith, some))
-tx-by-fields laws line (first ∷ exchange ∷ []) are word some few = absurd (omega (arith, some))
-tx-by-fields laws line (first ∷ exchange ∷ next ∷ more) are word some few = elim (number-or exchange) [
-  | inr none ↦ inr (λ tx.
-      let same : codes "tx" ∷ tx.exchange ∷ map decimal tx.intervals ≡ first ∷ exchange ∷ next ∷ more = sym tx.are ∙ are in
-      let one : tx.exchange ≡ exchange = cc in
-      none (subst IsDecimal one tx.number))
-  | inl number ↦ elim (laws.numbers most_tx_intervals longest_interval (next ∷ more) (omega arith)) [
-    | inl spells ↦ inl (record {
-      exchange = exchange;
-      intervals = spells.0;
-      are = are ∙ ap (λ (f : List ℕ). f ∷ exchange ∷ next ∷ more) word ∙ ap (λ (f : List (List ℕ)). codes "tx" ∷ exchange ∷ f) spells.1.spelling;
-      number = number;
-      some = spells.1.some;
-      few = spells.1.room;
-      short = spells.1.within;
-    })
-    | inr refused ↦ inr (λ tx.
-        let same : codes "tx" ∷ tx.exchange ∷ map decimal tx.intervals ≡ first ∷ exchange ∷ next ∷ more = sym tx.are ∙ are in
-        let rest : next ∷ more ≡ map decimal tx.intervals = cc in
-        not-refused (next ∷ more) tx.intervals refused.0 (record { spelling = rest; some = tx.some; room = tx.few; within = tx.short }) refused.1)
+tx-by-fields : Laws → (line : List ℕ) (fields : List (List ℕ)) → fields_of line ≡ fields → 3 ≤ length fields → length fields ≤ most_tx_intervals + 2 → OrNot (TxFields line)
+tx-by-fields laws line [] are some few = absurd (omega (arith, some))
+tx-by-fields laws line (first ∷ []) are some few = absurd (omega (arith, some))
+tx-by-fields laws line (first ∷ exchange ∷ []) are some few = absurd (omega (arith, some))
+tx-by-fields laws line (first ∷ exchange ∷ next ∷ more) are some few =
+    let parts : (tx : TxFields line) → codes "tx" ∷ tx.exchange ∷ map decimal tx.intervals ≡ first ∷ exchange ∷ next ∷ more = λ tx. sym tx.are ∙ are in
+    elim (same-bytes first (codes "tx")) [
+      | inr other ↦ inr (λ tx. let same = parts tx in let one : first ≡ codes "tx" = cc in other one)
+      | inl word ↦ elim (number-or exchange) [
+        | inr none ↦ inr (λ tx. let same = parts tx in let one : tx.exchange ≡ exchange = cc in none (subst IsDecimal one tx.number))
+        | inl number ↦ elim (laws.numbers most_tx_intervals longest_interval (next ∷ more) (omega arith)) [
+          | inl spells ↦ inl (record {
+            exchange = exchange;
+            intervals = spells.0;
+            are = are ∙ ap (λ (f : List ℕ). f ∷ exchange ∷ next ∷ more) word ∙ ap (λ (f : List (List ℕ)). codes "tx" ∷ exchange ∷ f) spells.1.spelling;
+            number = number;
+            some = spells.1.some;
+            few = spells.1.room;
+            short = spells.1.within;
+          })
+          | inr refused ↦ inr (λ tx.
+              let same = parts tx in
+              let rest : next ∷ more ≡ map decimal tx.intervals = cc in
+              not-refused (next ∷ more) tx.intervals refused.0 (record { spelling = rest; some = tx.some; room = tx.few; within = tx.short }) refused.1)
+        ]
+      ]
+    ]
+
+shape-or : (line : List ℕ) → OrNot (HasTxShape line)
+shape-or line = elim (cases_lt (length (fields_of line)) 3) [
+  | inl few ↦ inr (λ shape. omega (arith, few, shape.0))
+  | inr some ↦ elim (cases_lt (most_tx_intervals + 2) (length (fields_of line))) [
+    | inl many ↦ inr (λ shape. omega (arith, many, shape.1))
+    | inr few ↦ inl (some, few)
   ]
 ]
-
-tx-or : Laws → (line : List ℕ) → first_field line ≡ codes "tx" → HasTxShape line → OrNot (TxFields line)
-tx-or laws line word shape = tx-by-fields laws line (fields_of line) refl word shape.0 shape.1
 
 -- digits spell bits or none
 some-bits : (digits : List ℕ) (bits : List Bool) → digits ≢ hyphen ∷ [] → digits ≡ binary bits → digits ≡ binary (bits_of_digits digits)
@@ -189,41 +189,41 @@ bits-or digits = elim (same-bytes digits (hyphen ∷ [])) [
 ]
 
 -- a line of four fields is an rx line or none
-rx-by-fields : (line : List ℕ) (fields : List (List ℕ)) → fields_of line ≡ fields → get_or fields 0 [] ≡ codes "rx" → length fields ≡ 4 → OrNot (RxFields line)
-rx-by-fields line [] are word four = absurd (omega (arith, four))
-rx-by-fields line (first ∷ []) are word four = absurd (omega (arith, four))
-rx-by-fields line (first ∷ exchange ∷ []) are word four = absurd (omega (arith, four))
-rx-by-fields line (first ∷ exchange ∷ count ∷ []) are word four = absurd (omega (arith, four))
-rx-by-fields line (first ∷ exchange ∷ count ∷ digits ∷ next ∷ more) are word four = absurd (omega (arith, four))
-rx-by-fields line (first ∷ exchange ∷ count ∷ digits ∷ []) are word four =
+rx-by-fields : (line : List ℕ) (fields : List (List ℕ)) → fields_of line ≡ fields → length fields ≡ 4 → OrNot (RxFields line)
+rx-by-fields line [] are four = absurd (omega (arith, four))
+rx-by-fields line (first ∷ []) are four = absurd (omega (arith, four))
+rx-by-fields line (first ∷ exchange ∷ []) are four = absurd (omega (arith, four))
+rx-by-fields line (first ∷ exchange ∷ count ∷ []) are four = absurd (omega (arith, four))
+rx-by-fields line (first ∷ exchange ∷ count ∷ digits ∷ next ∷ more) are four = absurd (omega (arith, four))
+rx-by-fields line (first ∷ exchange ∷ count ∷ digits ∷ []) are four =
     let parts : (rx : RxFields line) → codes "rx" ∷ rx.exchange ∷ rx.count ∷ binary rx.levels ∷ [] ≡ first ∷ exchange ∷ count ∷ digits ∷ [] = λ rx. sym rx.are ∙ are in
-    elim (number-or exchange) [
-      | inr none ↦ inr (λ rx. let same = parts rx in let one : rx.exchange ≡ exchange = cc in none (subst IsDecimal one rx.number))
-      | inl number ↦ elim (number-or count) [
-        | inr none ↦ inr (λ rx. let same = parts rx in let one : rx.count ≡ count = cc in none (subst IsDecimal one rx.count_number))
-        | inl count_number ↦ elim (bits-or digits) [
-          | inr none ↦ inr (λ rx. let same = parts rx in let one : digits ≡ binary rx.levels = cc in none rx.levels one)
-          | inl levels ↦ elim (cases_lt most_rx_levels (length levels.0)) [
-            | inl many ↦ inr (λ rx.
-                let same = parts rx in
-                let one : binary rx.levels ≡ digits = cc in
-                omega (arith, many, rx.few, ap length (binary_told rx.levels levels.0 (one ∙ levels.1))))
-            | inr few ↦ inl (record {
-              exchange = exchange;
-              count = count;
-              levels = levels.0;
-              are = are ∙ ap (λ (f : List ℕ). f ∷ exchange ∷ count ∷ digits ∷ []) word ∙ ap (λ (f : List ℕ). codes "rx" ∷ exchange ∷ count ∷ f ∷ []) levels.1;
-              number = number;
-              count_number = count_number;
-              few = few;
-            })
+    elim (same-bytes first (codes "rx")) [
+      | inr other ↦ inr (λ rx. let same = parts rx in let one : first ≡ codes "rx" = cc in other one)
+      | inl word ↦ elim (number-or exchange) [
+        | inr none ↦ inr (λ rx. let same = parts rx in let one : rx.exchange ≡ exchange = cc in none (subst IsDecimal one rx.number))
+        | inl number ↦ elim (number-or count) [
+          | inr none ↦ inr (λ rx. let same = parts rx in let one : rx.count ≡ count = cc in none (subst IsDecimal one rx.count_number))
+          | inl count_number ↦ elim (bits-or digits) [
+            | inr none ↦ inr (λ rx. let same = parts rx in let one : digits ≡ binary rx.levels = cc in none rx.levels one)
+            | inl levels ↦ elim (cases_lt most_rx_levels (length levels.0)) [
+              | inl many ↦ inr (λ rx.
+                  let same = parts rx in
+                  let one : binary rx.levels ≡ digits = cc in
+                  omega (arith, many, rx.few, ap length (binary_told rx.levels levels.0 (one ∙ levels.1))))
+              | inr few ↦ inl (record {
+                exchange = exchange;
+                count = count;
+                levels = levels.0;
+                are = are ∙ ap (λ (f : List ℕ). f ∷ exchange ∷ count ∷ digits ∷ []) word ∙ ap (λ (f : List ℕ). codes "rx" ∷ exchange ∷ count ∷ f ∷ []) levels.1;
+                number = number;
+                count_number = count_number;
+                few = few;
+              })
+            ]
           ]
         ]
       ]
     ]
-
-rx-or : (line : List ℕ) → first_field line ≡ codes "rx" → HasRxShape line → OrNot (RxFields line)
-rx-or line word shape = rx-by-fields line (fields_of line) refl word shape
 
 -- intervals are the frame of a command or of none
 lead-or : (kind : FrameKind) (lead : Lead) → OrNot (FrameBeginsWith kind lead)
@@ -259,191 +259,89 @@ frame-or laws intervals =
       | inr (inr short) ↦ inr (λ command are. answer.frame_not_short short.0 (are.kind, are.bits, are.frame) short.1)
     ]
 
--- what a line is by its word
-unjudged-or : (word : List ℕ) → OrNot (IsUnjudged word)
-unjudged-or word = elim (same-bytes word (codes "op")) [
-  | inl op ↦ inl (inl op)
-  | inr no_op ↦ elim (same-bytes word (codes "round")) [
-    | inl round ↦ inl (inr (inl round))
-    | inr no_round ↦ elim (same-bytes word (codes "seen")) [
-      | inl seen ↦ inl (inr (inr seen))
-      | inr no_seen ↦ inr (λ is. elim is [ inl op ↦ no_op op | inr (inl round) ↦ no_round round | inr (inr seen) ↦ no_seen seen ])
-    ]
-  ]
-]
-
-tags-or : (word : List ℕ) → OrNot (IsOfTags word)
-tags-or word = elim (same-bytes word (codes "tag")) [
-  | inl tag ↦ inl (inl tag)
-  | inr no_tag ↦ elim (same-bytes word (codes "done")) [
-    | inl done ↦ inl (inr done)
-    | inr no_done ↦ inr (λ is. elim is [ inl tag ↦ no_tag tag | inr done ↦ no_done done ])
-  ]
-]
-
--- the trace goes on with the line, or the line is refused
-abbrev GoesOrIsRefused : Start → TraceStanding → List ℕ → Type 0
-GoesOrIsRefused start standing line = ((next : TraceStanding) × TraceGoesOn start standing line next) ⊎ ((reason : AuditReason) × IsRefusedHere start standing line reason)
+-- the trace goes on with the line, which begins with this word, or the line is refused
+abbrev GoesOrIsRefused : Start → TraceStanding → Word → List ℕ → Type 0
+GoesOrIsRefused start from word line = ((to : TraceStanding) × GoesOnAs start from word line to) ⊎ ((reason : AuditReason) × IsRefusedAs start from word line reason)
 
 -- a line that begins with tx
-sends-or : Laws → (start : Start) (past : List Item) (line : List ℕ) → first_field line ≡ codes "tx" → GoesOrIsRefused start (between past) line
-sends-or laws start past line word = elim (cases_lt (length (fields_of line)) 3) [
-  | inl few ↦ inr (reasons.Shape, inl (word, λ shape. omega (arith, few, shape.0)))
-  | inr some ↦ elim (cases_lt (most_tx_intervals + 2) (length (fields_of line))) [
-    | inl many ↦ inr (reasons.Shape, inl (word, λ shape. omega (arith, many, shape.1)))
-    | inr few ↦ elim (tx-or laws line word (some, few)) [
-      | inr none ↦ inr (reasons.Number, inl (word, ((some, few), none)))
-      | inl tx ↦ elim (same-bytes tx.exchange (decimal (exchanges_in past + 1))) [
-        | inr other ↦ inr (reasons.Exchange, inl (word, (tx, other)))
-        | inl number ↦ elim (frame-or laws tx.intervals) [
-          | inr none ↦ inr (reasons.Frame, inl (word, (tx, number, none)))
-          | inl frame ↦ inl (
-            sending past (record_of start past frame.0),
-            inl (record { command = frame.0; sends = record { tx = tx; number = number; frame = frame.1 }; leads = refl }),
-          )
-        ]
-      ]
-    ]
-  ]
-]
-
--- a line behind the tx line of an exchange that begins with rx
-hears-or : (start : Start) (past : List Item) (sent : Record) (line : List ℕ) → first_field line ≡ codes "rx" → GoesOrIsRefused start (sending past sent) line
-hears-or start past sent line word = elim (same-bytes line (text_of (rx_line start sent))) [
-  | inl text ↦ inl (behind_exchange _ _, record { text = text; leads = refl })
-  | inr other ↦ elim (cases_eq (length (fields_of line)) 4) [
-    | inr shape ↦ inr (reasons.Shape, (word, record { other = other; first = shape }))
-    | inl shape ↦ elim (rx-or line word shape) [
-      | inr none ↦ inr (reasons.Number, (word, record { other = other; first = (shape, none) }))
-      | inl rx ↦ elim (same-bytes rx.exchange (decimal sent.exchange)) [
-        | inr differs ↦ inr (reasons.Exchange, (word, record { other = other; first = (rx, differs) }))
-        | inl number ↦ elim (same-bytes rx.count (decimal (length sent.replies))) [
-          | inr differs ↦ inr (reasons.Count, (word, record { other = other; first = (rx, number, differs) }))
-          | inl count ↦ elim (same-bits rx.levels (heard_levels start.link sent.given)) [
-            | inr differ ↦ inr (reasons.Levels, (word, record { other = other; first = (rx, number, count, differ) }))
-            | inl levels ↦ absurd (other (rx-text sent.exchange (length sent.replies) (heard_levels start.link sent.given) line rx
-                (record { number_is = number; count_is = count; levels_are = levels })))
+sends-or : Laws → (start : Start) (past : List Item) (line : List ℕ) → GoesOrIsRefused start (between past) words.Tx line
+sends-or laws start past line =
+    let exchange = exchanges_in past + 1 in
+    elim (shape-or line) [
+      | inr none ↦ inr (reasons.Shape, inl (none, refl))
+      | inl shape ↦ elim (tx-by-fields laws line (fields_of line) refl shape.0 shape.1) [
+        | inr none ↦ inr (reasons.Number, inr (shape, inl (none, refl)))
+        | inl tx ↦ elim (same-bytes tx.exchange (decimal exchange)) [
+          | inr other ↦ inr (reasons.Exchange, tx-other exchange line tx other)
+          | inl number ↦ elim (frame-or laws tx.intervals) [
+            | inr none ↦ inr (reasons.Frame, tx-no-frame exchange line tx number none)
+            | inl frame ↦ inl (
+              sending past (record_of start past frame.0),
+              record { command = frame.0; sends = record { tx = tx; number = number; frame = frame.1 }; leads = refl },
+            )
           ]
         ]
       ]
     ]
-  ]
-]
 
--- a line that begins as that of a tag, or as the last one
-tells-or : (start : Start) (past : List Item) (told : ℕ) (line : List ℕ)
-    → ((next : TraceStanding) × TellsNextTag start past told line next) ⊎ (line ≢ text_of (told_line told (next_tag start past told)))
-tells-or start past told line = elim (same-bytes line (text_of (told_line told (next_tag start past told)))) [
-  | inl text ↦ inl (behind_told past told (next_tag start past told), record { text = text; leads = refl })
-  | inr other ↦ inr other
-]
-
-goes-or : Laws → (start : Start) (standing : TraceStanding) (line : List ℕ) → GoesOrIsRefused start standing line
-goes-or laws start begun line = elim (same-bytes line (text_of (BlfLine (blf_of start.link).0 (blf_of start.link).1))) [
-  | inl text ↦ inl (between [], record { text = text; leads = refl })
-  | inr other ↦ inr (reasons.Blf, (refl, other))
-]
-goes-or laws start (between past) line = elim (same-bytes (first_field line) (codes "list")) [
-  | inl list ↦ inr (reasons.List, list)
-  | inr no_list ↦ elim (same-bytes (first_field line) (codes "tx")) [
-    | inl tx ↦ sends-or laws start past line tx
-    | inr no_tx ↦ elim (unjudged-or (first_field line)) [
-      | inl unjudged ↦ inl (between past, inr (inl (record { unjudged = unjudged; leads = refl })))
-      | inr judged ↦ elim (tags-or (first_field line)) [
-        | inr no_tags ↦ inr (reasons.Word, (no_list, λ is. elim is [ inl tx ↦ no_tx tx | inr (inl unjudged) ↦ judged unjudged | inr (inr tags) ↦ no_tags tags ]))
-        | inl tags ↦ elim (tells-or start past 0 line) [
-          | inl told ↦ inl (told.0, inr (inr told.1))
-          | inr other ↦ inr (reasons.Tag, inr (tags, other))
+-- the first reason for which a line is another
+differs-or : (exchange count : ℕ) (levels : List Bool) (line : List ℕ) → line ≢ text_of (RxLine exchange count levels) → (reason : AuditReason) × DiffersFirst exchange count levels line reason
+differs-or exchange count levels line other = elim (cases_eq (length (fields_of line)) 4) [
+  | inr none ↦ (reasons.Shape, inl (none, refl))
+  | inl shape ↦ elim (rx-by-fields line (fields_of line) refl shape) [
+    | inr none ↦ (reasons.Number, inr (shape, inl (none, refl)))
+    | inl rx ↦ elim (same-bytes rx.exchange (decimal exchange)) [
+      | inr differs ↦ (reasons.Exchange, rx-other-number exchange count levels line rx differs)
+      | inl number ↦ elim (same-bytes rx.count (decimal count)) [
+        | inr differs ↦ (reasons.Count, rx-other-count exchange count levels line rx number differs)
+        | inl counted ↦ elim (same-bits rx.levels levels) [
+          | inr differ ↦ (reasons.Levels, rx-other-levels exchange count levels line rx number counted differ)
+          | inl same ↦ absurd (other (rx-text exchange count levels line rx (record { number_is = number; count_is = counted; levels_are = same })))
         ]
       ]
     ]
   ]
 ]
-goes-or laws start (sending past sent) line = elim (same-bytes (first_field line) (codes "list")) [
-  | inl list ↦ inr (reasons.List, list)
-  | inr no_list ↦ elim (same-bytes (first_field line) (codes "rx")) [
-    | inl rx ↦ hears-or start past sent line rx
-    | inr no_rx ↦ inr (reasons.Word, (no_list, no_rx))
-  ]
-]
-goes-or laws start (listing past listed) line = elim (same-bytes line (text_of (list_line listed))) [
-  | inl text ↦ inl (between past, record { text = text; leads = refl })
-  | inr other ↦ inr (reasons.List, (refl, other))
-]
-goes-or laws start (telling past told) line = elim (same-bytes (first_field line) (codes "list")) [
-  | inl list ↦ inr (reasons.List, list)
-  | inr no_list ↦ elim (tags-or (first_field line)) [
-    | inr no_tags ↦ inr (reasons.Word, (no_list, no_tags))
-    | inl tags ↦ elim (tells-or start past told line) [
-      | inl next ↦ inl next
-      | inr other ↦ inr (reasons.Tag, (tags, other))
-    ]
-  ]
-]
-goes-or laws start (ended past) line = inr (reasons.Extra, refl)
 
--- a trace that stands somewhere before these lines, the last of which has no line feed
-record StandsBefore (start : Start) (bytes : List ℕ) (standing : TraceStanding) (lines : List (List ℕ)) : Type 0 where
-  before : List (List ℕ)
-  leads : TraceLeads start begun before standing
-  cut : lines_of bytes ≡ before ++ lines
-
-abbrev HasVerdict : Start → List ℕ → Type 0
-HasVerdict start bytes = (verdict : Verdict) × IsAuditVerdict start bytes verdict
-
-ends-here : (start : Start) (bytes : List ℕ) (standing : TraceStanding) (line : List ℕ) → StandsBefore start bytes standing (line ∷ []) → IsRefusedBefore [] start standing line reasons.End
-    → HasVerdict start bytes
-ends-here start bytes standing line stands refused = (
-  No (length stands.before + 1) reasons.End,
-  record {
-    before = stands.before;
-    line = line;
-    behind = [];
-    standing = standing;
-    cut = stands.cut;
-    leads = stands.leads;
-    place = refl;
-    refused = refused;
-  },
-)
-
-last-verdict : (start : Start) (bytes : List ℕ) (standing : TraceStanding) (line : List ℕ) → StandsBefore start bytes standing (line ∷ []) → HasVerdict start bytes
-last-verdict start bytes (ended past) [] stands = (Yes, (past, record { lines = stands.before; cut = stands.cut; leads = stands.leads }))
-last-verdict start bytes (ended past) (byte ∷ line) stands = ends-here start bytes (ended past) (byte ∷ line) stands (refl, λ none. cc)
-last-verdict start bytes begun line stands = ends-here start bytes begun line stands refl
-last-verdict start bytes (between past) line stands = ends-here start bytes (between past) line stands refl
-last-verdict start bytes (sending past sent) line stands = ends-here start bytes (sending past sent) line stands refl
-last-verdict start bytes (listing past listed) line stands = ends-here start bytes (listing past listed) line stands refl
-last-verdict start bytes (telling past told) line stands = ends-here start bytes (telling past told) line stands refl
-
-verdict-from : Laws → (start : Start) (bytes : List ℕ) (standing : TraceStanding) (line : List ℕ) (more : List (List ℕ)) → StandsBefore start bytes standing (line ∷ more)
-    → HasVerdict start bytes
-verdict-from laws start bytes standing line [] stands = last-verdict start bytes standing line stands
-verdict-from laws start bytes standing line (next ∷ more) stands = elim (goes-or laws start standing line) [
-  | inr refused ↦ (
-    No (length stands.before + 1) refused.0,
-    record {
-      before = stands.before;
-      line = line;
-      behind = next ∷ more;
-      standing = standing;
-      cut = stands.cut;
-      leads = stands.leads;
-      place = refl;
-      refused = refused.1;
-    },
-  )
-  | inl goes ↦ verdict-from laws start bytes goes.0 next more (record {
-    before = stands.before ++ line ∷ [];
-    leads = leads-on start begun standing goes.0 stands.before (line ∷ []) stands.leads (goes.0, goes.1, refl);
-    cut = stands.cut ∙ sym (append_assoc stands.before (line ∷ []) (next ∷ more));
-  })
+-- a line that has to be this one
+is-or : (expected : ReportLine) (behind : TraceStanding) (why : AuditReason) (line : List ℕ)
+    → ((to : TraceStanding) × IsTheLine expected behind line to) ⊎ ((reason : AuditReason) × IsOther expected why line reason)
+is-or expected behind why line = elim (same-bytes line (text_of expected)) [
+  | inl text ↦ inl (behind, record { text = text; leads = refl })
+  | inr other ↦ inr (why, (refl, other))
 ]
 
--- the lines of bytes are one at least
-some-verdict-of : Laws → (start : Start) (bytes : List ℕ) (lines : List (List ℕ)) → lines_of bytes ≡ lines → 1 ≤ length lines → HasVerdict start bytes
-some-verdict-of laws start bytes [] cut some = absurd (omega (arith, some))
-some-verdict-of laws start bytes (line ∷ more) cut some = verdict-from laws start bytes begun line more (record { before = []; leads = refl; cut = cut })
+hears-or : (start : Start) (past : List Item) (sent : Record) (line : List ℕ) → GoesOrIsRefused start (sending past sent) words.Rx line
+hears-or start past sent line = elim (same-bytes line (text_of (rx_line start sent))) [
+  | inl text ↦ inl (behind_exchange _ _, record { text = text; leads = refl })
+  | inr other ↦
+      let first = differs-or sent.exchange (length sent.replies) (heard_levels start.link sent.given) line other in
+      inr (first.0, record { other = other; first = first.1 })
+]
 
-pub some-verdict : Laws → (start : Start) (bytes : List ℕ) → HasVerdict start bytes
-some-verdict laws start bytes = some-verdict-of laws start bytes (lines_of bytes) refl (some_line bytes)
+goes-or : Laws → (start : Start) (from : TraceStanding) (word : Word) (line : List ℕ) → GoesOrIsRefused start from word line
+goes-or laws start begun word line = is-or (link_line start.link) (between []) reasons.Blf line
+goes-or laws start (between past) words.Tx line = sends-or laws start past line
+goes-or laws start (between past) words.Unjudged line = inl (between past, refl)
+goes-or laws start (between past) words.OfTags line = is-or (told_line 0 (next_tag start past 0)) (behind_told past 0 (next_tag start past 0)) reasons.Tag line
+goes-or laws start (sending past sent) words.Rx line = hears-or start past sent line
+goes-or laws start (listing past listed) word line = is-or (list_line listed) (between past) reasons.List line
+goes-or laws start (telling past told) words.OfTags line = is-or (told_line told (next_tag start past told)) (behind_told past told (next_tag start past told)) reasons.Tag line
+goes-or laws start (ended past) word line = inr (reasons.Extra, refl)
+goes-or laws start from words.List line = inr (reasons.List, refl)
+goes-or laws start from word line = inr (reasons.Word, refl)
+
+-- a trace ends behind its last line alone
+end-or : (standing : TraceStanding) → OrNot (TraceMayEnd standing)
+end-or (ended past) = inl tt
+end-or standing = inr (λ may. may)
+
+verdict-of : (start : Start) (bytes : List ℕ) (outcome : Outcome TraceStanding AuditReason) → HasOutcome (trace_rules start) bytes outcome → (verdict : Verdict) × IsAuditVerdict start bytes verdict
+verdict-of start bytes (Faulty number reason) is = (No number reason, is)
+verdict-of start bytes (Whole (ended past)) is = (Yes, (past, is))
+verdict-of start bytes (Whole standing) is = absurd (whole_ends (trace_rules start) begun 1 (lines_of bytes) standing is)
+
+pub some-verdict : Laws → (start : Start) (bytes : List ℕ) → (verdict : Verdict) × IsAuditVerdict start bytes verdict
+some-verdict laws start bytes =
+    let outcome = some_outcome (trace_rules start) (record { lines = λ from line. goes-or laws start from (first_word line) line; ends = end-or }) bytes in
+    verdict-of start bytes outcome.0 outcome.1

@@ -1,21 +1,18 @@
--- What a line is by the word that it begins with.
-use Rattle.std.specs.Prelude.{◌≡◌, ◌≢◌, ℕ, List, codes}
-use Rattle.air_audit.specs.TraceLines.{IsUnjudged, IsOfTags}
+-- Profile: what a line of a trace is by the word that it begins with.
+use Rattle.std.specs.Prelude.{ℕ, List, ◌||◌, codes, if◌then◌else◌}
+use Rattle.std.specs.Str.{bytes_eq}
+use Rattle.report_lines.specs.ReadLines.{first_field}
 use Rattle.air_audit.specs.declared.first_words.Word.{Word}
 use Rattle.air_audit.specs.declared.first_words.Word.TheVariants as words
 
--- the word is none of those that a line behind the first one begins with
-pub record IsNoWord (word : List ℕ) : Type 0 where
-  pub not_tx : word ≢ codes "tx"
-  pub not_rx : word ≢ codes "rx"
-  pub not_list : word ≢ codes "list"
-  pub not_unjudged : ¬ IsUnjudged word
-  pub not_of_tags : ¬ IsOfTags word
+-- lines of operations, of ends of rounds and of counts are not judged; those of tags have the last line among them
+abbrev pub word_of : List ℕ → Word
+word_of word =
+    if bytes_eq word (codes "tx") then words.Tx else
+    if bytes_eq word (codes "rx") then words.Rx else
+    if bytes_eq word (codes "list") then words.List else
+    if bytes_eq word (codes "op") || bytes_eq word (codes "round") || bytes_eq word (codes "seen") then words.Unjudged else
+    if bytes_eq word (codes "tag") || bytes_eq word (codes "done") then words.OfTags else words.Other
 
-abbrev pub IsFirstWord : Word → List ℕ → Type 0
-IsFirstWord words.Tx word = word ≡ codes "tx"
-IsFirstWord words.Rx word = word ≡ codes "rx"
-IsFirstWord words.List word = word ≡ codes "list"
-IsFirstWord words.Unjudged word = IsUnjudged word
-IsFirstWord words.OfTags word = IsOfTags word
-IsFirstWord words.Other word = IsNoWord word
+abbrev pub first_word : List ℕ → Word
+first_word line = word_of (first_field line)

@@ -1,11 +1,11 @@
 pub mod TraceLines
+pub mod FirstWords
 pub mod Standing
-pub mod AuditedTrace
 pub mod LineRefusals
+pub mod AuditedTrace
 pub mod FirstRefusal
 pub mod OwnTraces
 pub mod Sent
-pub mod FirstWords
 pub mod Rooms
 pub mod Auditing
 pub mod TraceBehind

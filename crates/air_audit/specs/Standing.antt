@@ -1,17 +1,20 @@
 -- Profile: where a trace stands after some of its lines, and which line may follow. The tags' answers are those of the standard's
 -- state tables, and what comes of them is what the channel gives by the entries.
-use Rattle.std.specs.Prelude.{◌≡◌, ◌⊎◌, ℕ, zero, suc, ◌+◌, List, [], ◌∷◌, length, Option, Some, None, slice_get}
+use Rattle.std.specs.Prelude.{◌≡◌, ℕ, zero, suc, ◌+◌, List, [], ◌∷◌, length, Option, Some, None, slice_get}
 use Rattle.command_grammar.specs.declared.commands.Command.{Command}
 use Rattle.command_grammar.specs.declared.commands.Command.TheVariants as commands
-use Rattle.pie_line.specs.Link.{blf_of}
+use Rattle.pie_line.specs.Link.{LinkValue, blf_of}
 use Rattle.tag_machine.specs.TagValue.{TagValue}
 use Rattle.air_model.specs.Channel.{heard_levels}
 use Rattle.air_model.specs.Past.{Start, Record, Item, befell, exchanged, operated, ended as round_ended, exchanges_in, next_record, tags_behind}
 use Rattle.report_lines.specs.ReportLine.{ReportLine, BlfLine, RxLine, TagLine, DoneLine}
 use Rattle.runs.specs.Listing.{Listed, listed_by}
 use Rattle.runs.specs.Report.{list_line}
-use Rattle.report_lines.specs.ReadLines.{text_of, first_field}
-use Rattle.air_audit.specs.TraceLines.{IsUnjudged, Sends}
+use Rattle.report_lines.specs.ReadLines.{text_of}
+use Rattle.air_audit.specs.FirstWords.{first_word}
+use Rattle.air_audit.specs.TraceLines.{Sends}
+use Rattle.air_audit.specs.declared.first_words.Word.{Word}
+use Rattle.air_audit.specs.declared.first_words.Word.TheVariants as words
 
 -- The round and the slot of a record, which no line of its exchange says: the round is the number of the Query commands so far,
 -- and the slot that of the slot commands from the last Query on. Both are 0 before any Query.
@@ -63,6 +66,10 @@ abbrev pub behind_exchange : List Item → List Listed → TraceStanding
 behind_exchange past [] = between past
 behind_exchange past (listed ∷ others) = listing past listed
 
+-- the first line
+abbrev pub link_line : LinkValue → ReportLine
+link_line link = BlfLine (blf_of link).0 (blf_of link).1
+
 -- how many tags replied, and the levels that the interrogator hears
 abbrev pub rx_line : Start → Record → ReportLine
 rx_line start sent = RxLine sent.exchange (length sent.replies) (heard_levels start.link sent.given)
@@ -80,10 +87,15 @@ behind_told past told (Some tag) = telling past (told + 1)
 abbrev pub next_tag : Start → List Item → ℕ → Option TagValue
 next_tag start past told = slice_get (tags_behind start past) told
 
+-- the line is this one, and leads there
+pub record IsTheLine (expected : ReportLine) (behind : TraceStanding) (line : List ℕ) (to : TraceStanding) : Type 0 where
+  pub text : line ≡ text_of expected
+  pub leads : to ≡ behind
+
 -- the line is the next of the tags' lines
-pub record TellsNextTag (start : Start) (past : List Item) (told : ℕ) (line : List ℕ) (to : TraceStanding) : Type 0 where
-  pub text : line ≡ text_of (told_line told (next_tag start past told))
-  pub leads : to ≡ behind_told past told (next_tag start past told)
+abbrev pub TellsNextTag : Start → List Item → ℕ → List ℕ → TraceStanding → Type 0
+TellsNextTag start past told line to =
+    let next = next_tag start past told in IsTheLine (told_line told next) (behind_told past told next) line to
 
 -- the line sends the next command
 pub record SendsNext (start : Start) (past : List Item) (line : List ℕ) (to : TraceStanding) : Type 0 where
@@ -91,26 +103,18 @@ pub record SendsNext (start : Start) (past : List Item) (line : List ℕ) (to : 
   pub sends : Sends (exchanges_in past + 1) line command
   pub leads : to ≡ sending past (record_of start past command)
 
--- the line isn't judged
-pub record PassesBy (past : List Item) (line : List ℕ) (to : TraceStanding) : Type 0 where
-  pub unjudged : IsUnjudged (first_field line)
-  pub leads : to ≡ between past
-
--- the line is this one
-pub record IsTheLine (expected : ReportLine) (behind : TraceStanding) (line : List ℕ) (to : TraceStanding) : Type 0 where
-  pub text : line ≡ text_of expected
-  pub leads : to ≡ behind
+-- the line, which begins with this word, may follow, and leads there
+abbrev pub GoesOnAs : Start → TraceStanding → Word → List ℕ → TraceStanding → Type 0
+GoesOnAs start begun word line to = IsTheLine (link_line start.link) (between []) line to
+GoesOnAs start (between past) words.Tx line to = SendsNext start past line to
+-- nothing in it is judged
+GoesOnAs start (between past) words.Unjudged line to = to ≡ between past
+GoesOnAs start (between past) words.OfTags line to = TellsNextTag start past 0 line to
+GoesOnAs start (sending past sent) words.Rx line to = IsTheLine (rx_line start sent) (behind_exchange (exchanged sent ∷ past) (listed_by sent)) line to
+GoesOnAs start (listing past listed) word line to = IsTheLine (list_line listed) (between past) line to
+GoesOnAs start (telling past told) words.OfTags line to = TellsNextTag start past told line to
+GoesOnAs start standing word line to = ⊥
 
 -- the line may follow, and leads there
 abbrev pub TraceGoesOn : Start → TraceStanding → List ℕ → TraceStanding → Type 0
-TraceGoesOn start begun line to = IsTheLine (BlfLine (blf_of start.link).0 (blf_of start.link).1) (between []) line to
-TraceGoesOn start (between past) line to = SendsNext start past line to ⊎ (PassesBy past line to ⊎ TellsNextTag start past 0 line to)
-TraceGoesOn start (sending past sent) line to = IsTheLine (rx_line start sent) (behind_exchange (exchanged sent ∷ past) (listed_by sent)) line to
-TraceGoesOn start (listing past listed) line to = IsTheLine (list_line listed) (between past) line to
-TraceGoesOn start (telling past told) line to = TellsNextTag start past told line to
-TraceGoesOn start (ended past) line to = ⊥
-
--- the lines follow one another from one standing, and lead to the other
-abbrev pub TraceLeads : Start → TraceStanding → List (List ℕ) → TraceStanding → Type 0
-TraceLeads start from [] to = from ≡ to
-TraceLeads start from (line ∷ lines) to = (behind : TraceStanding) × TraceGoesOn start from line behind × TraceLeads start behind lines to
+TraceGoesOn start from line to = GoesOnAs start from (first_word line) line to

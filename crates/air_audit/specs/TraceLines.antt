@@ -1,6 +1,6 @@
 -- Profile: the lines of a trace as an auditor reads them.
 use Rattle.std.specs.Fmt.{decimal}
-use Rattle.std.specs.Prelude.{◌≡◌, ◌⊎◌, ℕ, Bool, List, codes}
+use Rattle.std.specs.Prelude.{◌≡◌, ℕ, Bool, List}
 use Rattle.command_grammar.specs.Commands.{SpellsCommand}
 use Rattle.command_grammar.specs.declared.commands.Command.{Command}
 use Rattle.pie_line.specs.Pie.{IsFrame}
@@ -10,14 +10,6 @@ use Rattle.pie_line.specs.declared.frame.Lead.{Lead}
 use Rattle.pie_line.specs.declared.frame.Lead.TheVariants as leads
 use Rattle.air_model.specs.Channel.{lead_of}
 use Rattle.report_lines.specs.ReadLines.{TxFields}
-
--- a line of an operation, of the end of a round or of a count: nothing in it is judged
-abbrev pub IsUnjudged : List ℕ → Type 0
-IsUnjudged word = (word ≡ codes "op") ⊎ ((word ≡ codes "round") ⊎ (word ≡ codes "seen"))
-
--- a line of a tag, or the last one
-abbrev pub IsOfTags : List ℕ → Type 0
-IsOfTags word = (word ≡ codes "tag") ⊎ (word ≡ codes "done")
 
 -- 6.3.1.2.8: a frame of this kind begins so
 abbrev pub FrameBeginsWith : FrameKind → Lead → Type 0

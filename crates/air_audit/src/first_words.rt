@@ -1,5 +1,6 @@
 //! The words that lines begin with.
-ghost use Rattle.air_audit.specs.FirstWords.{IsFirstWord};
+ghost use Rattle.std.specs.Prelude.{◌≡◌, codes};
+ghost use Rattle.air_audit.specs.FirstWords.{first_word, word_of};
 ghost use Rattle.report_lines.specs.ReadLines.{first_field};
 
 use report_lines::first_field;
@@ -23,7 +24,9 @@ pub(crate) enum Word {
 
 /// What this word says.
 fn word_of(word: &[u8]) -> Word
-    ensures { IsFirstWord result word.now }
+    ensures is { result ≡ word_of word.now }
+    ensures tx { result ≡ Word.Tx → word.now ≡ codes "tx" }
+    ensures rx { result ≡ Word.Rx → word.now ≡ codes "rx" }
 {
     match word {
         b"tx" => Word::Tx,
@@ -37,7 +40,9 @@ fn word_of(word: &[u8]) -> Word
 
 /// What a line is by its first field.
 pub(crate) fn word_of_line(line: &[u8]) -> Word
-    ensures { IsFirstWord result (first_field line.now) }
+    ensures is { result ≡ first_word line.now }
+    ensures tx { result ≡ Word.Tx → first_field line.now ≡ codes "tx" }
+    ensures rx { result ≡ Word.Rx → first_field line.now ≡ codes "rx" }
 {
     word_of(first_field(line))
 }

@@ -3,7 +3,7 @@ use Rattle.std.proofs.lemmas.Slice.Eq.{slice_eq-Decides}
 use Rattle.std.specs.Cmp.{booleans_Decides}
 use Rattle.air_audit.specs.LineRefusals.{DiffersFirst}
 use Rattle.air_audit.specs.declared.verdict.AuditReason.{AuditReason}
-use Rattle.air_audit.proofs.ReadLines.{rx-faulty, rx-text}
+use Rattle.air_audit.proofs.ReadLines.{rx-faulty, rx-other-count, rx-other-levels, rx-other-number, rx-text}
 use Rattle.air_audit.proofs.rx_line.compare_rx_line.Goals as goal
 
 differs : (same : Bool) → not same ≡ true → same ≡ true → ⊥
@@ -21,22 +21,22 @@ returns-in-Err-clause-refused c =
 
 pub returns-then-not-spells-clause-refused : goal.returns-then-not-spells-clause-refused
 returns-then-not-spells-clause-refused c =
-    let rx = c.in-Ok.ensures.fields in (rx.0, λ same. c.if-not-spells.ensures.no refl (sym rx.1 ∙ same))
+    let rx = c.in-Ok.ensures.fields in
+    rx-other-number c.args.exchange c.args.count c.args.levels.now.items c.args.line.now rx.0 (λ same. c.if-not-spells.ensures.no refl (sym rx.1 ∙ same))
 
 pub returns-then-not-spells-2-clause-refused : goal.returns-then-not-spells-2-clause-refused
 returns-then-not-spells-2-clause-refused c =
-    let rx = c.in-Ok.ensures.fields in (rx.0, rx.1 ∙ c.if-not-spells.ensures.yes refl, λ same. c.if-not-spells-2.ensures.no refl (sym rx.2 ∙ same))
+    let rx = c.in-Ok.ensures.fields in
+    rx-other-count c.args.exchange c.args.count c.args.levels.now.items c.args.line.now rx.0 (rx.1 ∙ c.if-not-spells.ensures.yes refl)
+    (λ same. c.if-not-spells-2.ensures.no refl (sym rx.2 ∙ same))
 
 pub returns-then-ne-clause-refused : goal.returns-then-ne-clause-refused
 returns-then-ne-clause-refused c =
     let rx = c.in-Ok.ensures.fields in
-    let room : c.as_slice.result.now ≡ c.read_rx_line.new.levels.items = c.as_slice.ensures.value in (
-      rx.0,
-      rx.1 ∙ c.if-not-spells.ensures.yes refl,
-      rx.2 ∙ c.if-not-spells-2.ensures.yes refl,
-      λ same. differs _ (sym c.ne.ensures ∙ c.if-ne.true)
-          ((slice_eq-Decides booleans_Decides c.as_slice.result.now c.as_slice-2.result.now _ refl).1 (room ∙ sym rx.3 ∙ same ∙ sym c.as_slice-2.ensures.value)),
-    )
+    let room : c.as_slice.result.now ≡ c.read_rx_line.new.levels.items = c.as_slice.ensures.value in
+    rx-other-levels c.args.exchange c.args.count c.args.levels.now.items c.args.line.now rx.0 (rx.1 ∙ c.if-not-spells.ensures.yes refl) (rx.2 ∙ c.if-not-spells-2.ensures.yes refl)
+    (λ same. differs _ (sym c.ne.ensures ∙ c.if-ne.true)
+    ((slice_eq-Decides booleans_Decides c.as_slice.result.now c.as_slice-2.result.now _ refl).1 (room ∙ sym rx.3 ∙ same ∙ sym c.as_slice-2.ensures.value)))
 
 pub returns-clause-same : goal.returns-clause-same
 returns-clause-same c = λ ok.

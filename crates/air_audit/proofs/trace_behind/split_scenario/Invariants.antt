@@ -1,12 +1,9 @@
-use Rattle.std.proofs.Common.{◌≤◌, length}
+use Rattle.std.proofs.Common.{length}
 use Rattle.air_audit.proofs.Behind.{CutSoFar}
 use Rattle.air_audit.proofs.trace_behind.split_scenario.Given as goal
 
 abbrev pub invariant-loop-line : goal.invariant-loop-line
-invariant-loop-line l = record {
-  so_far : CutSoFar l.input l.rest;
-  shorter : length l.rest ≤ length l.input;
-}
+invariant-loop-line l = CutSoFar l.input l.rest
 
 abbrev pub decreases-loop-line : goal.decreases-loop-line
 decreases-loop-line l = length l.rest

@@ -33,15 +33,15 @@ returns-in-Err-Refused g c = λ start stands.
     subst (λ (stop : Stop). StopsAt stop start walked.standing c.in-Some.line.now) c.in-Err-Refused.field-0-is
     (c.in-Err-Refused.ensures.follows start walked.standing walked.stands) in
     rw c.in-Err-Refused.field-0-is
-    (refused-line start c.args.trace.now c.loop-line.number c.loop-line.auditor c.in-Err-Refused.reason
-    (record { rest = c.loop-line.rest.now; line = c.in-Some.line.now; behind = c.in-Some.behind.now; walked = walked; cut = c.in-Some.ensures.lines }) refused)
+    (refused-line start c.args.trace.now c.loop-line.rest.now c.loop-line.number c.loop-line.auditor walked
+    (record { line = c.in-Some.line.now; rest = c.in-Some.behind.now; cut = c.in-Some.ensures.lines }) c.in-Err-Refused.reason refused)
 
 pub loop-line-preserved : goal.loop-line-preserved
 loop-line-preserved g c = record {
   walked = λ start stands.
       let walked = c.loop-line.invariant.walked start stands in
-      walked-more start c.args.trace.now c.loop-line.number c.loop-line.auditor c.follow.new.self
-      (record { rest = c.loop-line.rest.now; line = c.in-Some.line.now; behind = c.in-Some.behind.now; walked = walked; cut = c.in-Some.ensures.lines }) (c.in-Ok.ensures.follows start walked.standing walked.stands);
+      walked-more start c.args.trace.now c.loop-line.rest.now c.loop-line.number c.loop-line.auditor walked
+      (record { line = c.in-Some.line.now; rest = c.in-Some.behind.now; cut = c.in-Some.ensures.lines }) c.follow.new.self (c.in-Ok.ensures.follows start walked.standing walked.stands);
   early = c.follow.ensures.early c.loop-line.number c.loop-line.invariant.early;
   count =
       let count = c.loop-line.invariant.count in
@@ -59,7 +59,7 @@ some-left (byte ∷ rest) is none = cc
 
 pub returns-then-is_empty : goal.returns-then-is_empty
 returns-then-is_empty g c = λ start stands.
-    audited start c.args.trace.now c.loop-line.rest.now c.loop-line.number c.loop-line.auditor (c.loop-line.invariant.walked start stands) c.in_default.ensures.whole
+    audited start c.args.trace.now c.loop-line.rest.now c.loop-line.number c.loop-line.auditor (c.loop-line.invariant.walked start stands)
     (c.if-has_ended.ensures.0 refl) (none-left c.loop-line.rest.now (sym c.if-is_empty.ensures))
 
 pub returns-else-has_ended : goal.returns-else-has_ended

@@ -1,10 +1,12 @@
 use Rattle.std.proofs.Common.{◌≡◌, ℕ, List, ◌++◌, refl, ap, ◌∙◌}
 use Rattle.std.specs.String.{string_bytes}
-use Rattle.pie_line.specs.Link.{blf_of}
+use Rattle.pie_line.specs.Link.{LinkValue, blf_of}
+use Rattle.report_lines.specs.ReadLines.{text_of}
 use Rattle.report_lines.specs.ReportLine.{BlfLine, report_line_text}
 use Rattle.air_audit.specs.Auditing.{AuditorValue}
+use Rattle.air_audit.specs.Standing.{link_line}
 use Rattle.air_audit.specs.declared.auditor.Position.TheVariants as positions
-use Rattle.air_audit.proofs.Following.{begins, begins-not, blf_text, other-text, same-text}
+use Rattle.air_audit.proofs.Following.{begins, begins-not, other-text, same-text}
 use Rattle.air_audit.proofs.auditor.Auditor.begin.Goals as goal
 
 pub returns-then-not-is_text-clause-follows : goal.returns-then-not-is_text-clause-follows
@@ -25,5 +27,5 @@ returns-clause-follows g c = λ start keeps.
     let value = c.as_str.ensures.value in
     begins start c.args.line.now c.args.self.now _ keeps
     (same-text c.args.line.now c.as_str.result.now (BlfLine (blf_of c.link.result.now).0 (blf_of c.link.result.now).1) (value ∙ written) (c.if-not-is_text.ensures.yes refl)
-    ∙ ap blf_text link)
+    ∙ ap (λ (l : LinkValue). text_of (link_line l)) link)
     (record { moves = ap (λ (a : AuditorValue). record a { position = positions.Between; text = string_bytes c.push_blf_line.new.text }) c.self.view_is }) refl

@@ -1,8 +1,12 @@
-use Rattle.std.proofs.Common.{◌≡◌, ◌<◌, ◌^◌, List, Bool, ap, subst, ◌∙◌, arith}
+use Rattle.std.proofs.Common.{◌≡◌, ◌<◌, ◌^◌, List, [], ◌∷◌, Bool, ap, refl, subst, sym, ◌∙◌, arith}
+use Rattle.std.specs.String.{string_bytes}
+use Rattle.air_model.specs.Past.{exchanged}
 use Rattle.runs.proofs.Answering.{TagLaws}
-use Rattle.air_audit.specs.Auditing.{AuditorValue}
+use Rattle.air_audit.specs.Auditing.{AuditorValue, IsHearing}
+use Rattle.air_audit.specs.FirstWords.{word_of}
 use Rattle.air_audit.specs.LineRefusals.{DiffersFirst}
-use Rattle.air_audit.proofs.Following.{levels-few, rx-not}
+use Rattle.air_audit.specs.declared.auditor.Position.TheVariants as positions
+use Rattle.air_audit.proofs.Following.{heard-on, keeps-moved, levels-few, list-written, rx-alike, rx-not}
 use Rattle.air_audit.proofs.auditor.Auditor.hear_levels.Goals as goal
 
 pub returns-in-Err-clause-follows : goal.returns-in-Err-clause-follows
@@ -22,6 +26,36 @@ returns-in-Err-clause-follows g c = λ start past sent is.
     rx-not start past sent c.args.line.now auditor c.in-Err.reason is
     (record {
       readable = record { exchange_small = omega arith; count_small = omega arith; few = levels-few laws start past sent auditor is };
-      word = c.requires.word;
+      word = ap word_of c.requires.word;
       first = first;
+    })
+
+pub returns-in_default-listed-clause-follows : goal.returns-in_default-listed-clause-follows
+returns-in_default-listed-clause-follows g c = λ start past sent is.
+    let same = c.self-2.view_is ∙ c.listed.ensures.same ∙ c.self.view_is in
+    heard-on start past sent c.args.line.now c.args.self.now _ [] is c.requires.word
+    (c.in_default.ensures.same refl
+    ∙ rx-alike _ _ _ _ _ _ (ap (λ (a : AuditorValue). a.exchanges) c.self.view_is) (c.len.ensures.count ∙ ap (λ (a : AuditorValue). a.answers.count) c.self.view_is)
+    (c.levels.ensures.value ∙ ap (λ (a : AuditorValue). a.answers.levels) c.self.view_is))
+    (c.in_default-listed.ensures.lists start past sent (subst (λ (a : AuditorValue). IsHearing start past sent a) (sym c.self.view_is) is))
+    (record {
+      position_is = refl;
+      keeps = keeps-moved start (exchanged sent ∷ past) c.args.self.now _
+          (record { moves = ap (λ (a : AuditorValue). record a { position = positions.Between; text = string_bytes c.self-2.inside.text }) same }) is.keeps;
+    })
+
+pub returns-clause-follows : goal.returns-clause-follows
+returns-clause-follows g c = λ start past sent is.
+    let same = c.self-2.view_is ∙ c.listed.ensures.same ∙ c.self.view_is in
+    heard-on start past sent c.args.line.now c.args.self.now _ _ is c.requires.word
+    (c.in_default.ensures.same refl
+    ∙ rx-alike _ _ _ _ _ _ (ap (λ (a : AuditorValue). a.exchanges) c.self.view_is) (c.len.ensures.count ∙ ap (λ (a : AuditorValue). a.answers.count) c.self.view_is)
+    (c.levels.ensures.value ∙ ap (λ (a : AuditorValue). a.answers.levels) c.self.view_is))
+    (c.in-Some.ensures.lists start past sent (subst (λ (a : AuditorValue). IsHearing start past sent a) (sym c.self.view_is) is))
+    (record {
+      position_is = refl;
+      keeps = keeps-moved start (exchanged sent ∷ past) c.args.self.now _
+          (record { moves = ap (λ (a : AuditorValue). record a { position = positions.Listing; text = string_bytes c.push_list_line.new.text }) same }) is.keeps;
+      text = list-written start past sent c.args.self.now _ _ _ _ _ _ is c.in_ok-push_list_line.ensures c.clear.ensures.bytes (ap (λ (a : AuditorValue). a.round) same)
+          (ap (λ (a : AuditorValue). a.slot) same);
     })

@@ -3,7 +3,7 @@ use Rattle.std.proofs.lemmas.Result.{IfErr-weaker}
 use Rattle.air_audit.specs.LineRefusals.{IsNoTxLine}
 use Rattle.air_audit.specs.Sent.{IsNoFrame}
 use Rattle.air_audit.specs.declared.verdict.AuditReason.{AuditReason}
-use Rattle.air_audit.proofs.ReadLines.{tx-faulty}
+use Rattle.air_audit.proofs.ReadLines.{tx-faulty, tx-other}
 use Rattle.air_audit.proofs.SentFrames.{line-refused, line-sends}
 use Rattle.air_audit.proofs.sent_frame.SentFrame.read.Goals as goal
 
@@ -14,7 +14,8 @@ returns-in-Err-clause-refused c =
 
 pub returns-then-not-spells-clause-refused : goal.returns-then-not-spells-clause-refused
 returns-then-not-spells-clause-refused c =
-    let tx = c.in-Ok.ensures.fields in (tx.0, λ same. c.if-not-spells.ensures.no refl (sym tx.1 ∙ same))
+    let tx = c.in-Ok.ensures.fields in
+    tx-other c.args.exchange c.args.line.now tx.0 (λ same. c.if-not-spells.ensures.no refl (sym tx.1 ∙ same))
 
 pub returns-clause-reads : goal.returns-clause-reads
 returns-clause-reads c = λ ok.
