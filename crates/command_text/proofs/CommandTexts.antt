@@ -6,7 +6,7 @@ use Rattle.text_fields.proofs.NamedFieldLaws.{IsVocabulary, one_fault, same_behi
 use Rattle.text_fields.specs.declared.fields_fault.FieldsFault.{FieldsFault}
 use Rattle.command_grammar.specs.Commands.{IsLegalCommand}
 use Rattle.command_grammar.specs.declared.commands.Command.{Command}
-use Rattle.command_grammar.specs.declared.commands.Command.TheVariants.{QueryRep, Ack, Query, QueryAdjust, Select, Nak, ReqRn, Read, Write, Kill, Lock, Access, BlockWrite, BlockErase}
+use Rattle.command_grammar.specs.declared.commands.Command.TheVariants.{QueryRep}
 use Rattle.command_text.specs.CommandText.{IsCommandText, IsFaultyCommand, command_field_count, command_fields, command_kind, command_line, command_name, commands, other_command_fields}
 use Rattle.command_text.proofs.FieldTexts.{command_texts, other_texts}
 use Rattle.command_text.proofs.ToldApart.{command_name_told, others_told}
@@ -14,19 +14,7 @@ use Rattle.command_text.proofs.ToldApart.{command_name_told, others_told}
 -- a command has as many fields as its name says
 counted : (command : Command) → command_field_count (command_kind command) ≡ length (other_command_fields command)
 counted (QueryRep session) = refl
-counted (Ack rn) = refl
-counted (Query dr code trext sel session target q) = refl
-counted (QueryAdjust session updn) = refl
-counted (Select target action bank pointer mask) = refl
-counted Nak = refl
-counted (ReqRn rn) = refl
-counted (Read bank pointer count rn) = refl
-counted (Write bank pointer covered rn) = refl
-counted (Kill covered rn) = refl
-counted (Lock payload rn) = refl
-counted (Access covered rn) = refl
-counted (BlockWrite bank pointer words rn) = refl
-counted (BlockErase bank pointer count rn) = refl
+counted command = refl
 
 filled : (command : Command) → IsLegalCommand command → AreFilled (command_field_count (command_kind command)) (other_command_fields command)
 filled command is = texts_filled (other_command_fields command) (command_field_count (command_kind command)) (other_texts command is).are (counted command)

@@ -36,27 +36,19 @@ bit_is true = IsFieldText-one 49 (omega arith)
 
 pub code_is : (code : Code) → IsFieldText (code_word code)
 code_is line_codes.Fm0 = search (arith, before, IsFieldText-one) depth 12
-code_is line_codes.M2 = search (arith, before, IsFieldText-one) depth 12
-code_is line_codes.M4 = search (arith, before, IsFieldText-one) depth 12
-code_is line_codes.M8 = search (arith, before, IsFieldText-one) depth 12
+code_is code = search (arith, before, IsFieldText-one) depth 12
 
 pub flag_is : (flag : FlagName) → IsFieldText (flag_word flag)
 flag_is flags.S0 = search (arith, before, IsFieldText-one) depth 12
-flag_is flags.S1 = search (arith, before, IsFieldText-one) depth 12
-flag_is flags.S2 = search (arith, before, IsFieldText-one) depth 12
-flag_is flags.S3 = search (arith, before, IsFieldText-one) depth 12
-flag_is flags.Sl = search (arith, before, IsFieldText-one) depth 12
+flag_is flag = search (arith, before, IsFieldText-one) depth 12
 
 pub mask_bank_is : (bank : MaskBank) → IsFieldText (mask_bank_word bank)
 mask_bank_is mask_banks.Epc = search (arith, before, IsFieldText-one) depth 12
-mask_bank_is mask_banks.Tid = search (arith, before, IsFieldText-one) depth 12
-mask_bank_is mask_banks.User = search (arith, before, IsFieldText-one) depth 12
+mask_bank_is bank = search (arith, before, IsFieldText-one) depth 12
 
 pub bank_is : (bank : Bank) → IsFieldText (bank_word bank)
 bank_is banks.Reserved = search (arith, before, IsFieldText-one) depth 12
-bank_is banks.Epc = search (arith, before, IsFieldText-one) depth 12
-bank_is banks.Tid = search (arith, before, IsFieldText-one) depth 12
-bank_is banks.User = search (arith, before, IsFieldText-one) depth 12
+bank_is bank = search (arith, before, IsFieldText-one) depth 12
 
 pub side_is : (side : Side) → IsFieldText (side_word side)
 side_is sides.A = IsFieldText-one 97 (omega arith)
@@ -64,14 +56,11 @@ side_is sides.B = IsFieldText-one 98 (omega arith)
 
 pub sel_is : (sel : Sel) → IsFieldText (sel_word sel)
 sel_is sels.All00 = search (arith, before, IsFieldText-one) depth 12
-sel_is sels.All01 = search (arith, before, IsFieldText-one) depth 12
-sel_is sels.NotSl = search (arith, before, IsFieldText-one) depth 12
-sel_is sels.Sl = search (arith, before, IsFieldText-one) depth 12
+sel_is sel = search (arith, before, IsFieldText-one) depth 12
 
 pub updn_is : (updn : UpDn) → IsFieldText (updn_word updn)
 updn_is updns.Up = search (arith, before, IsFieldText-one) depth 12
-updn_is updns.Same = search (arith, before, IsFieldText-one) depth 12
-updn_is updns.Down = search (arith, before, IsFieldText-one) depth 12
+updn_is updn = search (arith, before, IsFieldText-one) depth 12
 
 hex_visible : (n : ℕ) → space < hex_digit n
 hex_visible n = elim (cases_lt n 10) [
@@ -85,19 +74,13 @@ payload_is payload =
 
 pub command_name_is : (kind : CommandKind) → IsFieldText (command_name kind)
 command_name_is kinds.QueryRep = search (arith, before, IsFieldText-one) depth 24
-command_name_is kinds.Ack = search (arith, before, IsFieldText-one) depth 12
-command_name_is kinds.Query = search (arith, before, IsFieldText-one) depth 12
 command_name_is kinds.QueryAdjust = search (arith, before, IsFieldText-one) depth 32
 command_name_is kinds.Select = search (arith, before, IsFieldText-one) depth 16
-command_name_is kinds.Nak = search (arith, before, IsFieldText-one) depth 12
 command_name_is kinds.ReqRn = search (arith, before, IsFieldText-one) depth 16
-command_name_is kinds.Read = search (arith, before, IsFieldText-one) depth 12
-command_name_is kinds.Write = search (arith, before, IsFieldText-one) depth 12
-command_name_is kinds.Kill = search (arith, before, IsFieldText-one) depth 12
-command_name_is kinds.Lock = search (arith, before, IsFieldText-one) depth 12
 command_name_is kinds.Access = search (arith, before, IsFieldText-one) depth 16
 command_name_is kinds.BlockWrite = search (arith, before, IsFieldText-one) depth 24
 command_name_is kinds.BlockErase = search (arith, before, IsFieldText-one) depth 24
+command_name_is kind = search (arith, before, IsFieldText-one) depth 12
 
 -- each of the fields may stand as a field
 pub record Texts (fields : List (List ℕ)) : Type 0 where

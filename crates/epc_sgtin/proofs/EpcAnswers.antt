@@ -1,5 +1,5 @@
 -- Words are those of one SGTIN, or have one first fault.
-use Rattle.std.proofs.Common.{◌≡◌, ◌⊎◌, ℕ, ◌+◌, ◌-◌, ◌*◌, ◌/◌, ◌%◌, ◌^◌, ◌<◌, List, [], ◌∷◌, length, Result, Ok, Err, refl, sym, ◌∙◌, ap, arith, inl, inr, length-append}
+use Rattle.std.proofs.Common.{rules, ◌≡◌, ◌⊎◌, ℕ, ◌+◌, ◌-◌, ◌*◌, ◌/◌, ◌%◌, ◌^◌, ◌<◌, List, [], ◌∷◌, length, Result, Ok, Err, refl, sym, ◌∙◌, ap, arith, inl, inr, length-append}
 use Rattle.std.specs.Prelude.{All}
 use Rattle.std.proofs.lemmas.Bool.{cases_eq, cases_lt}
 use Rattle.std.proofs.lemmas.List.Elements.{All-head, All-tail}
@@ -81,26 +81,7 @@ one_fault Header Header words l r = refl
 one_fault Partition Partition words l r = refl
 one_fault Company Company words l r = refl
 one_fault Item Item words l r = refl
-one_fault Length Header words l r = absurd (l r.0)
-one_fault Length Partition words l r = absurd (l r.0.0)
-one_fault Length Company words l r = absurd (l r.0.0.0)
-one_fault Length Item words l r = absurd (l r.0.0.0)
-one_fault Header Length words l r = absurd (r l.0)
-one_fault Header Partition words l r = absurd (l.1 r.0.1)
-one_fault Header Company words l r = absurd (l.1 r.0.0.1)
-one_fault Header Item words l r = absurd (l.1 r.0.0.1)
-one_fault Partition Length words l r = absurd (r l.0.0)
-one_fault Partition Header words l r = absurd (r.1 l.0.1)
-one_fault Partition Company words l r = absurd (r.0.1 l.1)
-one_fault Partition Item words l r = absurd (r.0.1 l.1)
-one_fault Company Length words l r = absurd (r l.0.0.0)
-one_fault Company Header words l r = absurd (r.1 l.0.0.1)
-one_fault Company Partition words l r = absurd (l.0.1 r.1)
-one_fault Company Item words l r = absurd (l.1 r.1)
-one_fault Item Length words l r = absurd (r l.0.0.0)
-one_fault Item Header words l r = absurd (r.1 l.0.0.1)
-one_fault Item Partition words l r = absurd (l.0.1 r.1)
-one_fault Item Company words l r = absurd (r.1 l.1)
+one_fault one other words l r = absurd (search rules)
 
 -- words with these halves have an answer
 abbrev HasAnswer : List ℕ → Type 0
@@ -144,13 +125,6 @@ halved_answer words front back are =
     ]
 
 pub some_answer : (words : List ℕ) → All (λ word. word < 2 ^ 16) words → ((sgtin : SgtinValue) × IsSgtin sgtin words) ⊎ ((fault : EpcFault) × RefusesEpc fault words)
-some_answer [] all = inr (Length, λ six. omega arith)
-some_answer (a ∷ []) all = inr (Length, λ six. omega arith)
-some_answer (a ∷ b ∷ []) all = inr (Length, λ six. omega arith)
-some_answer (a ∷ b ∷ c ∷ []) all = inr (Length, λ six. omega arith)
-some_answer (a ∷ b ∷ c ∷ d ∷ []) all = inr (Length, λ six. omega arith)
-some_answer (a ∷ b ∷ c ∷ d ∷ e ∷ []) all = inr (Length, λ six. omega arith)
-some_answer (a ∷ b ∷ c ∷ d ∷ e ∷ f ∷ g ∷ more) all = inr (Length, λ six. omega arith)
 some_answer (a ∷ b ∷ c ∷ d ∷ e ∷ f ∷ []) all =
     let P : ℕ → Type 0 = λ word. word < 2 ^ 16 in
     let t1 = All-tail P a (b ∷ c ∷ d ∷ e ∷ f ∷ []) all in
@@ -170,6 +144,7 @@ some_answer (a ∷ b ∷ c ∷ d ∷ e ∷ f ∷ []) all =
     let second = three_words (d * 2 ^ 32 + e * 2 ^ 16 + f) d e f (omega arith) (omega arith) (omega arith) in
     halved_answer (a ∷ b ∷ c ∷ d ∷ e ∷ f ∷ []) front back
     (six_words (a ∷ b ∷ c ∷ []) (d ∷ e ∷ f ∷ []) front back (three_words_half a b c front pa pb pc (sym first)) (three_words_half d e f back pd pe pf (sym second)) (omega arith) (omega arith))
+some_answer words all = inr (Length, λ six. omega arith)
 
 pub one_answer : (words : List ℕ) (one other : Result SgtinValue EpcFault) → IsSgtinAnswer one words → IsSgtinAnswer other words → one ≡ other
 one_answer words (Ok one) (Ok other) l r = ap (λ (sgtin : SgtinValue). Ok sgtin) (one_sgtin one other words l r)

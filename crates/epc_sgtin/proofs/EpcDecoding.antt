@@ -16,15 +16,9 @@ use Rattle.epc_sgtin.proofs.EpcWords.{item_bits_of, both_of, company_of, item_of
 pub read_words : (words : List ℕ) (front back : ℕ) → length words ≡ 6 → ((i : ℕ) → get_or words i 0 < 2 ^ 16) → front < 2 ^ 48 → back < 2 ^ 48
     → field_of front 48 ≡ bits_of_words (get_or words 0 0 ∷ get_or words 1 0 ∷ get_or words 2 0 ∷ [])
     → field_of back 48 ≡ bits_of_words (get_or words 3 0 ∷ get_or words 4 0 ∷ get_or words 5 0 ∷ []) → AreHalved words front back
-read_words [] front back six fit p q first second = absurd (omega arith)
-read_words (a ∷ []) front back six fit p q first second = absurd (omega arith)
-read_words (a ∷ b ∷ []) front back six fit p q first second = absurd (omega arith)
-read_words (a ∷ b ∷ c ∷ []) front back six fit p q first second = absurd (omega arith)
-read_words (a ∷ b ∷ c ∷ d ∷ []) front back six fit p q first second = absurd (omega arith)
-read_words (a ∷ b ∷ c ∷ d ∷ e ∷ []) front back six fit p q first second = absurd (omega arith)
-read_words (a ∷ b ∷ c ∷ d ∷ e ∷ f ∷ g ∷ more) front back six fit p q first second = absurd (omega arith)
 read_words (a ∷ b ∷ c ∷ d ∷ e ∷ f ∷ []) front back six fit p q first second =
     six_words (a ∷ b ∷ c ∷ []) (d ∷ e ∷ f ∷ []) front back (three_words_half a b c front (fit 0) (fit 1) (fit 2) (sym first)) (three_words_half d e f back (fit 3) (fit 4) (fit 5) (sym second)) p q
+read_words words front back six fit p q first second = absurd (omega arith)
 
 -- the numbers that are computed
 abbrev pub partition_read : ℕ → ℕ

@@ -1,5 +1,5 @@
 -- A text is the URI of one SGTIN, or has one first fault.
-use Rattle.std.proofs.Common.{◌≡◌, ◌≢◌, ◌⊎◌, ℕ, ◌+◌, ◌-◌, ◌^◌, ◌<◌, Bool, true, false, List, [], ◌∷◌, ◌++◌, length, drop, get_or, Result, Ok, Err, refl, sym, ◌∙◌, ap, subst, arith, inl, inr, lit<, nat_lt}
+use Rattle.std.proofs.Common.{rules, ◌≡◌, ◌≢◌, ◌⊎◌, ℕ, ◌+◌, ◌-◌, ◌^◌, ◌<◌, Bool, true, false, List, [], ◌∷◌, ◌++◌, length, drop, get_or, Result, Ok, Err, refl, sym, ◌∙◌, ap, subst, arith, inl, inr, lit<, nat_lt}
 use Rattle.std.specs.Fmt.{decimal}
 use Rattle.std.specs.List.{join_with_byte, list_all}
 use Rattle.std.specs.Str.Parse.{digits_value}
@@ -171,52 +171,15 @@ item_there text one other is =
     let same = same_pieces text one other in
     subst (λ (l : List ℕ). IsItemPart l other.item) same.1 (subst (λ (l : List ℕ). IsItemPart one.company l) same.2 is)
 
--- the order in which faults apply
-abbrev rank : UriFault → ℕ
-rank Prefix = 0
-rank Parts = 1
-rank Filter = 2
-rank Company = 3
-rank Item = 4
-rank Serial = 5
-
-rank_told : (one other : UriFault) → rank one ≡ rank other → one ≡ other
-rank_told Prefix Prefix same = refl
-rank_told Parts Parts same = refl
-rank_told Filter Filter same = refl
-rank_told Company Company same = refl
-rank_told Item Item same = refl
-rank_told Serial Serial same = refl
-rank_told one other same = absurd (omega (arith, same))
-
 -- of two faults the first that applies excludes the other
-first_excludes : (first later : UriFault) (text : List ℕ) → rank first < rank later → RefusesUri first text → RefusesUri later text → ⊥
-first_excludes Prefix Parts text lt l r = l r.0 r.1
-first_excludes Prefix Filter text lt l r = no_parts text l r.0
-first_excludes Prefix Company text lt l r = no_parts text l r.0
-first_excludes Prefix Item text lt l r = no_parts text l r.0
-first_excludes Prefix Serial text lt l r = no_parts text l r.0
-first_excludes Parts Filter text lt l r = not_four text l r.0
-first_excludes Parts Company text lt l r = not_four text l r.0
-first_excludes Parts Item text lt l r = not_four text l r.0
-first_excludes Parts Serial text lt l r = not_four text l r.0
-first_excludes Filter Company text lt l r = l.1 (filter_there text r.0 l.0 r.1)
-first_excludes Filter Item text lt l r = l.1 (filter_there text r.0 l.0 r.1)
-first_excludes Filter Serial text lt l r = l.1 (filter_there text r.0 l.0 r.1)
-first_excludes Company Item text lt l r = l.2 (company_there text r.0 l.0 r.2)
-first_excludes Company Serial text lt l r = l.2 (company_there text r.0 l.0 r.2)
-first_excludes Item Serial text lt l r = l.3 (item_there text r.0 l.0 r.3)
-first_excludes Serial Prefix text lt l r = absurd (omega (arith, lt))
-first_excludes first later text lt l r = absurd (omega (arith, lt))
-
 pub one_fault : (one other : UriFault) (text : List ℕ) → RefusesUri one text → RefusesUri other text → one ≡ other
-one_fault one other text l r = elim (cases_lt (rank one) (rank other)) [
-  | inl before ↦ absurd (first_excludes one other text before l r)
-  | inr upto ↦ elim (cases_lt (rank other) (rank one)) [
-    | inl behind ↦ absurd (first_excludes other one text behind r l)
-    | inr least ↦ rank_told one other (omega (arith, upto, least))
-  ]
-]
+one_fault Prefix Prefix text l r = refl
+one_fault Parts Parts text l r = refl
+one_fault Filter Filter text l r = refl
+one_fault Company Company text l r = refl
+one_fault Item Item text l r = refl
+one_fault Serial Serial text l r = refl
+one_fault one other text l r = absurd (search (rules, no_parts text, not_four text, filter_there text, company_there text, item_there text))
 
 -- whether a text begins with a front
 cut_front : (front text : List ℕ) → ((rest : List ℕ) × (text ≡ front ++ rest)) ⊎ ((rest : List ℕ) → text ≢ front ++ rest)
@@ -329,13 +292,9 @@ parts_answer text parts = elim (filter_answer parts.filter) [
 
 -- so has one whose rest is cut into pieces
 pieces_answer : (text rest : List ℕ) (pieces : List (List ℕ)) → text ≡ prefix ++ rest → pieces_between dot rest ≡ pieces → HasAnswer text
-pieces_answer text rest [] cut are = inr (Parts, (rest, cut, λ four. omega (arith, ap length are)))
-pieces_answer text rest (a ∷ []) cut are = inr (Parts, (rest, cut, λ four. omega (arith, ap length are)))
-pieces_answer text rest (a ∷ b ∷ []) cut are = inr (Parts, (rest, cut, λ four. omega (arith, ap length are)))
-pieces_answer text rest (a ∷ b ∷ c ∷ []) cut are = inr (Parts, (rest, cut, λ four. omega (arith, ap length are)))
-pieces_answer text rest (a ∷ b ∷ c ∷ d ∷ e ∷ more) cut are = inr (Parts, (rest, cut, λ four. omega (arith, ap length are)))
 pieces_answer text rest (a ∷ b ∷ c ∷ d ∷ []) cut are =
     parts_answer text (record { filter = a; company = b; item = c; serial = d; rest = rest; begins = cut; joined = are })
+pieces_answer text rest pieces cut are = inr (Parts, (rest, cut, λ four. omega (arith, ap length are)))
 
 pub some_answer : (text : List ℕ) → ((sgtin : SgtinValue) × IsUriOf sgtin text) ⊎ ((fault : UriFault) × RefusesUri fault text)
 some_answer text = elim (cut_front prefix text) [

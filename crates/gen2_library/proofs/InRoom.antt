@@ -77,12 +77,7 @@ overflows T a leaves many front =
 -- a failed write, or another status
 fault-or-other : (status : Status) → (status ≡ WriteFault) ⊎ (status ≢ WriteFault)
 fault-or-other WriteFault = inl refl
-fault-or-other Done = inr (λ is. cc)
-fault-or-other BadWords = inr (λ is. cc)
-fault-or-other BadInput = inr (λ is. cc)
-fault-or-other ReadFault = inr (λ is. cc)
-fault-or-other TooLong = inr (λ is. cc)
-fault-or-other OutOfMemory = inr (λ is. cc)
+fault-or-other status = inr (λ is. cc)
 
 -- each status but 5 comes where there is room for all bytes, and 5 where there is not
 within : (a : Call) → Leaves a → a.result ≢ WriteFault → length a.written ≤ length a.old
@@ -211,12 +206,7 @@ status_of n = if n == 0 then Done else if n == 2 then BadWords else if n == 3 th
 
 status_of-number : (status : Status) → status_of (status_number status) ≡ status
 status_of-number Done = refl
-status_of-number BadWords = refl
-status_of-number BadInput = refl
-status_of-number ReadFault = refl
-status_of-number WriteFault = refl
-status_of-number TooLong = refl
-status_of-number OutOfMemory = refl
+status_of-number status = refl
 
 -- no two statuses have one number
 pub status-is : (status other : Status) → status_number status ≡ status_number other → status ≡ other
@@ -224,18 +214,8 @@ status-is status other same = sym (status_of-number status) ∙ ap status_of sam
 
 pub number-below : (status : Status) → status_number status ≤ 7
 number-below Done = omega (arith)
-number-below BadWords = omega (arith)
-number-below BadInput = omega (arith)
-number-below ReadFault = omega (arith)
-number-below WriteFault = omega (arith)
-number-below TooLong = omega (arith)
-number-below OutOfMemory = omega (arith)
+number-below status = omega (arith)
 
 pub number-not-1 : (status : Status) → status_number status ≢ 1
 number-not-1 Done is = omega (arith, is)
-number-not-1 BadWords is = omega (arith, is)
-number-not-1 BadInput is = omega (arith, is)
-number-not-1 ReadFault is = omega (arith, is)
-number-not-1 WriteFault is = omega (arith, is)
-number-not-1 TooLong is = omega (arith, is)
-number-not-1 OutOfMemory is = omega (arith, is)
+number-not-1 status is = omega (arith, is)

@@ -1,5 +1,5 @@
 -- The words of each form are UTF-8.
-use Rattle.std.proofs.Common.{◌≡◌, ◌^◌, ◌<◌, ◌≤◌, ℕ, List, [], ◌∷◌, All, Contains, codes, true, nat_lt, refl, subst, arith, IsUtf8, decimal}
+use Rattle.std.proofs.Common.{◌≡◌, ◌^◌, ◌<◌, ℕ, List, [], ◌∷◌, All, Contains, codes, true, nat_lt, refl, subst, arith, IsUtf8, decimal}
 use Rattle.std.specs.List.{list_all}
 use Rattle.std.proofs.lemmas.Bool.Decides.{nat_tests}
 use Rattle.std.proofs.lemmas.Fmt.{IsAscii-decimal}

@@ -1,6 +1,6 @@
 -- The first two lines of a log.
 use Rattle.std.proofs.Common.{◌≡◌, ◌≢◌, ℕ, List, [], ◌∷◌, refl, subst, sym}
-use Rattle.checked_lines.specs.laws.ReadingOn.{HasReadTo, NextLine, fault_read, none_read, one_read, unended_read}
+use Rattle.checked_lines.specs.laws.ReadingOn.{HasReadTo, fault_read, none_read, one_read, unended_read}
 use Rattle.probe_lines.specs.ProbeLine.{SpellsTag}
 use Rattle.scenario_lines.specs.declared.tag.TagSpec.{TagSpec}
 use Rattle.text_fields.specs.Lines.{fields_of, lines_of}

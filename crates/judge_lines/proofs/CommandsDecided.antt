@@ -1,6 +1,7 @@
 -- Fields spell a command, or there is a reason for which they spell none.
-use Rattle.std.proofs.Common.{◌≡◌, ◌≢◌, ◌<◌, ◌≤◌, ◌^◌, ℕ, List, [], ◌∷◌, length, refl, inl, inr, arith}
+use Rattle.std.proofs.Common.{◌<◌, ◌≤◌, ◌^◌, ℕ, List, [], ◌∷◌, length, refl, arith}
 use Rattle.std.specs.Fmt.{decimal}
+use Rattle.command_fields.specs.declared.choices.Bank.{Bank}
 use Rattle.command_fields.specs.declared.choices.Sel.{Sel}
 use Rattle.command_fields.specs.declared.choices.Sel.TheVariants as sels
 use Rattle.command_fields.specs.declared.choices.UpDn.{UpDn}
@@ -14,105 +15,52 @@ use Rattle.command_text.specs.CommandText.{IsCommandBehind, bank_word, command_n
 use Rattle.command_text.proofs.CommandTexts.{commands_are}
 use Rattle.command_text.proofs.ToldApart.{block_of_list, list_of_block}
 use Rattle.scenario_lines.specs.Spelling.{flag_text}
-use Rattle.scenario_lines.proofs.Decisions.{Any, Decided, Spelled, behind_decided as then, nothing_decided as end, same_answer}
-use Rattle.scenario_lines.proofs.FieldsDecided.{IsWithin, any_bank_decided, bank_decided, bit_decided, bits_decided, code_decided, decimal_decided as number, flag_decided, payload_decided, side_decided, tried, word_decided, words_decided}
+use Rattle.scenario_lines.proofs.Decisions.{Any, Decided, EachDecided, Spelled, behind_decided as then, nothing_decided as end, same_answer}
+use Rattle.scenario_lines.proofs.FieldsDecided.{IsWithin, any_bank_decided, bank_decided, bit_decided, bits_decided, code_decided, decimal_decided as number, flag_decided, payload_decided, side_decided, word_decided, words_decided}
 use Rattle.text_fields.specs.Binary.{binary}
 use Rattle.text_fields.specs.CodeNames.{code_word}
 use Rattle.text_fields.specs.Hexadecimal.{hex_word, hex_words}
 use Rattle.text_fields.specs.WordLists.{IsWordList}
-use Rattle.judge_lines.proofs.VocabularyDecided.{AreDecided}
+use Rattle.judge_lines.proofs.VocabularyDecided.{Among, AreDecided, here, one_of, there}
 
 -- no more fields
-abbrev nothing : Unit {0} → List (List ℕ)
+abbrev pub nothing : Unit {0} → List (List ℕ)
 nothing none = []
 
 -- one field, and those behind it
-abbrev with : {V W : Type 0} → (V → List ℕ) → (W → List (List ℕ)) → V × W → List (List ℕ)
+abbrev pub with : {V W : Type 0} → (V → List ℕ) → (W → List (List ℕ)) → V × W → List (List ℕ)
 with one others value = one value.0 ∷ others value.1
 
-abbrev Both : {V W : Type 0} → (V → Type 0) → (W → Type 0) → V × W → Type 0
+abbrev pub Both : {V W : Type 0} → (V → Type 0) → (W → Type 0) → V × W → Type 0
 Both May Might value = May value.0 × Might value.1
 
-no_sel : (field : List ℕ) → field ≢ sel_word sels.All00 → field ≢ sel_word sels.All01 → field ≢ sel_word sels.NotSl → field ≢ sel_word sels.Sl
-    → (sel : Sel) → field ≡ sel_word sel → ⊥
-no_sel field all all' nsl sl sels.All00 is = all is
-no_sel field all all' nsl sl sels.All01 is = all' is
-no_sel field all all' nsl sl sels.NotSl is = nsl is
-no_sel field all all' nsl sl sels.Sl is = sl is
+a_sel : (sel : Sel) → Among sel (sels.All00 ∷ sels.All01 ∷ sels.NotSl ∷ sels.Sl ∷ [])
+a_sel sels.All00 = here
+a_sel sel = search (here, there)
 
-sel_decided : (field : List ℕ) → Decided (Spelled sel_word Any field)
-sel_decided field =
-    tried sels.All00 tt (λ all. tried sels.All01 tt (λ all'. tried sels.NotSl tt (λ nsl. tried sels.Sl tt (λ sl.
-    inr (λ found. no_sel field all all' nsl sl found.0 found.2)))))
-
-no_updn : (field : List ℕ) → field ≢ updn_word Up → field ≢ updn_word Same → field ≢ updn_word Down → (updn : UpDn) → field ≡ updn_word updn → ⊥
-no_updn field up same down Up is = up is
-no_updn field up same down Same is = same is
-no_updn field up same down Down is = down is
-
-updn_decided : (field : List ℕ) → Decided (Spelled updn_word Any field)
-updn_decided field = tried Up tt (λ up. tried Same tt (λ same. tried Down tt (λ down. inr (λ found. no_updn field up same down found.0 found.2))))
+an_updn : (updn : UpDn) → Among updn (Up ∷ Same ∷ Down ∷ [])
+an_updn Up = here
+an_updn updn = search (here, there)
 
 -- the name of a command
-record IsNoName (field : List ℕ) : Type 0 where
-  rep : field ≢ command_name kinds.QueryRep
-  ack : field ≢ command_name kinds.Ack
-  query : field ≢ command_name kinds.Query
-  adjust : field ≢ command_name kinds.QueryAdjust
-  select : field ≢ command_name kinds.Select
-  nak : field ≢ command_name kinds.Nak
-  req : field ≢ command_name kinds.ReqRn
-  reads : field ≢ command_name kinds.Read
-  writes : field ≢ command_name kinds.Write
-  kills : field ≢ command_name kinds.Kill
-  locks : field ≢ command_name kinds.Lock
-  shows : field ≢ command_name kinds.Access
-  blocks : field ≢ command_name kinds.BlockWrite
-  erases : field ≢ command_name kinds.BlockErase
-
-no_name : (field : List ℕ) → IsNoName field → (kind : CommandKind) → field ≡ command_name kind → ⊥
-no_name field none kinds.QueryRep is = none.rep is
-no_name field none kinds.Ack is = none.ack is
-no_name field none kinds.Query is = none.query is
-no_name field none kinds.QueryAdjust is = none.adjust is
-no_name field none kinds.Select is = none.select is
-no_name field none kinds.Nak is = none.nak is
-no_name field none kinds.ReqRn is = none.req is
-no_name field none kinds.Read is = none.reads is
-no_name field none kinds.Write is = none.writes is
-no_name field none kinds.Kill is = none.kills is
-no_name field none kinds.Lock is = none.locks is
-no_name field none kinds.Access is = none.shows is
-no_name field none kinds.BlockWrite is = none.blocks is
-no_name field none kinds.BlockErase is = none.erases is
-
-name_decided : (field : List ℕ) → Decided (Spelled command_name Any field)
-name_decided field =
-    tried kinds.QueryRep tt (λ rep. tried kinds.Ack tt (λ ack. tried kinds.Query tt (λ query. tried kinds.QueryAdjust tt (λ adjust.
-    tried kinds.Select tt (λ select. tried kinds.Nak tt (λ nak. tried kinds.ReqRn tt (λ req. tried kinds.Read tt (λ reads.
-    tried kinds.Write tt (λ writes. tried kinds.Kill tt (λ kills. tried kinds.Lock tt (λ locks. tried kinds.Access tt (λ shows.
-    tried kinds.BlockWrite tt (λ blocks. tried kinds.BlockErase tt (λ erases.
-    let none : IsNoName field = record {
-      rep = rep;
-      ack = ack;
-      query = query;
-      adjust = adjust;
-      select = select;
-      nak = nak;
-      req = req;
-      reads = reads;
-      writes = writes;
-      kills = kills;
-      locks = locks;
-      shows = shows;
-      blocks = blocks;
-      erases = erases;
-    } in
-    inr (λ found. no_name field none found.0 found.2)))))))))))))))
+a_kind : (kind : CommandKind) → Among kind (kinds.QueryRep ∷ kinds.Ack ∷ kinds.Query ∷ kinds.QueryAdjust ∷ kinds.Select ∷ kinds.Nak ∷ kinds.ReqRn ∷ kinds.Read
+    ∷ kinds.Write ∷ kinds.Kill ∷ kinds.Lock ∷ kinds.Access ∷ kinds.BlockWrite ∷ kinds.BlockErase ∷ [])
+a_kind kinds.QueryRep = here
+a_kind kind = search (here, there) depth 20
 
 -- behind the name of this command, the fields spell one
 abbrev HasCommand : CommandKind → List (List ℕ) → Type 0
 HasCommand kind fields = (command : Command) × IsCommandBehind kind fields command
+
+-- the fields of a command at a place in a bank, of which the last but one is spelled so
+abbrev placed : {V : Type 0} → (V → List ℕ) → Bank × (ℕ × (V × (ℕ × Unit {0}))) → List (List ℕ)
+placed third = with bank_word (with decimal (with third (with hex_word nothing)))
+
+abbrev IsPlaced : {V : Type 0} → (V → Type 0) → Bank × (ℕ × (V × (ℕ × Unit {0}))) → Type 0
+IsPlaced May = Both Any (Both (IsWithin 0 268435455) (Both May (Both IsWord Any)))
+
+at_place : {V : Type 0} {third : V → List ℕ} {May : V → Type 0} → EachDecided third May → EachDecided (placed third) (IsPlaced May)
+at_place decided = then any_bank_decided (then (number 0 268435455) (then decided (then word_decided end)))
 
 rep_there : (fields : List (List ℕ)) → HasCommand kinds.QueryRep fields → Spelled (with decimal nothing) (Both (IsWithin 0 3) Any) fields
 rep_there fields (QueryRep session, is) = ((session, tt), ((omega arith, is.in_range), tt), is.spelling)
@@ -155,15 +103,13 @@ req_there : (fields : List (List ℕ)) → HasCommand kinds.ReqRn fields → Spe
 req_there fields (ReqRn rn, is) = ((rn, tt), (is.in_range, tt), is.spelling)
 req_there fields (command, is) = let kind = is.same_kind in cc
 
-read_there : (fields : List (List ℕ)) → HasCommand kinds.Read fields
-    → Spelled (with bank_word (with decimal (with decimal (with hex_word nothing)))) (Both Any (Both (IsWithin 0 268435455) (Both (IsWithin 0 255) (Both IsWord Any)))) fields
+read_there : (fields : List (List ℕ)) → HasCommand kinds.Read fields → Spelled (placed decimal) (IsPlaced (IsWithin 0 255)) fields
 read_there fields (Read bank pointer count rn, is) =
     let pointer_small = is.in_range.0 in
     ((bank, (pointer, (count, (rn, tt)))), (tt, ((omega arith, omega arith), ((omega arith, is.in_range.1), (is.in_range.2, tt)))), is.spelling)
 read_there fields (command, is) = let kind = is.same_kind in cc
 
-write_there : (fields : List (List ℕ)) → HasCommand kinds.Write fields
-    → Spelled (with bank_word (with decimal (with hex_word (with hex_word nothing)))) (Both Any (Both (IsWithin 0 268435455) (Both IsWord (Both IsWord Any)))) fields
+write_there : (fields : List (List ℕ)) → HasCommand kinds.Write fields → Spelled (placed hex_word) (IsPlaced IsWord) fields
 write_there fields (Write bank pointer covered rn, is) =
     let pointer_small = is.in_range.0 in
     ((bank, (pointer, (covered, (rn, tt)))), (tt, ((omega arith, omega arith), (is.in_range.1, (is.in_range.2, tt)))), is.spelling)
@@ -184,9 +130,7 @@ access_there : (fields : List (List ℕ)) → HasCommand kinds.Access fields →
 access_there fields (Access covered rn, is) = ((covered, (rn, tt)), (is.in_range.0, (is.in_range.1, tt)), is.spelling)
 access_there fields (command, is) = let kind = is.same_kind in cc
 
-block_write_there : (fields : List (List ℕ)) → HasCommand kinds.BlockWrite fields
-    → Spelled (with bank_word (with decimal (with hex_words (with hex_word nothing))))
-    (Both Any (Both (IsWithin 0 268435455) (Both (IsWordList 1 255) (Both IsWord Any)))) fields
+block_write_there : (fields : List (List ℕ)) → HasCommand kinds.BlockWrite fields → Spelled (placed hex_words) (IsPlaced (IsWordList 1 255)) fields
 block_write_there fields (BlockWrite bank pointer words rn, is) =
     let pointer_small = is.in_range.0 in (
       (bank, (pointer, (words, (rn, tt)))),
@@ -195,8 +139,7 @@ block_write_there fields (BlockWrite bank pointer words rn, is) =
     )
 block_write_there fields (command, is) = let kind = is.same_kind in cc
 
-block_erase_there : (fields : List (List ℕ)) → HasCommand kinds.BlockErase fields
-    → Spelled (with bank_word (with decimal (with decimal (with hex_word nothing)))) (Both Any (Both (IsWithin 0 268435455) (Both (IsWithin 1 255) (Both IsWord Any)))) fields
+block_erase_there : (fields : List (List ℕ)) → HasCommand kinds.BlockErase fields → Spelled (placed decimal) (IsPlaced (IsWithin 1 255)) fields
 block_erase_there fields (BlockErase bank pointer count rn, is) =
     let pointer_small = is.in_range.0 in
     ((bank, (pointer, (count, (rn, tt)))), (tt, ((omega arith, omega arith), ((is.in_range.1, is.in_range.2), (is.in_range.3, tt)))), is.spelling)
@@ -219,10 +162,10 @@ command_behind kinds.Query fields =
       Query v.0 v.1.0 v.1.1.0 v.1.1.1.0 v.1.1.1.1.0 v.1.1.1.1.1.0 v.1.1.1.1.1.1.0,
       record { same_kind = refl; in_range = (may.1.1.1.1.0.1, may.1.1.1.1.1.1.0.1); spelling = found.2 },
     )) (query_there fields)
-    (then bit_decided (then code_decided (then bit_decided (then sel_decided (then (number 0 3) (then side_decided (then (number 0 15) end)))))) fields)
+    (then bit_decided (then code_decided (then bit_decided (then (one_of sel_word _ a_sel) (then (number 0 3) (then side_decided (then (number 0 15) end)))))) fields)
 command_behind kinds.QueryAdjust fields =
     same_answer (λ found. (QueryAdjust found.0.0 found.0.1.0, record { same_kind = refl; in_range = found.1.0.1; spelling = found.2 })) (adjust_there fields)
-    (then (number 0 3) (then updn_decided end) fields)
+    (then (number 0 3) (then (one_of updn_word _ an_updn) end) fields)
 command_behind kinds.Select fields =
     same_answer (λ found. let v = found.0 in let may = found.1 in (
       Select v.0 v.1.0 v.1.1.0 v.1.1.1.0 v.1.1.1.1.0,
@@ -237,12 +180,12 @@ command_behind kinds.Read fields =
     same_answer (λ found. let v = found.0 in let may = found.1 in (
       Read v.0 v.1.0 v.1.1.0 v.1.1.1.0,
       record { same_kind = refl; in_range = (below_28 v.1.0 may.1.0.1, may.1.1.0.1, may.1.1.1.0); spelling = found.2 },
-    )) (read_there fields) (then any_bank_decided (then (number 0 268435455) (then (number 0 255) (then word_decided end))) fields)
+    )) (read_there fields) (at_place (number 0 255) fields)
 command_behind kinds.Write fields =
     same_answer (λ found. let v = found.0 in let may = found.1 in (
       Write v.0 v.1.0 v.1.1.0 v.1.1.1.0,
       record { same_kind = refl; in_range = (below_28 v.1.0 may.1.0.1, may.1.1.0, may.1.1.1.0); spelling = found.2 },
-    )) (write_there fields) (then any_bank_decided (then (number 0 268435455) (then word_decided (then word_decided end))) fields)
+    )) (write_there fields) (at_place word_decided fields)
 command_behind kinds.Kill fields =
     same_answer (λ found. (Kill found.0.0 found.0.1.0, record { same_kind = refl; in_range = (found.1.0, found.1.1.0); spelling = found.2 })) (kill_there fields)
     (then word_decided (then word_decided end) fields)
@@ -258,12 +201,12 @@ command_behind kinds.BlockWrite fields =
     same_answer (λ found. let v = found.0 in let may = found.1 in let block = block_of_list v.1.1.0 may.1.1.0 in (
       BlockWrite v.0 v.1.0 v.1.1.0 v.1.1.1.0,
       record { same_kind = refl; in_range = (below_28 v.1.0 may.1.0.1, block.0, block.1, block.2, may.1.1.1.0); spelling = found.2 },
-    )) (block_write_there fields) (then any_bank_decided (then (number 0 268435455) (then (words_decided 1 255) (then word_decided end))) fields)
+    )) (block_write_there fields) (at_place (words_decided 1 255) fields)
 command_behind kinds.BlockErase fields =
     same_answer (λ found. let v = found.0 in let may = found.1 in (
       BlockErase v.0 v.1.0 v.1.1.0 v.1.1.1.0,
       record { same_kind = refl; in_range = (below_28 v.1.0 may.1.0.1, may.1.1.0.0, may.1.1.0.1, may.1.1.1.0); spelling = found.2 },
-    )) (block_erase_there fields) (then any_bank_decided (then (number 0 268435455) (then (number 1 255) (then word_decided end))) fields)
+    )) (block_erase_there fields) (at_place (number 1 255) fields)
 
 pub commands_decided : AreDecided commands IsLegalCommand
-commands_decided = record { is = commands_are; names = name_decided; behind = command_behind }
+commands_decided = record { is = commands_are; names = one_of command_name _ a_kind; behind = command_behind }

@@ -1,9 +1,9 @@
 -- The entries of a log, as they are read.
-use Rattle.std.proofs.Common.{◌≡◌, ◌≢◌, ◌<◌, ◌+◌, ℕ, List, [], ◌∷◌, ◌++◌, ap, arith, refl, sym, ◌∙◌, subst}
+use Rattle.std.proofs.Common.{◌≡◌, ◌≢◌, ◌<◌, ◌+◌, ℕ, List, [], ◌∷◌, ◌++◌, arith, refl, sym, subst}
 use Rattle.std.specs.Prelude.{IfErr, IsErrAnd, Option, Result, Ok, Err}
-use Rattle.checked_lines.specs.laws.ReadingOn.{HasReadTo, NextLine, all_read, extra_read, fault_read, one_read, unended_read}
+use Rattle.checked_lines.specs.laws.ReadingOn.{HasReadTo, all_read, extra_read, fault_read, one_read, unended_read}
 use Rattle.command_grammar.specs.declared.commands.Command.{Command}
-use Rattle.log_verdicts.specs.Log.{LogEntry, LoggedTag, Seen, Exchange, Befalls, line_count, lines_in}
+use Rattle.log_verdicts.specs.Log.{LogEntry, LoggedTag, Seen, Exchange, line_count, lines_in}
 use Rattle.probe_lines.specs.Answers.{HasEffect}
 use Rattle.probe_lines.specs.ProbeLine.{SpellsProbeLine}
 use Rattle.probe_lines.specs.ProbeText.{most_stimuli}
@@ -12,7 +12,7 @@ use Rattle.probe_lines.specs.Said as said
 use Rattle.text_fields.specs.Lines.{fields_of, lines_of}
 use Rattle.judge_lines.specs.SeenLine.{BeginsAsAnswer, SpellSeen}
 use Rattle.judge_lines.specs.LogText.{GoesTo, IsFaultyNext, IsFaultySeen, IsFirstFault, IsLogText, LogStanding, asked, behind_effect, ended, log_rules, start, within}
-use Rattle.judge_lines.specs.Reading.{HasReadLog, IsFaultOf}
+use Rattle.judge_lines.specs.Reading.{HasReadLog}
 use Rattle.checked_lines.specs.declared.fault.FaultReason.{FaultReason}
 use Rattle.checked_lines.specs.declared.fault.FaultReason.TheVariants.{End, Extra}
 

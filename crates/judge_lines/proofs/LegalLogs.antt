@@ -1,7 +1,6 @@
 -- What a text says is a log whose numbers are in their ranges.
-use Rattle.std.proofs.Common.{◌≡◌, ◌<◌, ◌^◌, ◌+◌, ℕ, List, [], ◌∷◌, ◌++◌, arith, sym, subst, inl, inr}
+use Rattle.std.proofs.Common.{◌<◌, ◌^◌, ◌+◌, ℕ, List, [], ◌∷◌, ◌++◌, arith, sym, subst, inl, inr}
 use Rattle.std.specs.Prelude.{Option, Some, None}
-use Rattle.std.specs.List.{AllByRecursion}
 use Rattle.checked_lines.specs.TextRules.{HasOutcomeFrom, Whole}
 use Rattle.log_verdicts.specs.Log.{LogEntry, LoggedTag, Seen}
 use Rattle.log_verdicts.specs.Log as entries
@@ -11,7 +10,7 @@ use Rattle.probe_lines.specs.ProbeLine.{IsProbeLine}
 use Rattle.probe_lines.specs.Said.{ProbeLine, Stimulus, StimulusEffect, Does}
 use Rattle.probe_lines.specs.Said as said
 use Rattle.reply_grammar.specs.declared.expected.Reply.{Reply}
-use Rattle.reply_grammar.specs.declared.expected.Reply.TheVariants.{Rn16, Epc, Handle, Words, Header, Error}
+use Rattle.reply_grammar.specs.declared.expected.Reply.TheVariants.{Rn16, Handle}
 use Rattle.reply_text.specs.ReplyText.{IsReplyForm}
 use Rattle.text_fields.specs.Lines.{lines_of}
 use Rattle.judge_lines.specs.SeenLine.{IsSeen}
@@ -38,11 +37,8 @@ effect_legal (said.SendsBits bits) (said.Befalls event) is has = tt
 -- what it is seen to answer
 reply_small : (reply : Reply) → IsReplyForm reply → number_of_reply reply < 2 ^ 16
 reply_small (Rn16 number) is = is
-reply_small (Epc pc epc) is = omega arith
 reply_small (Handle number) is = is
-reply_small (Words words) is = omega arith
-reply_small Header is = omega arith
-reply_small (Error code) is = omega arith
+reply_small reply is = omega arith
 
 seen_small : (seen : Option Seen) → IsSeen seen → number_in seen < 2 ^ 16
 seen_small None is = omega arith

@@ -1,5 +1,5 @@
 -- A line of a log says something, or there is a reason for which it says nothing, wherever it stands.
-use Rattle.std.proofs.Common.{◌≡◌, ◌≢◌, ◌⊎◌, ◌≤◌, ℕ, Bool, true, false, List, [], ◌∷◌, length, refl, sym, ◌∙◌, ap, subst, inl, inr, arith}
+use Rattle.std.proofs.Common.{◌≡◌, ◌⊎◌, ℕ, Bool, true, false, List, [], ◌∷◌, refl, sym, ap, subst, inl, inr, arith}
 use Rattle.std.specs.Prelude.{Option, Some, None}
 use Rattle.air_events.specs.declared.Event.{Event}
 use Rattle.air_events.specs.declared.Event.TheVariants as events
@@ -24,7 +24,7 @@ use Rattle.scenario_lines.specs.declared.first_fields.EventKind.TheVariants as k
 use Rattle.scenario_lines.specs.declared.first_fields.Keyword.TheVariants as keywords
 use Rattle.scenario_lines.specs.declared.tag.TagSpec.{TagSpec}
 use Rattle.scenario_lines.proofs.Decisions.{Any, Decided, Spelled, behind_decided as then, nothing_decided as end, same_answer, text_decided}
-use Rattle.scenario_lines.proofs.FieldsDecided.{IsLasting, bits_decided, lasting_decided, tried}
+use Rattle.scenario_lines.proofs.FieldsDecided.{IsLasting, bits_decided, lasting_decided}
 use Rattle.scenario_lines.proofs.LinesDecided.{FormedBehind, event_kind_decided, formed_behind}
 use Rattle.scenario_lines.specs.declared.line.Line.TheVariants as lines
 use Rattle.tag_machine.specs.declared.any_tag.Answered.{Answered}
@@ -32,18 +32,13 @@ use Rattle.tag_machine.specs.declared.any_tag.Answered.TheVariants.{Silent, Plai
 use Rattle.tag_memory.specs.Image.{pc_fits}
 use Rattle.checked_lines.specs.declared.fault.FaultReason.{FaultReason}
 use Rattle.checked_lines.specs.declared.fault.FaultReason.TheVariants as faults
-use Rattle.text_fields.specs.Binary.{binary}
-use Rattle.text_fields.specs.NamedFields.{AreFaulty, AreFilled, AreSpelling, SpellBehind}
+use Rattle.text_fields.specs.NamedFields.{AreFilled, SpellBehind}
 use Rattle.text_fields.specs.declared.fields_fault.FieldsFault.{FieldsFault}
 use Rattle.text_fields.specs.declared.fields_fault.FieldsFault.TheVariants.{Word, Shape, Number}
-use Rattle.judge_lines.proofs.CommandsDecided.{commands_decided}
+use Rattle.judge_lines.proofs.CommandsDecided.{commands_decided, nothing}
 use Rattle.judge_lines.proofs.RepliesDecided.{replies_decided}
-use Rattle.judge_lines.proofs.VocabularyDecided.{AreDecided, SpellOrAreFaulty, filled_decided, spell_or_are_faulty}
+use Rattle.judge_lines.proofs.VocabularyDecided.{Among, AreDecided, SpellOrAreFaulty, filled_decided, here, one_of, spell_or_are_faulty, there}
 use Rattle.judge_lines.specs.SeenLine.{AreFaultySeen, SpellSeen, seen_mark_word}
-
--- no more fields
-abbrev nothing : Unit {0} → List (List ℕ)
-nothing none = []
 
 -- one field alone
 abbrev alone : {V : Type 0} → (V → List ℕ) → V × Unit {0} → List (List ℕ)
@@ -85,10 +80,8 @@ event_behind kinds.Expire fields =
 
 -- behind the kind of an event stand as many fields as it has
 event_filled : (event : Event) → AreFilled (probe_events.count (probe_events.kind event)) (probe_events.others event)
-event_filled events.Timeout = none_filled
-event_filled events.Off = none_filled
-event_filled events.On = none_filled
 event_filled (events.Expire flag) = one_more 0 (flag_word flag) [] (flag_is flag).filled none_filled
+event_filled event = none_filled
 
 events_decided : AreDecided probe_events IsProbeEvent
 events_decided = record { is = record { told = event_word_told; filled = λ event is. event_filled event }; names = event_kind_decided; behind = event_behind }
@@ -137,14 +130,9 @@ worded_or_faulty words.Bits others = bits_or_faulty others
 worded_or_faulty words.Event others = event_or_faulty others (spell_or_are_faulty probe_events IsProbeEvent events_decided others)
 worded_or_faulty words.End others = end_or_faulty others
 
-no_word : (field : List ℕ) → field ≢ line_word words.Bits → field ≢ line_word words.Event → field ≢ line_word words.End → (word : LineWord) → field ≡ line_word word → ⊥
-no_word field bits event end words.Bits is = bits is
-no_word field bits event end words.Event is = event is
-no_word field bits event end words.End is = end is
-
-word_decided : (field : List ℕ) → Decided (Spelled line_word Any field)
-word_decided field =
-    tried words.Bits tt (λ bits. tried words.Event tt (λ event. tried words.End tt (λ end. inr (λ found. no_word field bits event end found.0 found.2))))
+a_word : (word : LineWord) → Among word (words.Bits ∷ words.Event ∷ words.End ∷ [])
+a_word words.Bits = here
+a_word word = search (here, there)
 
 pub head_same : (a b : List ℕ) (rest rest' : List (List ℕ)) → a ∷ rest ≡ b ∷ rest' → a ≡ b
 head_same a b rest rest' same = cc
@@ -152,7 +140,7 @@ head_same a b rest rest' same = cc
 pub says_or_is_faulty : (fields : List (List ℕ)) → SaysOrIsFaulty fields
 says_or_is_faulty [] =
     command_or_faulty [] (λ word begins. let same = begins.first in cc) (spell_or_are_faulty commands IsLegalCommand commands_decided [])
-says_or_is_faulty (first ∷ others) = elim (word_decided first) [
+says_or_is_faulty (first ∷ others) = elim (one_of line_word _ a_word first) [
   | inl found ↦ subst (λ (field : List ℕ). SaysOrIsFaulty (field ∷ others)) (sym found.2) (worded_or_faulty found.0 others)
   | inr none ↦ command_or_faulty (first ∷ others)
       (λ word begins. none (word, tt, head_same first (line_word word) others begins.others begins.first))
@@ -189,18 +177,13 @@ marked_or_faulty Silent behind = silent_or_faulty behind
 marked_or_faulty Plain behind = plain_or_faulty behind (spell_or_are_faulty replies IsReplyForm replies_decided behind)
 marked_or_faulty Extended behind = extended_or_faulty behind (spell_or_are_faulty replies IsReplyForm replies_decided behind)
 
-no_mark : (field : List ℕ) → field ≢ seen_mark_word Silent → field ≢ seen_mark_word Plain → field ≢ seen_mark_word Extended → (mark : Answered) → field ≡ seen_mark_word mark → ⊥
-no_mark field silent plain extended Silent is = silent is
-no_mark field silent plain extended Plain is = plain is
-no_mark field silent plain extended Extended is = extended is
-
-mark_decided : (field : List ℕ) → Decided (Spelled seen_mark_word Any field)
-mark_decided field =
-    tried Silent tt (λ silent. tried Plain tt (λ plain. tried Extended tt (λ extended. inr (λ found. no_mark field silent plain extended found.0 found.2))))
+a_mark : (mark : Answered) → Among mark (Silent ∷ Plain ∷ Extended ∷ [])
+a_mark Silent = here
+a_mark mark = search (here, there)
 
 pub tells_or_is_faulty : (others : List (List ℕ)) → TellsOrIsFaulty others
 tells_or_is_faulty [] = inr (Shape, inr (inr (refl, refl)))
-tells_or_is_faulty (first ∷ behind) = elim (mark_decided first) [
+tells_or_is_faulty (first ∷ behind) = elim (one_of seen_mark_word _ a_mark first) [
   | inl found ↦ subst (λ (field : List ℕ). TellsOrIsFaulty (field ∷ behind)) (sym found.2) (marked_or_faulty found.0 behind)
   | inr none ↦ inr (Word, inr (inl (refl, λ mark is. none (mark, tt, is))))
 ]

@@ -1,18 +1,15 @@
 -- A line of a log leads to one standing, or is faulty for one reason.
-use Rattle.std.proofs.Common.{◌≡◌, ◌⊎◌, ◌<◌, ◌≤◌, ◌+◌, ℕ, List, [], ◌∷◌, ◌++◌, ap, arith, refl, sym, ◌∙◌, subst, inl, inr}
-use Rattle.std.specs.Prelude.{Option, Some, None}
+use Rattle.std.proofs.Common.{rules, ◌≡◌, ◌⊎◌, ◌+◌, ℕ, List, [], ◌∷◌, ◌++◌, ap, arith, refl, sym, ◌∙◌, subst, inl, inr}
+use Rattle.std.specs.Prelude.{Option}
 use Rattle.std.specs.List.{AllZip}
 use Rattle.checked_lines.specs.laws.OneOutcome.{AreUnambiguous}
 use Rattle.command_grammar.specs.declared.commands.Command.{Command}
 use Rattle.log_verdicts.specs.Log.{LogEntry, LoggedTag, Seen, Exchange, lines_in}
-use Rattle.log_verdicts.specs.Log as entries
 use Rattle.probe_lines.specs.Answers.{HasEffect}
-use Rattle.probe_lines.specs.LineFaults.{BeginsWithWord, IsFaultyProbeLine}
 use Rattle.probe_lines.specs.ProbeLine.{SpellsProbeLine}
-use Rattle.probe_lines.specs.ProbeText.{IsTooMuch, most_stimuli}
+use Rattle.probe_lines.specs.ProbeText.{IsTooMuch}
 use Rattle.probe_lines.specs.Said.{ProbeLine, Stimulus, StimulusEffect, Does}
 use Rattle.probe_lines.specs.Said as said
-use Rattle.probe_lines.specs.declared.line.LineWord.TheVariants as words
 use Rattle.probe_lines.specs.laws.LineLaws.{ProbeLineLaws, TagLineLaws}
 use Rattle.scenario_lines.specs.declared.tag.TagSpec.{TagSpec}
 use Rattle.text_fields.specs.Lines.{fields_of}
@@ -20,9 +17,9 @@ use Rattle.text_fields.specs.declared.fields_fault.FieldsFault.{FieldsFault}
 use Rattle.text_fields.specs.declared.fields_fault.FieldsFault.TheVariants as reasons
 use Rattle.text_fields.proofs.NamedFieldLaws.{same_behind}
 use Rattle.judge_lines.specs.SeenLine.{AreFaultySeen, BeginsAsAnswer, SpellSeen, answer_word}
-use Rattle.judge_lines.specs.LogText.{DoesNext, GoesTo, HasUnknownWord, IsFaultyAsAnswer, IsFaultyAsOther, IsFaultyLogLine, IsFaultyNext, IsFaultySeen, LogLeadsTo, LogStanding, TellsNextEntry, TellsSeen, TellsLoggedTag, asked, begun, behind_effect, ended, log_rules, logged, start, with_word, within}
+use Rattle.judge_lines.specs.LogText.{GoesTo, HasUnknownWord, IsFaultyAsAnswer, IsFaultyAsOther, IsFaultyLogLine, IsFaultyNext, IsFaultySeen, LogLeadsTo, LogStanding, TellsNextEntry, TellsSeen, TellsLoggedTag, asked, begun, behind_effect, ended, log_rules, logged, start, with_word, within}
 use Rattle.checked_lines.specs.declared.fault.FaultReason.{FaultReason}
-use Rattle.checked_lines.specs.declared.fault.FaultReason.TheVariants.{Extra, End, Version, Word, Order, Limit, Shape, Number, Pc}
+use Rattle.checked_lines.specs.declared.fault.FaultReason.TheVariants.{End, Word, Order, Limit, Shape, Number}
 use Rattle.judge_lines.specs.laws.SeenLaws.{SeenLaws}
 
 -- what the laws of single lines say
@@ -119,73 +116,25 @@ seen_shape_or_number known fields shape number =
 
 one_next_reason : Known → (count : ℕ) (fields : List (List ℕ)) (one other : FaultReason) → IsFaultyNext count fields one → IsFaultyNext count fields other → one ≡ other
 one_next_reason known count fields Word Word a b = refl
-one_next_reason known count fields Word Order a b = absurd (b.0 a)
-one_next_reason known count fields Word Limit a b = absurd (b.0 a)
-one_next_reason known count fields Word Shape a b = absurd (no_unknown_other known.lines fields a (inl b.1))
-one_next_reason known count fields Word Number a b = absurd (no_unknown_other known.lines fields a (inr b.1))
-one_next_reason known count fields Order Word a b = absurd (a.0 b)
 one_next_reason known count fields Order Order a b = refl
-one_next_reason known count fields Order Limit a b = absurd (b.1 a.1)
-one_next_reason known count fields Order Shape a b = absurd (b.1.other a.1)
-one_next_reason known count fields Order Number a b = absurd (b.1.other a.1)
-one_next_reason known count fields Limit Word a b = absurd (a.0 b)
-one_next_reason known count fields Limit Order a b = absurd (a.1 b.1)
 one_next_reason known count fields Limit Limit a b = refl
-one_next_reason known count fields Limit Shape a b = absurd (b.0 a.2)
-one_next_reason known count fields Limit Number a b = absurd (b.0 a.2)
-one_next_reason known count fields Shape Word a b = absurd (no_unknown_other known.lines fields b (inl a.1))
-one_next_reason known count fields Shape Order a b = absurd (a.1.other b.1)
-one_next_reason known count fields Shape Limit a b = absurd (a.0 b.2)
 one_next_reason known count fields Shape Shape a b = refl
-one_next_reason known count fields Shape Number a b = absurd (shape_or_number known fields a.1 b.1)
-one_next_reason known count fields Number Word a b = absurd (no_unknown_other known.lines fields b (inr a.1))
-one_next_reason known count fields Number Order a b = absurd (a.1.other b.1)
-one_next_reason known count fields Number Limit a b = absurd (a.0 b.2)
-one_next_reason known count fields Number Shape a b = absurd (shape_or_number known fields b.1 a.1)
 one_next_reason known count fields Number Number a b = refl
-one_next_reason known count fields Extra other a b = absurd a
-one_next_reason known count fields End other a b = absurd a
-one_next_reason known count fields Version other a b = absurd a
-one_next_reason known count fields Pc other a b = absurd a
-one_next_reason known count fields one Extra a b = absurd b
-one_next_reason known count fields one End a b = absurd b
-one_next_reason known count fields one Version a b = absurd b
-one_next_reason known count fields one Pc a b = absurd b
+one_next_reason known count fields one other a b =
+    absurd (search (rules, inl, inr, no_unknown_other known.lines fields, shape_or_number known fields))
 
 one_seen_reason : Known → (count : ℕ) (fields : List (List ℕ)) (one other : FaultReason) → IsFaultySeen count fields one → IsFaultySeen count fields other → one ≡ other
 one_seen_reason known count fields Word Word a b = refl
-one_seen_reason known count fields Word Order a b = absurd (b.0 a)
-one_seen_reason known count fields Word Limit a b = absurd (b.0 a)
-one_seen_reason known count fields Word Shape a b = absurd (no_unknown_answer known.seen fields a (inl b.1))
-one_seen_reason known count fields Word Number a b = absurd (no_unknown_answer known.seen fields a (inr b.1))
-one_seen_reason known count fields Order Word a b = absurd (a.0 b)
 one_seen_reason known count fields Order Order a b = refl
-one_seen_reason known count fields Order Limit a b = absurd (a.1 b.1)
-one_seen_reason known count fields Order Shape a b = absurd (a.1 b.1.begins)
-one_seen_reason known count fields Order Number a b = absurd (a.1 b.1.begins)
-one_seen_reason known count fields Limit Word a b = absurd (a.0 b)
-one_seen_reason known count fields Limit Order a b = absurd (b.1 a.1)
 one_seen_reason known count fields Limit Limit a b = refl
+one_seen_reason known count fields Shape Shape a b = refl
+one_seen_reason known count fields Number Number a b = refl
 one_seen_reason known count fields Limit Shape a b = absurd (omega (arith, a.2, b.0))
 one_seen_reason known count fields Limit Number a b = absurd (omega (arith, a.2, b.0))
-one_seen_reason known count fields Shape Word a b = absurd (no_unknown_answer known.seen fields b (inl a.1))
-one_seen_reason known count fields Shape Order a b = absurd (b.1 a.1.begins)
 one_seen_reason known count fields Shape Limit a b = absurd (omega (arith, b.2, a.0))
-one_seen_reason known count fields Shape Shape a b = refl
-one_seen_reason known count fields Shape Number a b = absurd (seen_shape_or_number known fields a.1 b.1)
-one_seen_reason known count fields Number Word a b = absurd (no_unknown_answer known.seen fields b (inr a.1))
-one_seen_reason known count fields Number Order a b = absurd (b.1 a.1.begins)
 one_seen_reason known count fields Number Limit a b = absurd (omega (arith, b.2, a.0))
-one_seen_reason known count fields Number Shape a b = absurd (seen_shape_or_number known fields b.1 a.1)
-one_seen_reason known count fields Number Number a b = refl
-one_seen_reason known count fields Extra other a b = absurd a
-one_seen_reason known count fields End other a b = absurd a
-one_seen_reason known count fields Version other a b = absurd a
-one_seen_reason known count fields Pc other a b = absurd a
-one_seen_reason known count fields one Extra a b = absurd b
-one_seen_reason known count fields one End a b = absurd b
-one_seen_reason known count fields one Version a b = absurd b
-one_seen_reason known count fields one Pc a b = absurd b
+one_seen_reason known count fields one other a b =
+    absurd (search (rules, inl, inr, no_unknown_answer known.seen fields, seen_shape_or_number known fields))
 
 one_reason : Known → (from : LogStanding) (line : List ℕ) (one other : FaultReason) → IsFaultyLogLine from line one → IsFaultyLogLine from line other → one ≡ other
 one_reason known start line one other a b = a.0 ∙ sym b.0
@@ -208,10 +157,7 @@ next_not_faulty known tag log fields to Order tells faulty = tells.other faulty.
 next_not_faulty known tag log fields to Limit tells faulty = has_room tag log fields tells.says to tells.spells tells.leads faulty.2
 next_not_faulty known tag log fields to Shape tells faulty = known.lines.not_faulty fields tells.says reasons.Shape tells.spells faulty.1.faulty
 next_not_faulty known tag log fields to Number tells faulty = known.lines.not_faulty fields tells.says reasons.Number tells.spells faulty.1.faulty
-next_not_faulty known tag log fields to Extra tells faulty = faulty
-next_not_faulty known tag log fields to End tells faulty = faulty
-next_not_faulty known tag log fields to Version tells faulty = faulty
-next_not_faulty known tag log fields to Pc tells faulty = faulty
+next_not_faulty known tag log fields to fault tells faulty = absurd faulty
 
 seen_not_faulty : Known → (tag : LoggedTag) (log : List LogEntry) (heard : Option Command) (fields : List (List ℕ)) (to : LogStanding) (fault : FaultReason)
     → TellsSeen tag log heard fields to → IsFaultySeen (lines_in log + 1) fields fault → ⊥
@@ -221,10 +167,7 @@ seen_not_faulty known tag log heard fields to Order tells faulty = faulty.1 tell
 seen_not_faulty known tag log heard fields to Limit tells faulty = let room = tells.room in let full = faulty.2 in omega arith
 seen_not_faulty known tag log heard fields to Shape tells faulty = answer_not_faulty known.seen fields tells.begins tells.seen reasons.Shape tells.spells faulty.1
 seen_not_faulty known tag log heard fields to Number tells faulty = answer_not_faulty known.seen fields tells.begins tells.seen reasons.Number tells.spells faulty.1
-seen_not_faulty known tag log heard fields to Extra tells faulty = faulty
-seen_not_faulty known tag log heard fields to End tells faulty = faulty
-seen_not_faulty known tag log heard fields to Version tells faulty = faulty
-seen_not_faulty known tag log heard fields to Pc tells faulty = faulty
+seen_not_faulty known tag log heard fields to fault tells faulty = absurd faulty
 
 not_faulty : Known → (from to : LogStanding) (line : List ℕ) (fault : FaultReason) → GoesTo from line to → IsFaultyLogLine from line fault → ⊥
 not_faulty known start to line fault goes faulty = faulty.1 goes.0

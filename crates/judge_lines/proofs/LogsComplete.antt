@@ -13,7 +13,7 @@ use Rattle.probe_lines.specs.Answers.{HasEffect}
 use Rattle.probe_lines.specs.LineFaults.{BeginsWithWord}
 use Rattle.probe_lines.specs.ProbeLine.{SpellsProbeLine, line_word}
 use Rattle.probe_lines.specs.ProbeText.{IsTooMuch, most_stimuli}
-use Rattle.probe_lines.specs.Said.{ProbeLine, Stimulus, StimulusEffect, Does}
+use Rattle.probe_lines.specs.Said.{Stimulus, StimulusEffect, Does}
 use Rattle.probe_lines.specs.Said as said
 use Rattle.probe_lines.specs.declared.line.LineWord.TheVariants as words
 use Rattle.scenario_lines.proofs.Decisions.{Decided, text_decided}
@@ -21,7 +21,7 @@ use Rattle.text_fields.specs.Lines.{fields_of, lines_of}
 use Rattle.text_fields.specs.declared.fields_fault.FieldsFault.TheVariants as reasons
 use Rattle.judge_lines.proofs.LinesDecided.{SaysOrIsFaulty, TellsOrIsFaulty, TellsTagOrIsFaulty, head_same, says_or_is_faulty, tag_or_faulty, tells_or_is_faulty}
 use Rattle.judge_lines.proofs.LogLaws.{Known, answer_known, no_unknown_answer, no_unknown_other, other_known}
-use Rattle.judge_lines.specs.LogText.{HasUnknownWord, IsFaultyNext, IsFaultySeen, IsFirstFault, IsLogText, LogMayEnd, LogStanding, TellsNextEntry, TellsSeen, asked, begun, behind_effect, ended, log_rules, logged, start, log_version_line, with_word, within}
+use Rattle.judge_lines.specs.LogText.{IsFaultyNext, IsFaultySeen, IsFirstFault, IsLogText, LogMayEnd, LogStanding, TellsNextEntry, TellsSeen, asked, begun, behind_effect, ended, log_rules, logged, start, log_version_line, with_word, within}
 use Rattle.judge_lines.specs.SeenLine.{BeginsAsAnswer, answer_word}
 
 -- what the laws of single lines say, and that what is done to a tag has an effect
@@ -173,11 +173,8 @@ each_line more (asked tag log heard) line = elim (answer_decided (fields_of line
 each_line more (ended tag log) line = inr (Extra, refl)
 
 end_or_not : (standing : LogStanding) → LogMayEnd standing ⊎ (¬ LogMayEnd standing)
-end_or_not start = inr (λ may. may)
-end_or_not begun = inr (λ may. may)
-end_or_not (within tag log) = inr (λ may. may)
-end_or_not (asked tag log heard) = inr (λ may. may)
 end_or_not (ended tag log) = inl tt
+end_or_not standing = inr (λ may. may)
 
 logs_complete : MoreKnown → AreComplete log_rules
 logs_complete more = record { lines = each_line more; ends = end_or_not }
@@ -196,10 +193,7 @@ AreLogOrFaulty bytes =
 
 outcome_told : (bytes : List ℕ) (outcome : Outcome LogStanding FaultReason) → HasOutcome log_rules bytes outcome → AreLogOrFaulty bytes
 outcome_told bytes (Whole (ended tag log)) is = inl (tag, log, is)
-outcome_told bytes (Whole start) is = absurd (whole_ends start 1 (lines_of bytes) start is)
-outcome_told bytes (Whole begun) is = absurd (whole_ends start 1 (lines_of bytes) begun is)
-outcome_told bytes (Whole (within tag log)) is = absurd (whole_ends start 1 (lines_of bytes) (within tag log) is)
-outcome_told bytes (Whole (asked tag log heard)) is = absurd (whole_ends start 1 (lines_of bytes) (asked tag log heard) is)
+outcome_told bytes (Whole standing) is = absurd (whole_ends start 1 (lines_of bytes) standing is)
 outcome_told bytes (Faulty number fault) is = inr (number, fault, is)
 
 pub log_or_faulty : MoreKnown → (bytes : List ℕ) → AreLogOrFaulty bytes

@@ -1,5 +1,5 @@
 -- Fields spell a reply, or there is a reason for which they spell none.
-use Rattle.std.proofs.Common.{◌≡◌, ◌≢◌, ◌<◌, ◌^◌, ℕ, List, [], ◌∷◌, refl, inl, inr}
+use Rattle.std.proofs.Common.{◌≡◌, ◌<◌, ◌^◌, ℕ, List, [], ◌∷◌, refl}
 use Rattle.reply_grammar.specs.declared.expected.Reply.{Reply}
 use Rattle.reply_grammar.specs.declared.expected.Reply.TheVariants.{Rn16, Epc, Handle, Words, Header, Error}
 use Rattle.reply_text.specs.ReplyText.{IsReplyBehind, IsReplyForm, replies, reply_name}
@@ -7,24 +7,12 @@ use Rattle.reply_text.specs.declared.kinds.ReplyKind.{ReplyKind}
 use Rattle.reply_text.specs.declared.kinds.ReplyKind.TheVariants as kinds
 use Rattle.reply_text.proofs.ReplyTexts.{replies_are}
 use Rattle.scenario_lines.proofs.Decisions.{Any, Decided, Spelled, behind_decided as then, below_decided, nothing_decided as end, same_answer, text_decided}
-use Rattle.scenario_lines.proofs.FieldsDecided.{tried, word_decided, words_decided}
+use Rattle.scenario_lines.proofs.FieldsDecided.{word_decided, words_decided}
 use Rattle.text_fields.specs.Hexadecimal.{hex_byte, hex_word, hex_words}
 use Rattle.text_fields.specs.WordLists.{IsWordList}
-use Rattle.judge_lines.proofs.VocabularyDecided.{AreDecided}
-
--- no more fields
-abbrev nothing : Unit {0} → List (List ℕ)
-nothing none = []
-
--- one field, and those behind it
-abbrev with : {V W : Type 0} → (V → List ℕ) → (W → List (List ℕ)) → V × W → List (List ℕ)
-with one others value = one value.0 ∷ others value.1
-
-abbrev Both : {V W : Type 0} → (V → Type 0) → (W → Type 0) → V × W → Type 0
-Both May Might value = May value.0 × Might value.1
-
-abbrev IsWord : ℕ → Type 0
-IsWord number = number < 2 ^ 16
+use Rattle.command_grammar.specs.Commands.{IsWord}
+use Rattle.judge_lines.proofs.CommandsDecided.{Both, nothing, with}
+use Rattle.judge_lines.proofs.VocabularyDecided.{Among, AreDecided, here, one_of, there}
 
 abbrev IsByte : ℕ → Type 0
 IsByte number = number < 2 ^ 8
@@ -32,19 +20,9 @@ IsByte number = number < 2 ^ 8
 byte_decided : (field : List ℕ) → Decided (Spelled hex_byte IsByte field)
 byte_decided field = below_decided (λ n. field ≡ hex_byte n) (λ n. text_decided field (hex_byte n)) (2 ^ 8)
 
-no_name : (field : List ℕ) → field ≢ reply_name kinds.Rn16 → field ≢ reply_name kinds.Epc → field ≢ reply_name kinds.Handle → field ≢ reply_name kinds.Words
-    → field ≢ reply_name kinds.Header → field ≢ reply_name kinds.Error → (kind : ReplyKind) → field ≡ reply_name kind → ⊥
-no_name field rn16 epc handle words header error kinds.Rn16 is = rn16 is
-no_name field rn16 epc handle words header error kinds.Epc is = epc is
-no_name field rn16 epc handle words header error kinds.Handle is = handle is
-no_name field rn16 epc handle words header error kinds.Words is = words is
-no_name field rn16 epc handle words header error kinds.Header is = header is
-no_name field rn16 epc handle words header error kinds.Error is = error is
-
-name_decided : (field : List ℕ) → Decided (Spelled reply_name Any field)
-name_decided field =
-    tried kinds.Rn16 tt (λ rn16. tried kinds.Epc tt (λ epc. tried kinds.Handle tt (λ handle. tried kinds.Words tt (λ words.
-    tried kinds.Header tt (λ header. tried kinds.Error tt (λ error. inr (λ found. no_name field rn16 epc handle words header error found.0 found.2)))))))
+a_kind : (kind : ReplyKind) → Among kind (kinds.Rn16 ∷ kinds.Epc ∷ kinds.Handle ∷ kinds.Words ∷ kinds.Header ∷ kinds.Error ∷ [])
+a_kind kinds.Rn16 = here
+a_kind kind = search (here, there) depth 9
 
 -- behind the name of this reply, the fields spell one
 abbrev HasReply : ReplyKind → List (List ℕ) → Type 0
@@ -91,4 +69,4 @@ reply_behind kinds.Error fields =
     same_answer (λ found. (Error found.0.0, record { same_kind = refl; in_range = found.1.0; spelling = found.2 })) (error_there fields) (then byte_decided end fields)
 
 pub replies_decided : AreDecided replies IsReplyForm
-replies_decided = record { is = replies_are; names = name_decided; behind = reply_behind }
+replies_decided = record { is = replies_are; names = one_of reply_name _ a_kind; behind = reply_behind }

@@ -1,5 +1,5 @@
 -- The fields of an answer line say one answer, or are faulty for one reason.
-use Rattle.std.proofs.Common.{◌≡◌, ◌⊎◌, ℕ, Bool, true, false, List, [], ◌∷◌, ap, ap₂, get_or, arith, refl, sym, ◌∙◌, subst, inl, inr}
+use Rattle.std.proofs.Common.{rules, ◌≡◌, ℕ, Bool, true, false, List, [], ◌∷◌, ap, ap₂, get_or, arith, refl, sym, ◌∙◌, subst, inl, inr}
 use Rattle.std.specs.Prelude.{Option, Some, None}
 use Rattle.log_verdicts.specs.Log.{Seen}
 use Rattle.probe_lines.specs.Answers.{preamble_word}
@@ -40,8 +40,7 @@ mark_is false = refl
 marked_told : (one other : Bool) → marked one ≡ marked other → one ≡ other
 marked_told true true same = refl
 marked_told false false same = refl
-marked_told true false same = absurd (cc)
-marked_told false true same = absurd (cc)
+marked_told one other same = absurd (cc)
 
 marked_or_silent : (extended : Bool) → marked extended ≡ Silent → ⊥
 marked_or_silent true same = cc
@@ -111,13 +110,9 @@ seen_not_faulty known others seen fault spells (inr (inr none)) = spelled_some s
 
 -- behind a mark there is one reason
 one_behind : Known → (mark : Answered) (behind : List (List ℕ)) (one other : FieldsFault) → AreFaultyBehindMark mark behind one → AreFaultyBehindMark mark behind other → one ≡ other
-one_behind known Silent behind Word other faulty faulty' = absurd faulty
-one_behind known Silent behind Number other faulty faulty' = absurd faulty
-one_behind known Silent behind Shape Word faulty faulty' = absurd faulty'
-one_behind known Silent behind Shape Number faulty faulty' = absurd faulty'
 one_behind known Silent behind Shape Shape faulty faulty' = refl
-one_behind known Plain behind one other faulty faulty' = known.one_fault behind one other faulty faulty'
-one_behind known Extended behind one other faulty faulty' = known.one_fault behind one other faulty faulty'
+one_behind known Silent behind one other faulty faulty' = absurd (search rules)
+one_behind known mark behind one other faulty faulty' = known.one_fault behind one other faulty faulty'
 
 one_marked : Known → (others : List (List ℕ)) (one other : FieldsFault) → AreMarkedFaulty others one → AreMarkedFaulty others other → one ≡ other
 one_marked known others one other faulty faulty' =

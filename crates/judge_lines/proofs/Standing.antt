@@ -1,5 +1,5 @@
 -- A judge that has heard what is read of a log.
-use Rattle.std.proofs.Common.{◌≡◌, ◌≢◌, ◌≤◌, ◌+◌, ℕ, List, [], ◌∷◌, ◌++◌, arith, refl}
+use Rattle.std.proofs.Common.{◌≡◌, ◌≢◌, ◌+◌, ℕ, List, [], ◌∷◌, ◌++◌, arith, refl}
 use Rattle.std.specs.Prelude.{Some, None}
 use Rattle.command_grammar.specs.declared.commands.Command.{Command}
 use Rattle.log_judge.specs.Answers.{seen_in}

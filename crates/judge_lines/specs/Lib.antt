@@ -4,3 +4,4 @@ pub mod VerdictLine
 pub mod Judged
 pub mod Reading
 pub mod laws
+pub use Rattle.log_judge.specs.Answers

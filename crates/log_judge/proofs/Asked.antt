@@ -3,7 +3,7 @@ use Rattle.std.proofs.Common.{◌≡◌, ℕ, true, is_some, List, Option, Some,
 use Rattle.command_grammar.specs.declared.commands.Command.{Command}
 use Rattle.command_grammar.specs.Commands.{IsLegalCommand}
 use Rattle.tag_machine.specs.Numbers.{numbers_of}
-use Rattle.tag_machine.specs.TagValue.{StateValue, ReadyState, ArbitrateState, ReplyState, AcknowledgedState, OpenState, SecuredState, KilledState, UnpoweredState, TagValue, IsLegalState}
+use Rattle.tag_machine.specs.TagValue.{StateValue, ArbitrateState, ReplyState, AcknowledgedState, OpenState, SecuredState, TagValue, IsLegalState}
 use Rattle.log_verdicts.specs.Log.{Seen}
 use Rattle.log_verdicts.specs.Explaining.{seen_answer_to}
 use Rattle.log_verdicts.specs.laws.Kinds.{HasSmallQ, reworded}
@@ -16,14 +16,12 @@ use Rattle.log_judge.proofs.Moving.{Moves, moves}
 use Rattle.log_judge.proofs.Showing.{excused_lack, want_lacking}
 
 pub legal_small : (state : StateValue) → IsLegalState state → HasSmallQ state
-legal_small ReadyState legal = tt
 legal_small (ArbitrateState session q slot) legal = legal.1
 legal_small (ReplyState session q rn) legal = legal.1
 legal_small (AcknowledgedState session q rn) legal = legal.1
 legal_small (OpenState held) legal = legal.q
 legal_small (SecuredState held) legal = legal.q
-legal_small KilledState legal = tt
-legal_small UnpoweredState legal = tt
+legal_small state legal = tt
 
 -- What is known of a tag looks at none of its words.
 pub known_given : (words : List ℕ) (tag : TagValue) (most : Option ℕ) → known_of (record { state = tag.state; body = reworded words 0 tag.body }) most ≡ known_of tag most

@@ -1,5 +1,5 @@
 -- What stands behind a part of a log, and what becomes of it with an entry more.
-use Rattle.std.proofs.Common.{◌≡◌, ℕ, ◌+◌, List, [], ◌∷◌, ◌++◌, Option, None, refl, sym, ◌∙◌, ap, subst, arith, inl, append_assoc}
+use Rattle.std.proofs.Common.{◌≡◌, ℕ, ◌+◌, List, [], ◌∷◌, ◌++◌, Option, None, refl, sym, subst, arith, inl}
 use Rattle.air_events.specs.declared.Event.{Event}
 use Rattle.command_grammar.specs.declared.commands.Command.{Command}
 use Rattle.log_verdicts.specs.Log.{LogEntry, LoggedTag, Seen, Exchange, Befalls, last_line, line_count, lines_in, tag_with}
@@ -8,7 +8,7 @@ use Rattle.log_verdicts.specs.Verdicts.{FailsFirst, IsVerdict, IsWanted, Verdict
 use Rattle.log_verdicts.specs.laws.Logs.{IsLegalEntry}
 use Rattle.log_verdicts.specs.laws.Known.{Known, want_of}
 use Rattle.log_verdicts.specs.laws.Standing.{StandsBehind}
-use Rattle.log_verdicts.proofs.OneVerdict.{allowed_front, no_stays}
+use Rattle.log_verdicts.proofs.OneVerdict.{allowed_front, goes_on as fails_still, no_stays}
 use Rattle.log_verdicts.proofs.Standing.{allowed_where_stands, fails_on, stands_first, stands_on}
 use Rattle.log_verdicts.proofs.Wants.{wanted}
 use Rattle.log_judge.specs.Answers.{want_in}
@@ -51,20 +51,6 @@ lines_on (first ∷ log) entry = omega (arith, lines_on log entry)
 pub line_on : (log : List LogEntry) (entry : LogEntry) (line : ℕ) → line ≡ last_line log → line + line_count entry ≡ last_line (log ++ entry ∷ [])
 line_on log entry line is = omega (arith, is, lines_on log entry)
 
--- a verdict of a front, and of the whole
-fails_still : (manner : Manner) (tag : LoggedTag) (log : List LogEntry) (entry : LogEntry) (number : ℕ) (want : Want) → FailsFirst manner tag log number want → FailsFirst manner tag (log ++ entry ∷ []) number want
-fails_still manner tag log entry number want first = record {
-  before = first.before;
-  heard = first.heard;
-  seen = first.seen;
-  behind = first.behind ++ entry ∷ [];
-  cut = ap (λ (l : List LogEntry). l ++ entry ∷ []) first.cut ∙ append_assoc first.before (Exchange first.heard first.seen ∷ first.behind) (entry ∷ []);
-  allowed = first.allowed;
-  fails = first.fails;
-  place = first.place;
-  wanted = first.wanted;
-}
-
 module _ (tag : LoggedTag) (log : List LogEntry) (known : Known) (entry : LogEntry) (legal : IsLegalEntry entry) (line : ℕ) (line_is : line ≡ last_line log) (behind : Known) where
   abbrev whole : List LogEntry
   whole = log ++ entry ∷ []
@@ -95,7 +81,7 @@ module _ (tag : LoggedTag) (log : List LogEntry) (known : Known) (entry : LogEnt
         verdict = record {
           unexplained = λ explained. verdict.unexplained (allowed_front ByTables tag log (entry ∷ []) explained);
           excused = allowed_where_stands WithLiberties tag whole behind stands_behind;
-          first = fails_still ByTables tag log entry number want verdict.first;
+          first = fails_still ByTables tag log (entry ∷ []) number want verdict.first;
         };
         stands = stands_behind;
       }
@@ -152,21 +138,19 @@ pub heard_on : (tag : LoggedTag) (log : List LogEntry) (verdict : Verdict) (know
     → HasHeard tag (log ++ Exchange heard seen ∷ []) (record { verdict = verdict_noted verdict shown (line + 2); known = behind; line = line + 2 })
 heard_on tag log Yes known line heard seen shown.Explained behind legal has shows =
     explained_on tag log known (Exchange heard seen) legal line has.line behind has.stands shows
-heard_on tag log (Profile number earlier) known line heard seen shown.Explained behind legal has shows =
-    excused_on tag log known (Exchange heard seen) legal line has.line behind number earlier has.verdict has.stands (goes_with known (Exchange heard seen) behind shows)
-heard_on tag log (No number earlier) known line heard seen shown.Explained behind legal has shows =
-    refused_on tag log known (Exchange heard seen) legal line has.line behind number earlier has.verdict
 heard_on tag log Yes known line heard seen (shown.Excused want) behind legal has shows =
     excused_first tag log known heard seen legal line has.line behind (want_in want) shows.1 has.stands shows.0
-heard_on tag log (Profile number earlier) known line heard seen (shown.Excused want) behind legal has shows =
-    excused_on tag log known (Exchange heard seen) legal line has.line behind number earlier has.verdict has.stands shows.0.goes
-heard_on tag log (No number earlier) known line heard seen (shown.Excused want) behind legal has shows =
-    refused_on tag log known (Exchange heard seen) legal line has.line behind number earlier has.verdict
 heard_on tag log Yes known line heard seen (shown.Refused want) behind legal has shows =
     refused_first tag log known heard seen legal line has.line behind (want_in want) shows.1 has.stands.1 shows.0
+heard_on tag log (Profile number earlier) known line heard seen shown.Explained behind legal has shows =
+    excused_on tag log known (Exchange heard seen) legal line has.line behind number earlier has.verdict has.stands (goes_with known (Exchange heard seen) behind shows)
+heard_on tag log (Profile number earlier) known line heard seen (shown.Excused want) behind legal has shows =
+    excused_on tag log known (Exchange heard seen) legal line has.line behind number earlier has.verdict has.stands shows.0.goes
 heard_on tag log (Profile number earlier) known line heard seen (shown.Refused want) behind legal has shows =
     refused_first tag log known heard seen legal line has.line behind (want_in want) shows.1 has.stands shows.0
-heard_on tag log (No number earlier) known line heard seen (shown.Refused want) behind legal has shows =
+heard_on tag log (No number earlier) known line heard seen (shown.Excused want) behind legal has shows =
+    refused_on tag log known (Exchange heard seen) legal line has.line behind number earlier has.verdict
+heard_on tag log (No number earlier) known line heard seen shown_then behind legal has shows =
     refused_on tag log known (Exchange heard seen) legal line has.line behind number earlier has.verdict
 
 -- an event

@@ -3,7 +3,7 @@ use Rattle.std.proofs.Common.{◌≡◌, ℕ, ◌-◌, ◌%◌, ◌^◌, ◌<◌
 use Rattle.std.proofs.Math.Nat.{mod-eq_of_lt}
 use Rattle.std.proofs.lemmas.Nat.{pow_below}
 use Rattle.std.proofs.lemmas.Bool.Decides.{eqb_tells}
-use Rattle.tag_machine.specs.TagValue.{StateValue, ReadyState, ArbitrateState, ReplyState, AcknowledgedState, OpenState, SecuredState, KilledState, UnpoweredState, BodyValue, TagValue}
+use Rattle.tag_machine.specs.TagValue.{StateValue, ArbitrateState, BodyValue, TagValue}
 use Rattle.tag_machine.specs.Answers.{Outcome, Sent, silent}
 use Rattle.tag_machine.specs.Draws.{enter, slot_of_draw}
 use Rattle.log_verdicts.specs.Log.{Seen}
@@ -18,75 +18,42 @@ use Rattle.log_judge.specs.declared.draws.Draws.TheVariants as draws
 use Rattle.log_judge.specs.Drawing.{has_drawn, slots_behind, want_behind, want_in_turn, want_of_number, want_of_slot, want_of_turn, words_given}
 use Rattle.log_judge.specs.Tracking.{HasFirstSlot, known_of, known_wordless, wordless}
 use Rattle.log_judge.proofs.Fitting.{Fits, IsElsewhere}
-use Rattle.log_judge.proofs.Tests.{so_not}
+use Rattle.log_judge.proofs.Tests.{so_not, some_or_none}
 
 -- the words that are prepared, by what may be drawn
 abbrev pub first_guessed : Draws → Option Seen → ℕ
 first_guessed (draws.Slot session) seen = slot_word seen
-first_guessed (draws.Turn session) seen = number_in seen
-first_guessed draws.Number seen = number_in seen
-first_guessed draws.Nothing seen = number_in seen
+first_guessed it seen = number_in seen
 
 abbrev pub guess_of : Draws → Option Seen → List ℕ
 guess_of drawn seen = first_guessed drawn seen ∷ number_in seen ∷ []
 
 pub same_words : (drawn : Draws) (seen : Seen) → words_given drawn (Some seen) ≡ guess_of drawn (Some seen)
 same_words (draws.Slot session) seen = refl
-same_words (draws.Turn session) seen = refl
-same_words draws.Number seen = refl
-same_words draws.Nothing seen = refl
+same_words drawn seen = refl
 
 -- states in which no slot counts
 pub not_waiting : (drawn : Draws) (state : StateValue) (most : Option ℕ) → waits state ≡ false → slots_behind drawn state most ≡ None
-not_waiting drawn ReadyState most other = refl
 not_waiting drawn (ArbitrateState session q slot) most other = absurd (so_not other)
-not_waiting drawn (ReplyState session q rn) most other = refl
-not_waiting drawn (AcknowledgedState session q rn) most other = refl
-not_waiting drawn (OpenState held) most other = refl
-not_waiting drawn (SecuredState held) most other = refl
-not_waiting drawn KilledState most other = refl
-not_waiting drawn UnpoweredState most other = refl
+not_waiting drawn state most other = refl
 
 -- where no slot is drawn, the largest stays what it was
 pub drawn_elsewhere : (drawn : Draws) (own q slot : ℕ) (body : BodyValue) (most : Option ℕ) → Fits drawn (Settled (silent (ArbitrateState own q slot) body))
     → slots_behind drawn (ArbitrateState own q slot) most ≡ most
 drawn_elsewhere (draws.Slot session) own q slot body most fits = ap (λ (test : Bool). if test then Some (2 ^ q - 1) else most) fits.1
-drawn_elsewhere (draws.Turn session) own q slot body most fits = refl
-drawn_elsewhere draws.Number own q slot body most fits = refl
-drawn_elsewhere draws.Nothing own q slot body most fits = refl
+drawn_elsewhere drawn own q slot body most fits = refl
 
 slots_elsewhere : (session : ℕ) (state : StateValue) → IsElsewhere session state → slots_behind (draws.Slot session) state None ≡ None
-slots_elsewhere session ReadyState other = refl
 slots_elsewhere session (ArbitrateState own q slot) other = ap (λ (test : Bool). if test then Some (2 ^ q - 1) else None) other
-slots_elsewhere session (ReplyState own q rn) other = refl
-slots_elsewhere session (AcknowledgedState own q rn) other = refl
-slots_elsewhere session (OpenState held) other = refl
-slots_elsewhere session (SecuredState held) other = refl
-slots_elsewhere session KilledState other = refl
-slots_elsewhere session UnpoweredState other = refl
+slots_elsewhere session state other = refl
 
 unslotted : (drawn : Draws) (state : StateValue) → ((own q slot : ℕ) → slots_behind drawn (ArbitrateState own q slot) None ≡ None) → slots_behind drawn state None ≡ None
-unslotted drawn ReadyState same = refl
 unslotted drawn (ArbitrateState own q slot) same = same own q slot
-unslotted drawn (ReplyState own q rn) same = refl
-unslotted drawn (AcknowledgedState own q rn) same = refl
-unslotted drawn (OpenState held) same = refl
-unslotted drawn (SecuredState held) same = refl
-unslotted drawn KilledState same = refl
-unslotted drawn UnpoweredState same = refl
+unslotted drawn state same = refl
 
 pub settled_slots : (drawn : Draws) (outcome : Outcome) → Fits drawn (Settled outcome) → slots_behind drawn outcome.tag.state None ≡ None
 settled_slots (draws.Slot session) outcome fits = slots_elsewhere session outcome.tag.state fits.1
-settled_slots (draws.Turn session) outcome fits = unslotted (draws.Turn session) outcome.tag.state (λ own q slot. refl)
-settled_slots draws.Number outcome fits = unslotted draws.Number outcome.tag.state (λ own q slot. refl)
-settled_slots draws.Nothing outcome fits = unslotted draws.Nothing outcome.tag.state (λ own q slot. refl)
-
--- no answer is one
-pub some_or_none : {seen : Seen} → Some seen ≡ None → ⊥
-some_or_none same = absurd (cc)
-
-pub none_or_some : {seen : Seen} → None ≡ Some seen → ⊥
-none_or_some same = absurd (cc)
+settled_slots drawn outcome fits = unslotted drawn outcome.tag.state (λ own q slot. refl)
 
 -- Behind a silence, what was given and what is prepared come to one thing that is known.
 pub record IsBehind (drawn : Draws) (most : Option ℕ) (any : Bool) (mine its : Outcome) : Type 0 where
@@ -163,64 +130,32 @@ mine_of drawn kind seen = outcome_from kind (words_given drawn seen) 0
 abbrev pub its_of : Draws → Kind → Option Seen → Outcome
 its_of drawn kind seen = outcome_from kind (guess_of drawn seen) 0
 
-enters_silent : (drawn : Draws) (own q : ℕ) (body : BodyValue) → Fits drawn (Enters own q body) → q ≤ 15 → StandsIn drawn None true (mine_of drawn (Enters own q body) None) (its_of drawn (Enters own q body) None)
-enters_silent (draws.Slot session) own q body fits small = entered_silent session own body None fits q small
-enters_silent (draws.Turn session) own q body fits small = absurd fits
-enters_silent draws.Number own q body fits small = absurd fits
-enters_silent draws.Nothing own q body fits small = absurd fits
-
-replies_silent : (drawn : Draws) (own q : ℕ) (body : BodyValue) → Fits drawn (Replies own q body) → StandsIn drawn None false (mine_of drawn (Replies own q body) None) (its_of drawn (Replies own q body) None)
-replies_silent (draws.Slot session) own q body fits = absurd fits
-replies_silent (draws.Turn session) own q body fits = record { answers = refl; behind = λ silent_then. absurd (some_or_none silent_then) }
-replies_silent draws.Number own q body fits = absurd fits
-replies_silent draws.Nothing own q body fits = absurd fits
-
-gives_silent : (drawn : Draws) (state : ℕ → StateValue) (body : BodyValue) → Fits drawn (Gives state body) → StandsIn drawn None false (mine_of drawn (Gives state body) None) (its_of drawn (Gives state body) None)
-gives_silent (draws.Slot session) state body fits = absurd fits
-gives_silent (draws.Turn session) state body fits = absurd fits
-gives_silent draws.Number state body fits = record { answers = refl; behind = λ silent_then. absurd (some_or_none silent_then) }
-gives_silent draws.Nothing state body fits = absurd fits
-
 pub silent_kind : (drawn : Draws) (kind : Kind) → Fits drawn kind → KeepsSmallQ kind → StandsIn drawn None (is_enters kind) (mine_of drawn kind None) (its_of drawn kind None)
 silent_kind drawn (Settled outcome) fits small =
     stands_known drawn None false (mine_of drawn (Settled outcome) None) (its_of drawn (Settled outcome) None) refl refl refl (settled_slots drawn outcome fits) refl
-silent_kind drawn (Enters own q body) fits small = enters_silent drawn own q body fits small
-silent_kind drawn (Replies own q body) fits small = replies_silent drawn own q body fits
-silent_kind drawn (Gives state body) fits small = gives_silent drawn state body fits
+silent_kind (draws.Slot session) (Enters own q body) fits small = entered_silent session own body None fits q small
+silent_kind (draws.Turn session) (Replies own q body) fits small = record { answers = refl; behind = λ silent_then. absurd (some_or_none silent_then) }
+silent_kind draws.Number (Gives state body) fits small = record { answers = refl; behind = λ silent_then. absurd (some_or_none silent_then) }
+silent_kind drawn kind fits small = absurd fits
 
 -- Where the tag answered, it waits for no slot that was drawn.
 entered_spoken : (own q number : ℕ) (body : BodyValue) → waits (enter own q (reworded (0 ∷ number ∷ []) 0 body)).tag.state ≡ false
 entered_spoken own q number body =
     ap (λ (o : Outcome). waits o.tag.state) (now_by (0 ∷ number ∷ []) 0 1 0 0 number own q body refl (zero_slot q) refl refl refl)
 
-enters_spoken : (drawn : Draws) (own q : ℕ) (body : BodyValue) (seen : Seen) → Fits drawn (Enters own q body) → waits (mine_of drawn (Enters own q body) (Some seen)).tag.state ≡ false
-enters_spoken (draws.Slot session) own q body seen fits = entered_spoken own q (number_in (Some seen)) body
-enters_spoken (draws.Turn session) own q body seen fits = absurd fits
-enters_spoken draws.Number own q body seen fits = absurd fits
-enters_spoken draws.Nothing own q body seen fits = absurd fits
-
 pub spoken_kind : (drawn : Draws) (kind : Kind) (seen : Seen) → Fits drawn kind → (is_enters kind && waits (mine_of drawn kind (Some seen)).tag.state) ≡ false
-spoken_kind drawn (Settled outcome) seen fits = refl
-spoken_kind drawn (Enters own q body) seen fits = enters_spoken drawn own q body seen fits
-spoken_kind drawn (Replies own q body) seen fits = refl
-spoken_kind drawn (Gives state body) seen fits = refl
+spoken_kind (draws.Slot session) (Enters own q body) seen fits = entered_spoken own q (number_in (Some seen)) body
+spoken_kind drawn (Enters own q body) seen fits = absurd fits
+spoken_kind drawn kind seen fits = refl
 
 -- What had to be answered is told by what these words answer.
 abbrev pub RepliesAt : Option ℕ → Kind → Type 0
-RepliesAt most (Settled outcome) = Unit {0}
-RepliesAt most (Enters own q body) = Unit {0}
 RepliesAt most (Replies own q body) = AnyRn16 ≡ want_in_turn most
-RepliesAt most (Gives state body) = Unit {0}
+RepliesAt most kind = Unit {0}
 
 want_elsewhere : (session : ℕ) (state : StateValue) → IsElsewhere session state → Nothing ≡ want_of_slot session None state
-want_elsewhere session ReadyState other = refl
 want_elsewhere session (ArbitrateState own q slot) other = sym (ap (λ (test : Bool). if test then NothingOrAnyRn16 else Nothing) other)
-want_elsewhere session (ReplyState own q rn) other = refl
-want_elsewhere session (AcknowledgedState own q rn) other = refl
-want_elsewhere session (OpenState held) other = refl
-want_elsewhere session (SecuredState held) other = refl
-want_elsewhere session KilledState other = refl
-want_elsewhere session UnpoweredState other = refl
+want_elsewhere session state other = refl
 
 abbrev WantIs : Draws → Option ℕ → Kind → Outcome → Type 0
 WantIs drawn most kind outcome = want_of_kind kind ≡ want_behind drawn (seen_of outcome.answer) outcome.tag.state most
@@ -261,33 +196,14 @@ module _ (words : List ℕ) (place : ℕ) (most : Option ℕ) where
           ∙ sym (ap (λ (test : Bool). if test then NothingOrAnyRn16 else Nothing) (drew_slot session own slot same some))
           ∙ sym (ap (λ (o : Outcome). want_of_slot session (seen_of o.answer) o.tag.state) (enters_later own q (reworded words place body) some))
 
-  enters_want : (drawn : Draws) (own q : ℕ) (body : BodyValue) → Fits drawn (Enters own q body) → WantIs drawn most (Enters own q body) (outcome_from (Enters own q body) words place)
-  enters_want (draws.Slot session) own q body fits = entered_want session own q body fits
-  enters_want (draws.Turn session) own q body fits = absurd fits
-  enters_want draws.Number own q body fits = absurd fits
-  enters_want draws.Nothing own q body fits = absurd fits
-
-  replies_want : (drawn : Draws) (own q : ℕ) (body : BodyValue) → Fits drawn (Replies own q body) → AnyRn16 ≡ want_in_turn most → WantIs drawn most (Replies own q body) (outcome_from (Replies own q body) words place)
-  replies_want (draws.Slot session) own q body fits at = absurd fits
-  replies_want (draws.Turn session) own q body fits at = at
-  replies_want draws.Number own q body fits at = absurd fits
-  replies_want draws.Nothing own q body fits at = absurd fits
-
-  gives_want : (drawn : Draws) (state : ℕ → StateValue) (body : BodyValue) → Fits drawn (Gives state body) → WantIs drawn most (Gives state body) (outcome_from (Gives state body) words place)
-  gives_want (draws.Slot session) state body fits = absurd fits
-  gives_want (draws.Turn session) state body fits = absurd fits
-  gives_want draws.Number state body fits = refl
-  gives_want draws.Nothing state body fits = absurd fits
-
   pub kind_want : (drawn : Draws) (kind : Kind) → Fits drawn kind → RepliesAt most kind → WantIs drawn most kind (outcome_from kind words place)
   kind_want drawn (Settled outcome) fits at = settled_want drawn outcome fits
-  kind_want drawn (Enters own q body) fits at = enters_want drawn own q body fits
-  kind_want drawn (Replies own q body) fits at = replies_want drawn own q body fits at
-  kind_want drawn (Gives state body) fits at = gives_want drawn state body fits
+  kind_want (draws.Slot session) (Enters own q body) fits at = entered_want session own q body fits
+  kind_want (draws.Turn session) (Replies own q body) fits at = at
+  kind_want draws.Number (Gives state body) fits at = refl
+  kind_want drawn kind fits at = absurd fits
 
 -- ... where the slot is known
 pub replies_so : (kind : Kind) → RepliesAt None kind
-replies_so (Settled outcome) = tt
-replies_so (Enters own q body) = tt
 replies_so (Replies own q body) = refl
-replies_so (Gives state body) = tt
+replies_so kind = tt

@@ -1,5 +1,5 @@
 -- When a tag answers a command that it need not have, and what it is when that is undone.
-use Rattle.std.proofs.Common.{◌≡◌, ◌≢◌, ℕ, ◌==◌, ◌&&◌, Bool, true, false, is_some, is_none, List, Option, Some, None, bit_xor, if◌then◌else◌, refl, sym, ◌∙◌}
+use Rattle.std.proofs.Common.{◌≡◌, ◌≢◌, ℕ, ◌==◌, ◌&&◌, Bool, true, false, is_some, is_none, List, Option, Some, None, bit_xor, if◌then◌else◌, refl, ◌∙◌}
 use Rattle.command_fields.specs.declared.choices.Bank.{Bank}
 use Rattle.command_grammar.specs.declared.commands.Command.{Command}
 use Rattle.command_grammar.specs.declared.commands.Command.TheVariants as commands
@@ -13,7 +13,7 @@ use Rattle.tag_machine.specs.Draws.{back}
 use Rattle.tag_machine.specs.Inventory.{unless_half}
 use Rattle.tag_machine.specs.Numbers.{numbers_of}
 use Rattle.tag_machine.specs.Step.{step}
-use Rattle.tag_machine.specs.TagValue.{StateValue, ReadyState, ArbitrateState, ReplyState, AcknowledgedState, OpenState, SecuredState, KilledState, UnpoweredState, BodyValue, TagValue}
+use Rattle.tag_machine.specs.TagValue.{StateValue, OpenState, SecuredState, BodyValue, TagValue}
 use Rattle.tag_machine.specs.declared.numbers.StateNumbers.{StateNumbers}
 use Rattle.tag_machine.specs.declared.numbers.StateNumbers.TheVariants as numbers
 use Rattle.tag_machine.specs.declared.states.Half.{Half}
@@ -21,8 +21,7 @@ use Rattle.tag_machine.specs.declared.states.Held.{Held}
 use Rattle.tag_machine.specs.declared.states.Password.{Password}
 use Rattle.tag_machine.specs.declared.states.Password.TheVariants as passwords
 use Rattle.log_verdicts.specs.Explaining.{is_optional, seen_of}
-use Rattle.log_judge.proofs.KindsMoved.{some_or_none}
-use Rattle.log_judge.proofs.Tests.{not_so}
+use Rattle.log_judge.proofs.Tests.{no_test, some_or_none}
 use Rattle.log_judge.specs.Optional.{AnswersOptional, answers_held, answers_now, answers_with, takes_cover, takes_half, takes_second}
 
 -- with the handle, or without it
@@ -96,24 +95,11 @@ erase_held levels.Opened bank pointer count rn held body = blocked (OpenState he
 erase_held levels.Secured bank pointer count rn held body = blocked (SecuredState held) rn held body (block_erase_outcome bank pointer count levels.Secured held body) refl
 
 -- whether such a command is answered
-not_optional : {test : Bool} → test ≡ false → test ≡ true → ⊥
-not_optional other is = not_so (sym other ∙ is)
-
 in_held : (level : Level) (command : Command) (held : Held) (body : BodyValue) → is_optional (Some command) ≡ true → is_some (step command (held_state level held) body).answer ≡ answers_held command held (access_word_of body.memory)
-in_held level (commands.QueryRep session) held body optional = absurd (not_optional refl optional)
-in_held level (commands.Ack rn) held body optional = absurd (not_optional refl optional)
-in_held level (commands.Query dr line_code trext sel session target q) held body optional = absurd (not_optional refl optional)
-in_held level (commands.QueryAdjust session updn) held body optional = absurd (not_optional refl optional)
-in_held level (commands.Select target action bank pointer mask) held body optional = absurd (not_optional refl optional)
-in_held level commands.Nak held body optional = absurd (not_optional refl optional)
-in_held level (commands.ReqRn rn) held body optional = absurd (not_optional refl optional)
-in_held level (commands.Read bank pointer count rn) held body optional = absurd (not_optional refl optional)
-in_held level (commands.Write bank pointer covered rn) held body optional = absurd (not_optional refl optional)
-in_held level (commands.Kill covered rn) held body optional = absurd (not_optional refl optional)
-in_held level (commands.Lock payload rn) held body optional = absurd (not_optional refl optional)
 in_held level (commands.Access covered rn) held body optional = access_held level covered rn held body
 in_held level (commands.BlockWrite bank pointer words rn) held body optional = write_held level bank pointer words rn held body
 in_held level (commands.BlockErase bank pointer count rn) held body optional = erase_held level bank pointer count rn held body
+in_held level command held body optional = absurd (no_test refl optional)
 
 -- elsewhere there is no answer
 abbrev SilentElsewhere : Command → StateValue → Type 0
@@ -122,62 +108,33 @@ SilentElsewhere command state = (body : BodyValue) → is_some (step command sta
 module _ (state : StateValue) (access : (covered rn : ℕ) → SilentElsewhere (commands.Access covered rn) state) (write : (bank : Bank) (pointer : ℕ) (words : List ℕ) (rn : ℕ) → SilentElsewhere (commands.BlockWrite bank pointer words rn) state)
     (erase : (bank : Bank) (pointer count rn : ℕ) → SilentElsewhere (commands.BlockErase bank pointer count rn) state) where
   elsewhere : (command : Command) → is_optional (Some command) ≡ true → SilentElsewhere command state
-  elsewhere (commands.QueryRep session) optional = absurd (not_optional refl optional)
-  elsewhere (commands.Ack rn) optional = absurd (not_optional refl optional)
-  elsewhere (commands.Query dr line_code trext sel session target q) optional = absurd (not_optional refl optional)
-  elsewhere (commands.QueryAdjust session updn) optional = absurd (not_optional refl optional)
-  elsewhere (commands.Select target action bank pointer mask) optional = absurd (not_optional refl optional)
-  elsewhere commands.Nak optional = absurd (not_optional refl optional)
-  elsewhere (commands.ReqRn rn) optional = absurd (not_optional refl optional)
-  elsewhere (commands.Read bank pointer count rn) optional = absurd (not_optional refl optional)
-  elsewhere (commands.Write bank pointer covered rn) optional = absurd (not_optional refl optional)
-  elsewhere (commands.Kill covered rn) optional = absurd (not_optional refl optional)
-  elsewhere (commands.Lock payload rn) optional = absurd (not_optional refl optional)
   elsewhere (commands.Access covered rn) optional = access covered rn
   elsewhere (commands.BlockWrite bank pointer words rn) optional = write bank pointer words rn
   elsewhere (commands.BlockErase bank pointer count rn) optional = erase bank pointer count rn
+  elsewhere command optional = absurd (no_test refl optional)
 
 in_state : (command : Command) (state : StateValue) (body : BodyValue) → is_optional (Some command) ≡ true → is_some (step command state body).answer ≡ answers_with command (numbers_of state) (access_word_of body.memory)
-in_state command ReadyState body optional = elsewhere ReadyState (λ covered rn b. refl) (λ bank pointer words rn b. refl) (λ bank pointer count rn b. refl) command optional body
-in_state command (ArbitrateState session q slot) body optional =
-    elsewhere (ArbitrateState session q slot) (λ covered rn b. refl) (λ bank pointer words rn b. refl) (λ bank pointer count rn b. refl) command optional body
-in_state command (ReplyState session q rn) body optional = elsewhere (ReplyState session q rn) (λ covered rn b. refl) (λ bank pointer words rn b. refl) (λ bank pointer count rn b. refl) command optional body
-in_state command (AcknowledgedState session q rn) body optional =
-    elsewhere (AcknowledgedState session q rn) (λ covered rn b. refl) (λ bank pointer words rn b. refl) (λ bank pointer count rn b. refl) command optional body
 in_state command (OpenState held) body optional = in_held levels.Opened command held body optional
 in_state command (SecuredState held) body optional = in_held levels.Secured command held body optional
-in_state command KilledState body optional = elsewhere KilledState (λ covered rn b. refl) (λ bank pointer words rn b. refl) (λ bank pointer count rn b. refl) command optional body
-in_state command UnpoweredState body optional = elsewhere UnpoweredState (λ covered rn b. refl) (λ bank pointer words rn b. refl) (λ bank pointer count rn b. refl) command optional body
+in_state command state body optional = elsewhere state (λ covered rn b. refl) (λ bank pointer words rn b. refl) (λ bank pointer count rn b. refl) command optional body
 
 held_optional : (command : Command) (held : Held) (password : ℕ) → answers_held command held password ≡ true → is_optional (Some command) ≡ true
-held_optional (commands.QueryRep session) held password is = absurd (not_optional refl is)
-held_optional (commands.Ack rn) held password is = absurd (not_optional refl is)
-held_optional (commands.Query dr line_code trext sel session target q) held password is = absurd (not_optional refl is)
-held_optional (commands.QueryAdjust session updn) held password is = absurd (not_optional refl is)
-held_optional (commands.Select target action bank pointer mask) held password is = absurd (not_optional refl is)
-held_optional commands.Nak held password is = absurd (not_optional refl is)
-held_optional (commands.ReqRn rn) held password is = absurd (not_optional refl is)
-held_optional (commands.Read bank pointer count rn) held password is = absurd (not_optional refl is)
-held_optional (commands.Write bank pointer covered rn) held password is = absurd (not_optional refl is)
-held_optional (commands.Kill covered rn) held password is = absurd (not_optional refl is)
-held_optional (commands.Lock payload rn) held password is = absurd (not_optional refl is)
 held_optional (commands.Access covered rn) held password is = refl
 held_optional (commands.BlockWrite bank pointer words rn) held password is = refl
 held_optional (commands.BlockErase bank pointer count rn) held password is = refl
+held_optional command held password is = absurd (no_test refl is)
 
 with_optional : (command : Command) (it : StateNumbers) (password : ℕ) → answers_with command it password ≡ true → is_optional (Some command) ≡ true
-with_optional command numbers.None password is = absurd (not_optional refl is)
-with_optional command (numbers.Waiting session q slot) password is = absurd (not_optional refl is)
-with_optional command (numbers.Replied session q rn) password is = absurd (not_optional refl is)
 with_optional command (numbers.Held held) password is = held_optional command held password is
+with_optional command it password is = absurd (no_test refl is)
 
 some_seen : (answer : Option Sent) → is_some answer ≡ true → seen_of answer ≢ None
-some_seen None is = absurd (not_optional refl is)
+some_seen None is = absurd (no_test refl is)
 some_seen (Some sent) is = λ wrong. some_or_none wrong
 
 none_seen : (answer : Option Sent) → is_some answer ≡ false → seen_of answer ≡ None
 none_seen None is = refl
-none_seen (Some sent) is = absurd (not_optional is refl)
+none_seen (Some sent) is = absurd (no_test is refl)
 
 pub answers_so : (command : Command) (tag : TagValue) → answers_now command tag ≡ true → AnswersOptional command tag
 answers_so command tag is =

@@ -14,7 +14,7 @@ use Rattle.tag_machine.specs.declared.numbers.StateNumbers.{StateNumbers}
 use Rattle.log_verdicts.specs.Log.{Seen, Exchange}
 use Rattle.log_verdicts.specs.Explaining.{ByTables, outcome_of_heard, seen_of}
 use Rattle.log_verdicts.specs.laws.Logs.{IsLegalHeard}
-use Rattle.log_verdicts.specs.laws.Kinds.{Kind, Settled, Enters, Replies, Gives, Move, Stays, Leaves, Counts, outcome_from, reworded, count_kind, kind_at, kind_of, move_of, HasSmallQ, KeepsSmallQ}
+use Rattle.log_verdicts.specs.laws.Kinds.{Kind, Settled, Enters, Replies, Move, Stays, Leaves, Counts, outcome_from, reworded, count_kind, kind_at, kind_of, move_of, HasSmallQ, KeepsSmallQ}
 use Rattle.log_verdicts.specs.laws.Known.{Known, any_behind, draws_slot, guessed, is_enters, prepared, waits, want_of, want_of_move}
 use Rattle.log_verdicts.proofs.KindsOfSteps.{of_kind, of_move}
 use Rattle.log_verdicts.proofs.Guesses.{not_zero}
@@ -25,25 +25,13 @@ use Rattle.log_judge.specs.declared.draws.Draws.TheVariants as draws
 use Rattle.log_judge.specs.Drawing.{draws_at, fallen, slots_behind, want_behind, words_given}
 use Rattle.log_judge.specs.Tracking.{Goes, HasFirstSlot, known_of, known_wordless, wordless}
 use Rattle.log_judge.proofs.Fitting.{Fits, fits, same_number}
-use Rattle.log_judge.proofs.Tests.{and_left, and_right, not_so, not_true, nothing_seen}
-use Rattle.log_judge.proofs.KindsMoved.{RepliesAt, StandsIn, drawn_elsewhere, guess_of, its_of, kind_want, mine_of, none_or_some, not_waiting, replies_so, same_words, silent_kind, some_or_none, spoken_kind, stands_known, entered_silent}
+use Rattle.log_judge.proofs.Tests.{one_number, no_test, none_or_some, some_or_none, and_left, and_right, not_true, nothing_seen}
+use Rattle.log_judge.proofs.KindsMoved.{RepliesAt, StandsIn, drawn_elsewhere, guess_of, its_of, kind_want, mine_of, not_waiting, replies_so, same_words, silent_kind, spoken_kind, stands_known, entered_silent}
 
 -- the words that are prepared
 guessed_are : (command : Command) (seen : Option Seen) → guessed (Some command) seen ≡ guess_of (draws_at command) seen
 guessed_are (commands.QueryRep session) seen = refl
-guessed_are (commands.Ack rn) seen = refl
-guessed_are (commands.Query dr line_code trext sel session target q) seen = refl
-guessed_are (commands.QueryAdjust session updn) seen = refl
-guessed_are (commands.Select target action bank pointer mask) seen = refl
-guessed_are commands.Nak seen = refl
-guessed_are (commands.ReqRn rn) seen = refl
-guessed_are (commands.Read bank pointer count rn) seen = refl
-guessed_are (commands.Write bank pointer covered rn) seen = refl
-guessed_are (commands.Kill covered rn) seen = refl
-guessed_are (commands.Lock payload rn) seen = refl
-guessed_are (commands.Access covered rn) seen = refl
-guessed_are (commands.BlockWrite bank pointer words rn) seen = refl
-guessed_are (commands.BlockErase bank pointer count rn) seen = refl
+guessed_are command seen = refl
 
 -- a tag that is given words, and hears the command
 abbrev pub heard_by : Command → TagValue → Option Seen → Outcome
@@ -61,9 +49,8 @@ next_by command tag most seen = record { tag = (prepared_by command tag most see
 
 -- the slot counter falls from 1 alone
 abbrev pub CountsFromOneOf : ℕ → Move → Type 0
-CountsFromOneOf m Stays = Unit {0}
-CountsFromOneOf m (Leaves kind) = Unit {0}
 CountsFromOneOf m (Counts session) = m ≡ 1
+CountsFromOneOf m move = Unit {0}
 
 -- what an exchange without an answer makes of what is known, and one with an answer
 pub record Moves (command : Command) (tag : TagValue) (most : Option ℕ) (seen : Option Seen) : Type 0 where
@@ -173,11 +160,8 @@ module _ (command : Command) (legal : IsLegalHeard (Some command)) where
       where
         by : (it : Draws) → Fits it (Enters own new_q after) → StandsIn it (Some m) true (mine_of it (Enters own new_q after) None) (its_of it (Enters own new_q after) None)
         by (draws.Slot of_session) fit = entered_silent of_session own after (Some m) fit new_q good.small
-        by (draws.Turn of_session) fit = absurd fit
-        by draws.Number fit = absurd fit
-        by draws.Nothing fit = absurd fit
-    leaves_silent (Replies own new_q after) fit good = absurd good.so
-    leaves_silent (Gives state after) fit good = absurd good.so
+        by it fit = absurd fit
+    leaves_silent it fit good = absurd good.so
 
     silent_in : (it : Move) → ((slot : ℕ) → Fits drawn (kind_in it slot)) → IsGoodMove (draws_slot (Some command)) it → CountsFromOne it
         → StandsIn drawn (Some m) true (mine_of drawn (kind_in it 1) None) (its_of drawn (kind_in it m) None)
@@ -194,12 +178,10 @@ module _ (command : Command) (legal : IsLegalHeard (Some command)) where
     silent_in (Counts other) fit good from = by drawn (fit 1)
       where
         by : (it : Draws) → Fits it (Replies other q (reworded [] 0 body)) → StandsIn it (Some m) true (mine_of it (Replies other q (reworded [] 0 body)) None) (its_of it (count_kind other q m (reworded [] 0 body)) None)
-        by (draws.Slot of_session) fit = absurd fit
         by (draws.Turn of_session) fit =
             subst (λ (n : ℕ). StandsIn (draws.Turn of_session) (Some m) true (mine_of (draws.Turn of_session) (Replies other q (reworded [] 0 body)) None) (its_of (draws.Turn of_session) (count_kind other q n (reworded [] 0 body)) None)) (sym from)
             (record { answers = refl; behind = λ silent_then. absurd (some_or_none silent_then) })
-        by draws.Number fit = absurd fit
-        by draws.Nothing fit = absurd fit
+        by it fit = absurd fit
 
     -- ... and an answer
     same_in : (seen : Seen) → prepared_by command tag_in (Some m) (Some seen) ≡ heard_by command tag_in (Some seen)
@@ -211,8 +193,7 @@ module _ (command : Command) (legal : IsLegalHeard (Some command)) where
     spoken_in Stays seen answer fit good answered = absurd (none_or_some answered)
     spoken_in (Leaves (Settled outcome)) seen answer fit good answered = good.so.0
     spoken_in (Leaves (Enters own new_q after)) seen answer fit good answered = spoken_kind drawn (Enters own new_q after) seen fit
-    spoken_in (Leaves (Replies own new_q after)) seen answer fit good answered = absurd good.so
-    spoken_in (Leaves (Gives state after)) seen answer fit good answered = absurd good.so
+    spoken_in (Leaves it) seen answer fit good answered = absurd good.so
     spoken_in (Counts other) seen answer fit good answered = refl
 
     want_in : (it : Move) (seen : Option Seen) → Fits drawn (kind_in it 1) → IsGoodMove (draws_slot (Some command)) it
@@ -221,18 +202,14 @@ module _ (command : Command) (legal : IsLegalHeard (Some command)) where
     want_in (Leaves it) seen fit good = kind_want (words_given drawn seen) 0 (Some m) drawn it fit (at it good.so)
       where
         at : (k : Kind) → LeavesSo k → RepliesAt (Some m) k
-        at (Settled outcome) so = tt
-        at (Enters own new_q after) so = tt
         at (Replies own new_q after) so = absurd so
-        at (Gives state after) so = tt
+        at k so = tt
     want_in (Counts other) seen fit good = by drawn fit
       where
         by : (it : Draws) → Fits it (Replies other q (reworded [] 0 body))
             → want_of_move (Counts other) m ≡ want_behind it (seen_of (mine_of it (Replies other q (reworded [] 0 body)) seen).answer) (mine_of it (Replies other q (reworded [] 0 body)) seen).tag.state (Some m)
-        by (draws.Slot of_session) fit = absurd fit
         by (draws.Turn of_session) fit = refl
-        by draws.Number fit = absurd fit
-        by draws.Nothing fit = absurd fit
+        by it fit = absurd fit
 
     abbrev any_in : Option Seen → Bool
     any_in seen = any_by command tag_in (Some m) seen
@@ -290,42 +267,22 @@ module _ (session q less : ℕ) (body : BodyValue) (some : 1 ≤ less) where
   }
 
 abbrev turn_in : Draws → ℕ
-turn_in (draws.Slot session) = 0
 turn_in (draws.Turn session) = session
-turn_in draws.Number = 0
-turn_in draws.Nothing = 0
+turn_in it = 0
 
 abbrev is_turn : Draws → Bool
-is_turn (draws.Slot session) = false
 is_turn (draws.Turn session) = true
-is_turn draws.Number = false
-is_turn draws.Nothing = false
+is_turn it = false
 
 no_turn : (it : Draws) (session : ℕ) → is_turn it ≡ false → it ≡ draws.Turn session → ⊥
-no_turn it session other is = not_so (sym other ∙ ap is_turn is)
+no_turn it session other is = no_test other (ap is_turn is)
 
 rep_of : (command : Command) (session : ℕ) → draws_at command ≡ draws.Turn session → command ≡ commands.QueryRep session
 rep_of (commands.QueryRep other) session is = ap (λ (n : ℕ). commands.QueryRep n) (ap turn_in is)
-rep_of (commands.Ack rn) session is = absurd (no_turn draws.Nothing session refl is)
 rep_of (commands.Query dr line_code trext sel other target q) session is = absurd (no_turn (draws.Slot other) session refl is)
 rep_of (commands.QueryAdjust other updn) session is = absurd (no_turn (draws.Slot other) session refl is)
-rep_of (commands.Select target action bank pointer mask) session is = absurd (no_turn draws.Nothing session refl is)
-rep_of commands.Nak session is = absurd (no_turn draws.Nothing session refl is)
 rep_of (commands.ReqRn rn) session is = absurd (no_turn draws.Number session refl is)
-rep_of (commands.Read bank pointer count rn) session is = absurd (no_turn draws.Nothing session refl is)
-rep_of (commands.Write bank pointer covered rn) session is = absurd (no_turn draws.Nothing session refl is)
-rep_of (commands.Kill covered rn) session is = absurd (no_turn draws.Nothing session refl is)
-rep_of (commands.Lock payload rn) session is = absurd (no_turn draws.Nothing session refl is)
-rep_of (commands.Access covered rn) session is = absurd (no_turn draws.Nothing session refl is)
-rep_of (commands.BlockWrite bank pointer words rn) session is = absurd (no_turn draws.Nothing session refl is)
-rep_of (commands.BlockErase bank pointer count rn) session is = absurd (no_turn draws.Nothing session refl is)
-
-one_session : (own session : ℕ) → (own == session) ≡ true → own ≡ session
-one_session own session same =
-    elim (eqb_tells own session) [
-      | inl w ↦ w.1
-      | inr w ↦ absurd (not_so (sym w.0 ∙ same))
-    ]
+rep_of command session is = absurd (no_turn draws.Nothing session refl is)
 
 abbrev number_or : ℕ → Option ℕ → ℕ
 number_or default None = default
@@ -333,9 +290,6 @@ number_or default (Some n) = n
 
 some_number : (a b : ℕ) → Some a ≡ Some b → a ≡ b
 some_number a b same = ap (λ (o : Option ℕ). number_or a o) same
-
-no_number : {a : ℕ} → None ≡ Some a → ⊥
-no_number same = absurd (cc)
 
 -- the slot counter falls to this
 pub record FallsSo (command : Command) (tag : TagValue) (most : Option ℕ) (seen : Option Seen) (less : ℕ) : Type 0 where
@@ -359,7 +313,7 @@ module _ (command : Command) (seen : Option Seen) (session q m : ℕ) (body : Bo
   falls_at : (other less : ℕ) → draws_at command ≡ draws.Turn other → test_in other ≡ true → m - 1 ≡ less → FallsSo command tag_here (Some m) seen less
   falls_at other less is test sum =
       let both = and_left (session == other && not (is_some seen)) (nat_lt 1 m) test in
-      let same = one_session session other (and_left (session == other) (not (is_some seen)) both) in
+      let same = one_number session other (and_left (session == other) (not (is_some seen)) both) in
       let silent_then = nothing_seen seen (not_true (is_some seen) (and_right (session == other) (not (is_some seen)) both)) in
       let two : 1 < m = ltb-true 1 m (and_right (session == other && not (is_some seen)) (nat_lt 1 m) test) in
       let whole : less + 1 ≡ m = omega (arith, two, sum) in
@@ -367,24 +321,20 @@ module _ (command : Command) (seen : Option Seen) (session q m : ℕ) (body : Bo
       (falls_from session q less command seen body (omega (arith, two, sum)) (rep_of command session (is ∙ ap (λ (n : ℕ). draws.Turn n) (sym same))) silent_then)
 
   falls_by : (drawn : Draws) (less : ℕ) → draws_at command ≡ drawn → fallen drawn (is_some seen) (numbers_of (ArbitrateState session q 1)) (Some m) ≡ Some less → FallsSo command tag_here (Some m) seen less
-  falls_by (draws.Slot other) less is to = absurd (no_number to)
   falls_by (draws.Turn other) less is to = by (test_in other) refl to
     where
       by : (test : Bool) → test_in other ≡ test → (if test then Some (m - 1) else None) ≡ Some less → FallsSo command tag_here (Some m) seen less
       by true test to = falls_at other less is test (some_number (m - 1) less to)
-      by false test to = absurd (no_number to)
-  falls_by draws.Number less is to = absurd (no_number to)
-  falls_by draws.Nothing less is to = absurd (no_number to)
+      by false test to = absurd (none_or_some to)
+  falls_by it less is to = absurd (none_or_some to)
 
 none_fallen : (drawn : Draws) (answered : Bool) (held_numbers : StateNumbers) → fallen drawn answered held_numbers None ≡ None
 none_fallen (draws.Slot session) answered held_numbers = refl
-none_fallen (draws.Turn session) answered held_numbers = refl
-none_fallen draws.Number answered held_numbers = refl
-none_fallen draws.Nothing answered held_numbers = refl
+none_fallen it answered held_numbers = refl
 
 pub falls : (command : Command) (tag : TagValue) (most : Option ℕ) (seen : Option Seen) (less : ℕ) → HasFirstSlot most tag.state → fallen (draws_at command) (is_some seen) (numbers_of tag.state) most ≡ Some less
     → FallsSo command tag most seen less
-falls command tag None seen less first to = absurd (no_number (sym (none_fallen (draws_at command) (is_some seen) (numbers_of tag.state)) ∙ to))
+falls command tag None seen less first to = absurd (none_or_some (sym (none_fallen (draws_at command) (is_some seen) (numbers_of tag.state)) ∙ to))
 falls command tag (Some m) seen less first to =
     subst (λ (s : StateValue). FallsSo command (record { state = s; body = tag.body }) (Some m) seen less) (sym first.is)
     (falls_by command seen first.session first.q m tag.body (draws_at command) less refl
@@ -408,7 +358,7 @@ module _ (session q m : ℕ) (body : BodyValue) (least : 1 ≤ m) where
             let two : 1 < m = omega (arith, w.1, least) in
             let falls_now : fallen (draws.Turn other) false (numbers_of (ArbitrateState session q 1)) (Some m) ≡ Some (m - 1)
             = ap (λ (test : Bool). if test && true && nat_lt 1 m then Some (m - 1) else None) same ∙ ap (λ (test : Bool). if test then Some (m - 1) else None) (lt-ltb 1 m two) in
-            absurd (no_number (sym lasts ∙ falls_now))
+            absurd (none_or_some (sym lasts ∙ falls_now))
       ]
 
   pub counts_from_one : (command : Command) (seen : Option Seen) → fallen (draws_at command) (is_some seen) (numbers_of (ArbitrateState session q 1)) (Some m) ≡ None → seen ≡ None
@@ -416,19 +366,8 @@ module _ (session q m : ℕ) (body : BodyValue) (least : 1 ≤ m) where
   counts_from_one (commands.QueryRep other) seen lasts silent_then =
       from_one (session == other) other (λ same.
       rep_lasts other same (sym (ap (λ (s : Option Seen). fallen (draws.Turn other) (is_some s) (numbers_of (ArbitrateState session q 1)) (Some m)) silent_then) ∙ lasts))
-  counts_from_one (commands.Ack rn) seen lasts silent_then = tt
-  counts_from_one (commands.Query dr line_code trext sel other target new_q) seen lasts silent_then = tt
   counts_from_one (commands.QueryAdjust other updn) seen lasts silent_then = either_leaves (session == other) (Enters other (q_after_adjust updn q) body)
-  counts_from_one (commands.Select target action bank pointer mask) seen lasts silent_then = tt
-  counts_from_one commands.Nak seen lasts silent_then = tt
-  counts_from_one (commands.ReqRn rn) seen lasts silent_then = tt
-  counts_from_one (commands.Read bank pointer count rn) seen lasts silent_then = tt
-  counts_from_one (commands.Write bank pointer covered rn) seen lasts silent_then = tt
-  counts_from_one (commands.Kill covered rn) seen lasts silent_then = tt
-  counts_from_one (commands.Lock payload rn) seen lasts silent_then = tt
-  counts_from_one (commands.Access covered rn) seen lasts silent_then = tt
-  counts_from_one (commands.BlockWrite bank pointer words rn) seen lasts silent_then = tt
-  counts_from_one (commands.BlockErase bank pointer count rn) seen lasts silent_then = tt
+  counts_from_one command seen lasts silent_then = tt
 
 -- of a tag in any state
 pub moves : (command : Command) (tag : TagValue) (most : Option ℕ) (seen : Option Seen) → IsLegalHeard (Some command) → HasSmallQ tag.state → HasFirstSlot most tag.state

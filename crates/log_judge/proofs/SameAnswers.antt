@@ -1,28 +1,27 @@
 -- When two answers are one, and when they are errors with two codes.
 use Rattle.std.proofs.Common.{◌≡◌, ◌≢◌, ℕ, Bool, true, false, Option, Some, None, if◌then◌else◌, refl, sym, ◌∙◌, ap}
 use Rattle.reply_grammar.specs.declared.expected.Reply.{Reply}
-use Rattle.reply_grammar.specs.declared.expected.Reply.TheVariants.{Rn16, Epc, Handle, Words, Header, Error}
+use Rattle.reply_grammar.specs.declared.expected.Reply.TheVariants.{Error}
 use Rattle.tag_machine.specs.declared.any_tag.Answered.{Answered}
 use Rattle.tag_machine.specs.declared.any_tag.Answered.TheVariants.{Silent, Plain, Extended}
 use Rattle.log_verdicts.specs.Log.{Seen}
 use Rattle.log_verdicts.specs.Explaining.{IsOtherError}
 use Rattle.log_judge.specs.Answers.{code_in, code_of_reply, seen_in, seen_marked}
 use Rattle.log_judge.specs.declared.answer.Answer.{Answer}
-use Rattle.log_judge.proofs.KindsMoved.{some_or_none}
+use Rattle.log_judge.proofs.Tests.{none_or_some, some_or_none}
 
 -- the mark and the reply of what was seen
 abbrev mark_in : Option Seen → Answered
 mark_in None = Silent
 mark_in (Some seen) = (if seen.extended then Extended else Plain)
 
-abbrev reply_in : Reply → Option Seen → Reply
+abbrev pub reply_in : Reply → Option Seen → Reply
 reply_in default None = default
 reply_in default (Some seen) = seen.reply
 
 mark_told : (answered : Answered) (reply : Reply) → mark_in (seen_marked answered reply) ≡ answered
 mark_told Silent reply = refl
-mark_told Plain reply = refl
-mark_told Extended reply = refl
+mark_told answered reply = refl
 
 pub marks_same : (one other : Answer) → seen_in one ≡ seen_in other → one.answered ≡ other.answered
 marks_same one other same = sym (mark_told one.answered one.reply) ∙ ap mark_in same ∙ mark_told other.answered other.reply
@@ -30,11 +29,8 @@ marks_same one other same = sym (mark_told one.answered one.reply) ∙ ap mark_i
 replies_of : (a : Answered) (r : Reply) (b : Answered) (s : Reply) → a ≢ Silent → seen_marked a r ≡ seen_marked b s → r ≡ s
 replies_of Silent r b s heard same = absurd (heard refl)
 replies_of Plain r Silent s heard same = absurd (some_or_none same)
-replies_of Plain r Plain s heard same = ap (reply_in r) same
-replies_of Plain r Extended s heard same = ap (reply_in r) same
 replies_of Extended r Silent s heard same = absurd (some_or_none same)
-replies_of Extended r Plain s heard same = ap (reply_in r) same
-replies_of Extended r Extended s heard same = ap (reply_in r) same
+replies_of a r b s heard same = ap (reply_in r) same
 
 pub replies_same : (one other : Answer) → one.answered ≢ Silent → seen_in one ≡ seen_in other → one.reply ≡ other.reply
 replies_same one other heard same = replies_of one.answered one.reply other.answered other.reply heard same
@@ -47,27 +43,20 @@ same_silence one other marks silent_then =
     ap (λ (a : Answered). seen_marked a one.reply) silent_then ∙ sym (ap (λ (a : Answered). seen_marked a other.reply) (sym marks ∙ silent_then))
 
 -- errors
-no_code : {code : ℕ} → None ≡ Some code → ⊥
-no_code same = absurd (cc)
-
 abbrev number_or : ℕ → Option ℕ → ℕ
 number_or default None = default
 number_or default (Some n) = n
 
 is_error : (reply : Reply) (code : ℕ) → code_of_reply reply ≡ Some code → reply ≡ Error code
-is_error (Rn16 number) code is = absurd (no_code is)
-is_error (Epc pc epc) code is = absurd (no_code is)
-is_error (Handle number) code is = absurd (no_code is)
-is_error (Words words) code is = absurd (no_code is)
-is_error Header code is = absurd (no_code is)
 is_error (Error other) code is = ap (λ (n : Option ℕ). Error (number_or other n)) is
+is_error reply code is = absurd (none_or_some is)
 
 pub record IsError (answer : Option Seen) (code : ℕ) : Type 0 where
   pub extended : Bool
   pub is : answer ≡ Some (record { reply = Error code; extended = extended })
 
 pub error_told : (answer : Option Seen) (code : ℕ) → code_in answer ≡ Some code → IsError answer code
-error_told None code is = absurd (no_code is)
+error_told None code is = absurd (none_or_some is)
 error_told (Some seen) code is = record { extended = seen.extended; is = ap (λ (r : Reply). let it : Option Seen = Some (record { reply = r; extended = seen.extended }) in it) (is_error seen.reply code is) }
 
 abbrev extended_in : Option Seen → Bool
@@ -81,8 +70,7 @@ is_extended Extended = true
 
 extended_told : (answered : Answered) (reply : Reply) → extended_in (seen_marked answered reply) ≡ is_extended answered
 extended_told Silent reply = refl
-extended_told Plain reply = refl
-extended_told Extended reply = refl
+extended_told answered reply = refl
 
 pub other_error : (one other : Answer) (code wrong : ℕ) → code_in (seen_in one) ≡ Some code → code_in (seen_in other) ≡ Some wrong → one.answered ≡ other.answered → wrong ≢ code → IsOtherError (seen_in one) (seen_in other)
 other_error one other code wrong is said marks apart =

@@ -1,10 +1,10 @@
 -- What an exchange and an event show of what is known.
-use Rattle.std.proofs.Common.{◌≡◌, ◌≢◌, ℕ, ◌≤◌, Bool, true, false, List, [], Option, Some, None, refl, sym, ◌∙◌, ap, subst, inl, inr}
+use Rattle.std.proofs.Common.{◌≡◌, ◌≢◌, ℕ, ◌≤◌, true, false, List, [], Option, Some, None, refl, sym, ◌∙◌, ap, subst, inl, inr}
 use Rattle.air_events.specs.declared.Event.{Event}
 use Rattle.air_events.specs.declared.Event.TheVariants as events
 use Rattle.command_grammar.specs.declared.commands.Command.{Command}
 use Rattle.command_grammar.specs.declared.commands.Command.TheVariants as commands
-use Rattle.tag_machine.specs.TagValue.{StateValue, ReadyState, ArbitrateState, ReplyState, AcknowledgedState, OpenState, SecuredState, KilledState, UnpoweredState, BodyValue, TagValue}
+use Rattle.tag_machine.specs.TagValue.{StateValue, ReadyState, ArbitrateState, BodyValue, TagValue}
 use Rattle.tag_machine.specs.Answers.{Outcome}
 use Rattle.tag_machine.specs.Events.{tag_after_event}
 use Rattle.tag_machine.specs.Step.{step}
@@ -17,8 +17,7 @@ use Rattle.log_judge.specs.declared.draws.Draws.TheVariants as draws
 use Rattle.log_judge.specs.Drawing.{draws_at, slots_behind, want_behind, words_given}
 use Rattle.log_judge.specs.Optional.{AnswersOptional}
 use Rattle.log_judge.specs.Tracking.{Goes, HasFirstSlot, IsExcusedHere, LacksHere, MayGo, known_of, known_wordless, wordless}
-use Rattle.log_judge.proofs.KindsMoved.{none_or_some}
-use Rattle.log_judge.proofs.Tests.{not_so}
+use Rattle.log_judge.proofs.Tests.{no_test, none_or_some}
 use Rattle.log_judge.proofs.Moving.{Moves, heard_by, next_by, prepared_by}
 
 -- a tag that was given its words
@@ -83,24 +82,9 @@ module _ (command : Command) (tag : TagValue) (most : Option ℕ) (seen : Option
   want_is = sym moves.want
 
 -- A command that a tag need not have draws nothing, and a tag in arbitrate doesn't answer it.
-not_optional : {test : Bool} → test ≡ false → test ≡ true → ⊥
-not_optional other is = not_so (sym other ∙ is)
-
 pub draws_nothing : (command : Command) → is_optional (Some command) ≡ true → draws_at command ≡ draws.Nothing
-draws_nothing (commands.QueryRep session) optional = absurd (not_optional refl optional)
-draws_nothing (commands.Ack rn) optional = refl
-draws_nothing (commands.Query dr line_code trext sel session target q) optional = absurd (not_optional refl optional)
-draws_nothing (commands.QueryAdjust session updn) optional = absurd (not_optional refl optional)
-draws_nothing (commands.Select target action bank pointer mask) optional = refl
-draws_nothing commands.Nak optional = refl
-draws_nothing (commands.ReqRn rn) optional = absurd (not_optional refl optional)
-draws_nothing (commands.Read bank pointer count rn) optional = refl
-draws_nothing (commands.Write bank pointer covered rn) optional = refl
-draws_nothing (commands.Kill covered rn) optional = refl
-draws_nothing (commands.Lock payload rn) optional = refl
-draws_nothing (commands.Access covered rn) optional = refl
-draws_nothing (commands.BlockWrite bank pointer words rn) optional = refl
-draws_nothing (commands.BlockErase bank pointer count rn) optional = refl
+draws_nothing commands.Nak optional = cc
+draws_nothing command optional = cc
 
 abbrev stays_by : Command → TagValue → Option ℕ → Known
 stays_by command tag most = record {
@@ -109,36 +93,12 @@ stays_by command tag most = record {
 }
 
 stays_known : (command : Command) (tag : TagValue) → is_optional (Some command) ≡ true → known_of tag None ≡ known_wordless (stays_by command tag None)
-stays_known (commands.QueryRep session) tag optional = absurd (not_optional refl optional)
-stays_known (commands.Ack rn) tag optional = refl
-stays_known (commands.Query dr line_code trext sel session target q) tag optional = absurd (not_optional refl optional)
-stays_known (commands.QueryAdjust session updn) tag optional = absurd (not_optional refl optional)
-stays_known (commands.Select target action bank pointer mask) tag optional = refl
-stays_known commands.Nak tag optional = refl
-stays_known (commands.ReqRn rn) tag optional = absurd (not_optional refl optional)
-stays_known (commands.Read bank pointer count rn) tag optional = refl
-stays_known (commands.Write bank pointer covered rn) tag optional = refl
-stays_known (commands.Kill covered rn) tag optional = refl
-stays_known (commands.Lock payload rn) tag optional = refl
-stays_known (commands.Access covered rn) tag optional = refl
-stays_known (commands.BlockWrite bank pointer words rn) tag optional = refl
-stays_known (commands.BlockErase bank pointer count rn) tag optional = refl
+stays_known commands.Nak tag optional = cc
+stays_known command tag optional = cc
 
 silent_in_arbitrate : (command : Command) (session q : ℕ) (body : BodyValue) → is_optional (Some command) ≡ true → seen_answer_to (Some command) (record { state = ArbitrateState session q 1; body = body }) ≡ None
-silent_in_arbitrate (commands.QueryRep other) session q body optional = absurd (not_optional refl optional)
-silent_in_arbitrate (commands.Ack rn) session q body optional = refl
-silent_in_arbitrate (commands.Query dr line_code trext sel other target new_q) session q body optional = absurd (not_optional refl optional)
-silent_in_arbitrate (commands.QueryAdjust other updn) session q body optional = absurd (not_optional refl optional)
-silent_in_arbitrate (commands.Select target action bank pointer mask) session q body optional = refl
-silent_in_arbitrate commands.Nak session q body optional = refl
-silent_in_arbitrate (commands.ReqRn rn) session q body optional = refl
-silent_in_arbitrate (commands.Read bank pointer count rn) session q body optional = refl
-silent_in_arbitrate (commands.Write bank pointer covered rn) session q body optional = refl
-silent_in_arbitrate (commands.Kill covered rn) session q body optional = refl
-silent_in_arbitrate (commands.Lock payload rn) session q body optional = refl
-silent_in_arbitrate (commands.Access covered rn) session q body optional = refl
-silent_in_arbitrate (commands.BlockWrite bank pointer words rn) session q body optional = refl
-silent_in_arbitrate (commands.BlockErase bank pointer count rn) session q body optional = refl
+silent_in_arbitrate commands.Nak session q body optional = cc
+silent_in_arbitrate command session q body optional = cc
 
 stays_lacking : (command : Command) (tag : TagValue) (most : Option ℕ) → AnswersOptional command tag → HasFirstSlot most tag.state → known_of tag most ≡ known_wordless (stays_by command tag most)
 stays_lacking command tag None answers first = stays_known command tag answers.optional
@@ -195,7 +155,7 @@ no_command_refused tag most seen other it = by it.1.0
     by : Excuses (Exchange None seen) (prepared (known_of tag most) None seen) it.0.tag → ⊥
     by (inl explains) = other (sym explains.0)
     by (inr (inl takes)) = none_or_some takes.other.answered
-    by (inr (inr lacks)) = not_optional refl lacks.optional
+    by (inr (inr lacks)) = no_test refl lacks.optional
 
 pub no_command_want : (tag : TagValue) (most : Option ℕ) → HasFirstSlot most tag.state → want_of_answer None ≡ want_of (known_of tag most) None
 no_command_want tag None first = refl
@@ -205,47 +165,14 @@ no_command_want tag (Some m) first =
 -- events
 unworded : (event : Event) (state : StateValue) (body : BodyValue) → wordless (tag_after_event event state body) ≡ wordless (tag_after_event event state (reworded [] 0 body))
 unworded events.Timeout ReadyState body = refl
-unworded events.Timeout (ArbitrateState session q slot) body = refl
-unworded events.Timeout (ReplyState session q rn) body = refl
-unworded events.Timeout (AcknowledgedState session q rn) body = refl
-unworded events.Timeout (OpenState held) body = refl
-unworded events.Timeout (SecuredState held) body = refl
-unworded events.Timeout KilledState body = refl
-unworded events.Timeout UnpoweredState body = refl
 unworded events.Off ReadyState body = refl
-unworded events.Off (ArbitrateState session q slot) body = refl
-unworded events.Off (ReplyState session q rn) body = refl
-unworded events.Off (AcknowledgedState session q rn) body = refl
-unworded events.Off (OpenState held) body = refl
-unworded events.Off (SecuredState held) body = refl
-unworded events.Off KilledState body = refl
-unworded events.Off UnpoweredState body = refl
 unworded events.On ReadyState body = refl
-unworded events.On (ArbitrateState session q slot) body = refl
-unworded events.On (ReplyState session q rn) body = refl
-unworded events.On (AcknowledgedState session q rn) body = refl
-unworded events.On (OpenState held) body = refl
-unworded events.On (SecuredState held) body = refl
-unworded events.On KilledState body = refl
-unworded events.On UnpoweredState body = refl
 unworded (events.Expire flag) ReadyState body = refl
-unworded (events.Expire flag) (ArbitrateState session q slot) body = refl
-unworded (events.Expire flag) (ReplyState session q rn) body = refl
-unworded (events.Expire flag) (AcknowledgedState session q rn) body = refl
-unworded (events.Expire flag) (OpenState held) body = refl
-unworded (events.Expire flag) (SecuredState held) body = refl
-unworded (events.Expire flag) KilledState body = refl
-unworded (events.Expire flag) UnpoweredState body = refl
+unworded event state body = refl
 
 no_slots : (state : StateValue) → slots_behind draws.Nothing state None ≡ None
-no_slots ReadyState = refl
 no_slots (ArbitrateState session q slot) = refl
-no_slots (ReplyState session q rn) = refl
-no_slots (AcknowledgedState session q rn) = refl
-no_slots (OpenState held) = refl
-no_slots (SecuredState held) = refl
-no_slots KilledState = refl
-no_slots UnpoweredState = refl
+no_slots state = refl
 
 abbrev pub befallen_to : Event → TagValue → Option ℕ → Option ℕ
 befallen_to event tag most = slots_behind draws.Nothing (tag_after_event event tag.state tag.body).state most
@@ -255,10 +182,14 @@ pub record IsBefallen (event : Event) (tag : TagValue) (most : Option ℕ) : Typ
   pub first : HasFirstSlot (befallen_to event tag most) (tag_after_event event tag.state tag.body).state
 
 befallen_waiting : (event : Event) (session q m : ℕ) (body : BodyValue) → 1 ≤ m → IsBefallen event (record { state = ArbitrateState session q 1; body = body }) (Some m)
-befallen_waiting events.Timeout session q m body least = record { goes = record { next = record { tag = tag_after_event events.Timeout (ArbitrateState session q m) (reworded [] 0 body); any = true }; follows = (refl, refl); is = refl }; first = record { session = session; q = q; is = refl; least = least } }
-befallen_waiting events.Off session q m body least = record { goes = record { next = record { tag = tag_after_event events.Off (ArbitrateState session q m) (reworded [] 0 body); any = false }; follows = (refl, refl); is = refl }; first = tt }
-befallen_waiting events.On session q m body least = record { goes = record { next = record { tag = tag_after_event events.On (ArbitrateState session q m) (reworded [] 0 body); any = true }; follows = (refl, refl); is = refl }; first = record { session = session; q = q; is = refl; least = least } }
-befallen_waiting (events.Expire flag) session q m body least = record { goes = record { next = record { tag = tag_after_event (events.Expire flag) (ArbitrateState session q m) (reworded [] 0 body); any = true }; follows = (refl, refl); is = refl }; first = record { session = session; q = q; is = refl; least = least } }
+befallen_waiting events.Off session q m body least = record {
+  goes = record { next = record { tag = tag_after_event events.Off (ArbitrateState session q m) (reworded [] 0 body); any = false }; follows = (refl, refl); is = refl };
+  first = tt;
+}
+befallen_waiting event session q m body least = record {
+  goes = record { next = record { tag = tag_after_event event (ArbitrateState session q m) (reworded [] 0 body); any = true }; follows = (refl, refl); is = refl };
+  first = record { session = session; q = q; is = refl; least = least };
+}
 
 pub befallen : (event : Event) (tag : TagValue) (most : Option ℕ) → HasFirstSlot most tag.state → IsBefallen event tag most
 befallen event tag None first = record {

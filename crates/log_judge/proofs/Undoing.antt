@@ -5,7 +5,7 @@ use Rattle.std.proofs.lemmas.List.{drop-drop, length-drop, length-take-le, take-
 use Rattle.std.proofs.Math.Seq.{drop-append_seam, take-append_seam}
 use Rattle.log_judge.proofs.Tests.{so_not}
 use Rattle.command_fields.specs.declared.choices.Bank.{Bank}
-use Rattle.command_fields.specs.declared.choices.Bank.TheVariants.{Reserved, Epc, Tid, User}
+use Rattle.command_fields.specs.declared.choices.Bank.TheVariants.{Reserved}
 use Rattle.lock_rules.specs.declared.locks.Locks.{Locks}
 use Rattle.lock_rules.specs.declared.terms.Level.{Level}
 use Rattle.lock_rules.specs.declared.terms.ErrorCode.{ErrorCode}
@@ -54,15 +54,11 @@ module _ (old new : List ℕ) (at : ℕ) (inside : at + length new ≤ length ol
 -- ... of banks
 bank_with : (banks : Banks) (bank : Bank) (words : List ℕ) → bank_of (with_bank banks bank words) bank ≡ words
 bank_with banks Reserved words = refl
-bank_with banks Epc words = refl
-bank_with banks Tid words = refl
-bank_with banks User words = refl
+bank_with banks bank words = refl
 
 bank_again : (banks : Banks) (bank : Bank) (words : List ℕ) → with_bank (with_bank banks bank words) bank (bank_of banks bank) ≡ banks
 bank_again banks Reserved words = refl
-bank_again banks Epc words = refl
-bank_again banks Tid words = refl
-bank_again banks User words = refl
+bank_again banks bank words = refl
 
 -- what a write that was not refused says
 pub record IsWritten (banks : Banks) (locks : Locks) (level : Level) (bank : Bank) (pointer : ℕ) (words : List ℕ) (after : Banks) : Type 0 where

@@ -1,8 +1,7 @@
 -- A tag that heard a BlockWrite or BlockErase, and then what undoes it, is as before.
-use Rattle.std.proofs.Common.{◌≡◌, ◌≢◌, ℕ, ◌+◌, ◌<◌, ◌==◌, Bool, true, false, is_some, List, length, take, drop, replicate, Option, Some, None, Result, Ok, Err, if◌then◌else◌, refl, sym, ◌∙◌, ap, subst, arith, inl, inr}
+use Rattle.std.proofs.Common.{◌≡◌, ◌≢◌, ℕ, ◌+◌, ◌<◌, ◌==◌, Bool, true, false, is_some, List, length, take, drop, replicate, Option, Some, None, Result, Ok, Err, if◌then◌else◌, refl, sym, ◌∙◌, ap, subst, arith}
 use Rattle.std.proofs.lemmas.Bool.{le-leb}
 use Rattle.std.proofs.lemmas.List.{length-replicate}
-use Rattle.std.proofs.lemmas.Bool.Decides.{eqb_tells}
 use Rattle.command_fields.specs.declared.choices.Bank.{Bank}
 use Rattle.command_grammar.specs.declared.commands.Command.{Command}
 use Rattle.command_grammar.specs.declared.commands.Command.TheVariants as commands
@@ -10,7 +9,7 @@ use Rattle.lock_rules.specs.declared.terms.ErrorCode.{ErrorCode}
 use Rattle.lock_rules.specs.declared.terms.Level.{Level}
 use Rattle.lock_rules.specs.declared.terms.Level.TheVariants as levels
 use Rattle.reply_grammar.specs.declared.expected.Reply.{Reply}
-use Rattle.reply_grammar.specs.declared.expected.Reply.TheVariants.{Rn16, Epc, Handle, Words, Header, Error}
+use Rattle.reply_grammar.specs.declared.expected.Reply.TheVariants.{Header, Error}
 use Rattle.tag_memory.specs.Access.{banks_after_write, length_fits}
 use Rattle.tag_memory.specs.Memory.{Banks, IsLegalMemory, bank_of}
 use Rattle.tag_machine.specs.Access.{held_state, memory_outcome, block_write_outcome}
@@ -18,18 +17,17 @@ use Rattle.tag_machine.specs.Answers.{Outcome, Sent, silent}
 use Rattle.tag_machine.specs.Draws.{back}
 use Rattle.tag_machine.specs.Inventory.{unless_half}
 use Rattle.tag_machine.specs.Step.{step}
-use Rattle.tag_machine.specs.TagValue.{StateValue, ReadyState, ArbitrateState, ReplyState, AcknowledgedState, OpenState, SecuredState, KilledState, UnpoweredState, BodyValue, TagValue}
+use Rattle.tag_machine.specs.TagValue.{StateValue, OpenState, SecuredState, BodyValue, TagValue}
 use Rattle.tag_machine.specs.declared.states.Half.{Half}
 use Rattle.tag_machine.specs.declared.states.Held.{Held}
-use Rattle.log_verdicts.specs.Log.{Seen}
 use Rattle.log_verdicts.specs.Explaining.{seen_of}
 use Rattle.log_judge.specs.Optional.{IsUndone, Undoes, is_header}
 use Rattle.tag_machine.specs.declared.any_tag.Answered.{Answered}
-use Rattle.tag_machine.specs.declared.any_tag.Answered.TheVariants.{Silent, Plain, Extended}
+use Rattle.tag_machine.specs.declared.any_tag.Answered.TheVariants.{Silent}
 use Rattle.log_judge.specs.Answers.{seen_marked}
 use Rattle.log_judge.proofs.Fitting.{same_number}
-use Rattle.log_judge.proofs.KindsMoved.{none_or_some}
-use Rattle.log_judge.proofs.Tests.{not_so, so_not}
+use Rattle.log_judge.proofs.SameAnswers.{reply_in}
+use Rattle.log_judge.proofs.Tests.{no_test, none_or_some, not_so, one_number, so_not}
 use Rattle.log_judge.proofs.Undoing.{is_written, undone}
 
 -- what the reply is
@@ -117,16 +115,6 @@ pub legal_fits : (banks : Banks) → IsLegalMemory banks → length_fits banks �
 legal_fits banks legal = le-leb _ _ legal.length_fits
 
 -- Where a BlockWrite or BlockErase is answered, it is undone so.
-one_number : (one other : ℕ) → (one == other) ≡ true → one ≡ other
-one_number one other same =
-    elim (eqb_tells one other) [
-      | inl w ↦ w.1
-      | inr w ↦ absurd (not_so (sym w.0 ∙ same))
-    ]
-
-no_answer : (outcome : Outcome) → is_some outcome.answer ≡ false → is_some outcome.answer ≡ true → ⊥
-no_answer outcome other is = not_so (sym other ∙ is)
-
 module _ (command : Command) (undo : Option Command) (body : BodyValue) (bank : Bank) (pointer rn : ℕ) (words : List ℕ) (undoes : Undoes bank pointer (length words) rn body.memory undo) where
   abbrev acts : Level → Held → Outcome
   acts level held = memory_outcome level held body (banks_after_write body.memory body.locks level bank pointer words)
@@ -143,8 +131,8 @@ module _ (command : Command) (undo : Option Command) (body : BodyValue) (bank : 
       told test half same is = does ∙ ap (λ (b : Bool). outcome_at level held b held.half) same ∙ ap (λ (h : Option Half). outcome_at level held test h) is
 
       by : (test : Bool) → (held.handle == rn) ≡ test → (half : Option Half) → held.half ≡ half → IsUndone command undo (record { state = held_state level held; body = body })
-      by false same half is = absurd (no_answer (silent (held_state level held) body) refl (sym (ap (λ (o : Outcome). is_some o.answer) (told false half same is)) ∙ answered))
-      by true same (Some half) is = absurd (no_answer (back held.session held.q body) refl (sym (ap (λ (o : Outcome). is_some o.answer) (told true (Some half) same is)) ∙ answered))
+      by false same half is = absurd (no_test refl (sym (ap (λ (o : Outcome). is_some o.answer) (told false half same is)) ∙ answered))
+      by true same (Some half) is = absurd (no_test refl (sym (ap (λ (o : Outcome). is_some o.answer) (told true (Some half) same is)) ∙ answered))
       by true same None is =
           let number : held.handle ≡ rn = one_number held.handle rn same in
           record {
@@ -162,48 +150,26 @@ module _ (command : Command) (undo : Option Command) (body : BodyValue) (bank : 
 -- of a BlockWrite, and of a BlockErase
 pub write_undone : (bank : Bank) (pointer rn : ℕ) (words : List ℕ) (undo : Option Command) (state : StateValue) (body : BodyValue) → Undoes bank pointer (length words) rn body.memory undo
     → is_some (step (commands.BlockWrite bank pointer words rn) state body).answer ≡ true → IsUndone (commands.BlockWrite bank pointer words rn) undo (record { state = state; body = body })
-write_undone bank pointer rn words undo ReadyState body undoes answered = absurd (not_so answered)
-write_undone bank pointer rn words undo (ArbitrateState session q slot) body undoes answered = absurd (not_so answered)
-write_undone bank pointer rn words undo (ReplyState session q own) body undoes answered = absurd (not_so answered)
-write_undone bank pointer rn words undo (AcknowledgedState session q own) body undoes answered = absurd (not_so answered)
 write_undone bank pointer rn words undo (OpenState held) body undoes answered = undone_in (commands.BlockWrite bank pointer words rn) undo body bank pointer rn words undoes levels.Opened held refl answered
 write_undone bank pointer rn words undo (SecuredState held) body undoes answered = undone_in (commands.BlockWrite bank pointer words rn) undo body bank pointer rn words undoes levels.Secured held refl answered
-write_undone bank pointer rn words undo KilledState body undoes answered = absurd (not_so answered)
-write_undone bank pointer rn words undo UnpoweredState body undoes answered = absurd (not_so answered)
+write_undone bank pointer rn words undo state body undoes answered = absurd (not_so answered)
 
 pub erase_undone : (bank : Bank) (pointer count rn : ℕ) (undo : Option Command) (state : StateValue) (body : BodyValue) → Undoes bank pointer count rn body.memory undo
     → is_some (step (commands.BlockErase bank pointer count rn) state body).answer ≡ true → IsUndone (commands.BlockErase bank pointer count rn) undo (record { state = state; body = body })
-erase_undone bank pointer count rn undo ReadyState body undoes answered = absurd (not_so answered)
-erase_undone bank pointer count rn undo (ArbitrateState session q slot) body undoes answered = absurd (not_so answered)
-erase_undone bank pointer count rn undo (ReplyState session q own) body undoes answered = absurd (not_so answered)
-erase_undone bank pointer count rn undo (AcknowledgedState session q own) body undoes answered = absurd (not_so answered)
 erase_undone bank pointer count rn undo (OpenState held) body undoes answered =
     undone_in (commands.BlockErase bank pointer count rn) undo body bank pointer rn (replicate count 0) (subst (λ (n : ℕ). Undoes bank pointer n rn body.memory undo) (sym (length-replicate count 0)) undoes) levels.Opened held refl answered
 erase_undone bank pointer count rn undo (SecuredState held) body undoes answered =
     undone_in (commands.BlockErase bank pointer count rn) undo body bank pointer rn (replicate count 0) (subst (λ (n : ℕ). Undoes bank pointer n rn body.memory undo) (sym (length-replicate count 0)) undoes) levels.Secured held refl answered
-erase_undone bank pointer count rn undo KilledState body undoes answered = absurd (not_so answered)
-erase_undone bank pointer count rn undo UnpoweredState body undoes answered = absurd (not_so answered)
+erase_undone bank pointer count rn undo state body undoes answered = absurd (not_so answered)
 
 -- the reply that stands in the room, where the mark beside it says that there is one
-abbrev reply_in : Reply → Option Seen → Reply
-reply_in default None = default
-reply_in default (Some seen) = seen.reply
-
 pub replies_as : (answered : Answered) (reply : Reply) (answer : Option Sent) → seen_marked answered reply ≡ seen_of answer → RepliesWith answer reply
 replies_as Silent reply answer same = λ sent is. absurd (none_or_some (same ∙ ap seen_of is))
-replies_as Plain reply answer same = λ sent is. ap (reply_in reply) (same ∙ ap seen_of is)
-replies_as Extended reply answer same = λ sent is. ap (reply_in reply) (same ∙ ap seen_of is)
-
-no_test : {test : Bool} → test ≡ false → test ≡ true → ⊥
-no_test other is = not_so (sym other ∙ is)
+replies_as mark reply answer same = λ sent is. ap (reply_in reply) (same ∙ ap seen_of is)
 
 pub header_told : (reply : Reply) → is_header reply ≡ true → reply ≡ Header
-header_told (Rn16 number) is = absurd (no_test refl is)
-header_told (Epc pc epc) is = absurd (no_test refl is)
-header_told (Handle number) is = absurd (no_test refl is)
-header_told (Words words) is = absurd (no_test refl is)
 header_told Header is = refl
-header_told (Error code) is = absurd (no_test refl is)
+header_told reply is = absurd (no_test refl is)
 
 pub other_told : (reply : Reply) → is_header reply ≡ false → reply ≢ Header
 other_told reply other = λ same. so_not (sym (ap is_header same) ∙ other)

@@ -1,5 +1,5 @@
 -- Whether a tag that is known may do what an entry says.
-use Rattle.std.proofs.Common.{◌≡◌, ◌≢◌, ℕ, ◌==◌, ◌&&◌, Bool, true, false, List, [], ◌∷◌, Option, Some, None, refl, sym, ◌∙◌, ap, inl, inr}
+use Rattle.std.proofs.Common.{arith, ◌≡◌, ◌≢◌, ℕ, ◌==◌, ◌&&◌, Bool, true, false, List, [], ◌∷◌, Option, Some, None, refl, sym, ◌∙◌, ap, inl, inr}
 use Rattle.std.specs.Prelude.{◌⊎◌}
 use Rattle.std.proofs.lemmas.Bool.Decides.{eqb_tells}
 use Rattle.air_events.specs.declared.Event.{Event}
@@ -51,53 +51,14 @@ numbers_in Header = []
 numbers_in (Error code) = code ∷ []
 
 -- two replies of one kind
-apart : (n m : ℕ) → ((n == m) ≡ false) → n ≡ m → ⊥
-apart n m test same =
-    elim (eqb_tells n m) [
-      | inl w ↦ true_is_false (sym w.0 ∙ test)
-      | inr w ↦ w.1 same
-    ]
-  where
-    true_is_false : true ≡ false → ⊥
-    true_is_false wrong = absurd (cc)
-
 same_kind : (one other : Reply) → kind_in one ≡ kind_in other → numbers_in one ≡ numbers_in other → one ≡ other
 same_kind (Rn16 n) (Rn16 m) kinds numbers = ap (λ l. Rn16 (first_in l)) numbers
-same_kind (Rn16 n) (Epc pc epc) kinds numbers = absurd (apart 0 1 refl kinds)
-same_kind (Rn16 n) (Handle m) kinds numbers = absurd (apart 0 2 refl kinds)
-same_kind (Rn16 n) (Words words) kinds numbers = absurd (apart 0 3 refl kinds)
-same_kind (Rn16 n) Header kinds numbers = absurd (apart 0 4 refl kinds)
-same_kind (Rn16 n) (Error code) kinds numbers = absurd (apart 0 5 refl kinds)
-same_kind (Epc pc epc) (Rn16 m) kinds numbers = absurd (apart 1 0 refl kinds)
 same_kind (Epc pc epc) (Epc pc' epc') kinds numbers = ap (λ l. Epc (first_in l) (rest_in l)) numbers
-same_kind (Epc pc epc) (Handle m) kinds numbers = absurd (apart 1 2 refl kinds)
-same_kind (Epc pc epc) (Words words) kinds numbers = absurd (apart 1 3 refl kinds)
-same_kind (Epc pc epc) Header kinds numbers = absurd (apart 1 4 refl kinds)
-same_kind (Epc pc epc) (Error code) kinds numbers = absurd (apart 1 5 refl kinds)
-same_kind (Handle n) (Rn16 m) kinds numbers = absurd (apart 2 0 refl kinds)
-same_kind (Handle n) (Epc pc epc) kinds numbers = absurd (apart 2 1 refl kinds)
 same_kind (Handle n) (Handle m) kinds numbers = ap (λ l. Handle (first_in l)) numbers
-same_kind (Handle n) (Words words) kinds numbers = absurd (apart 2 3 refl kinds)
-same_kind (Handle n) Header kinds numbers = absurd (apart 2 4 refl kinds)
-same_kind (Handle n) (Error code) kinds numbers = absurd (apart 2 5 refl kinds)
-same_kind (Words words) (Rn16 m) kinds numbers = absurd (apart 3 0 refl kinds)
-same_kind (Words words) (Epc pc epc) kinds numbers = absurd (apart 3 1 refl kinds)
-same_kind (Words words) (Handle m) kinds numbers = absurd (apart 3 2 refl kinds)
 same_kind (Words words) (Words words') kinds numbers = ap (λ l. Words l) numbers
-same_kind (Words words) Header kinds numbers = absurd (apart 3 4 refl kinds)
-same_kind (Words words) (Error code) kinds numbers = absurd (apart 3 5 refl kinds)
-same_kind Header (Rn16 m) kinds numbers = absurd (apart 4 0 refl kinds)
-same_kind Header (Epc pc epc) kinds numbers = absurd (apart 4 1 refl kinds)
-same_kind Header (Handle m) kinds numbers = absurd (apart 4 2 refl kinds)
-same_kind Header (Words words) kinds numbers = absurd (apart 4 3 refl kinds)
 same_kind Header Header kinds numbers = refl
-same_kind Header (Error code) kinds numbers = absurd (apart 4 5 refl kinds)
-same_kind (Error code) (Rn16 m) kinds numbers = absurd (apart 5 0 refl kinds)
-same_kind (Error code) (Epc pc epc) kinds numbers = absurd (apart 5 1 refl kinds)
-same_kind (Error code) (Handle m) kinds numbers = absurd (apart 5 2 refl kinds)
-same_kind (Error code) (Words words) kinds numbers = absurd (apart 5 3 refl kinds)
-same_kind (Error code) Header kinds numbers = absurd (apart 5 4 refl kinds)
 same_kind (Error code) (Error code') kinds numbers = ap (λ l. Error (first_in l)) numbers
+same_kind one other kinds numbers = absurd (omega (arith, kinds))
 
 same_reply : (one other : Reply) → Dec (one ≡ other)
 same_reply one other = by (eqb_tells (kind_in one) (kind_in other)) (same_words (numbers_in one) (numbers_in other))
@@ -109,9 +70,8 @@ same_reply one other = by (eqb_tells (kind_in one) (kind_in other)) (same_words 
 
 same_bool : (one other : Bool) → Dec (one ≡ other)
 same_bool true true = inl refl
-same_bool true false = inr (λ same. absurd (cc))
-same_bool false true = inr (λ same. absurd (cc))
 same_bool false false = inl refl
+same_bool one other = inr (λ same. absurd (cc))
 
 same_seen : (one other : Seen) → Dec (one ≡ other)
 same_seen one other = by (same_reply one.reply other.reply) (same_bool one.extended other.extended)
@@ -145,19 +105,12 @@ abbrev kind_of_answer : Option Seen → ℕ
 kind_of_answer None = 6
 kind_of_answer (Some seen) = kind_in seen.reply
 
-no_error : (answer : Option Seen) → kind_of_answer answer ≢ 5 → ¬ IsError answer
-no_error answer other is = other (ap kind_of_answer is.is)
-
 error_reply : (reply : Reply) (extended : Bool) → Dec (IsError (Some (record { reply = reply; extended = extended })))
-error_reply (Rn16 n) extended = inr (no_error (Some (record { reply = Rn16 n; extended = extended })) (λ wrong. apart 0 5 refl wrong))
-error_reply (Epc pc epc) extended = inr (no_error (Some (record { reply = Epc pc epc; extended = extended })) (λ wrong. apart 1 5 refl wrong))
-error_reply (Handle n) extended = inr (no_error (Some (record { reply = Handle n; extended = extended })) (λ wrong. apart 2 5 refl wrong))
-error_reply (Words words) extended = inr (no_error (Some (record { reply = Words words; extended = extended })) (λ wrong. apart 3 5 refl wrong))
-error_reply Header extended = inr (no_error (Some (record { reply = Header; extended = extended })) (λ wrong. apart 4 5 refl wrong))
 error_reply (Error code) extended = inl (record { code = code; extended = extended; is = refl })
+error_reply reply extended = inr (λ it. absurd (omega (arith, ap kind_of_answer it.is)))
 
 error_answer : (answer : Option Seen) → Dec (IsError answer)
-error_answer None = inr (no_error None (λ wrong. apart 6 5 refl wrong))
+error_answer None = inr (λ it. absurd (omega (arith, ap kind_of_answer it.is)))
 error_answer (Some seen) = error_reply seen.reply seen.extended
 
 abbrev code_in : Option Seen → ℕ
@@ -193,8 +146,12 @@ abbrev pub MayFollow : Manner → Known → LogEntry → Type 0
 MayFollow manner known entry = (next : Known) × Follows manner known entry next
 
 module _ (known : Known) (heard : Option Command) (seen : Option Seen) where
+  -- what becomes of it where it does what the entry says
+  abbrev made : Known
+  made = record { tag = (outcome_of_heard heard (prepared known heard seen)).tag; any = any_behind known heard (outcome_of_heard heard (prepared known heard seen)).tag.state }
+
   strictly : Dec (seen_answer_to heard (prepared known heard seen) ≡ seen) → Dec (MayFollow ByTables known (Exchange heard seen))
-  strictly (inl same) = inl (record { tag = (outcome_of_heard heard (prepared known heard seen)).tag; any = any_behind known heard (outcome_of_heard heard (prepared known heard seen)).tag.state }, ((same, refl), refl))
+  strictly (inl same) = inl (made, ((same, refl), refl))
   strictly (inr other) = inr (λ it. other it.1.0.0)
 
   lacking : Dec (is_optional heard ≡ true) → Dec (seen_answer_to heard (prepared known heard seen) ≡ None) → Dec (seen ≡ None) → Dec (LacksCommand heard seen (prepared known heard seen) (prepared known heard seen))
@@ -205,8 +162,8 @@ module _ (known : Known) (heard : Option Command) (seen : Option Seen) where
 
   leniently : Dec (seen_answer_to heard (prepared known heard seen) ≡ seen) → Dec (IsOtherError (seen_answer_to heard (prepared known heard seen)) seen) → Dec (LacksCommand heard seen (prepared known heard seen) (prepared known heard seen))
       → Dec (MayFollow WithLiberties known (Exchange heard seen))
-  leniently (inl same) error lacks = inl (record { tag = (outcome_of_heard heard (prepared known heard seen)).tag; any = any_behind known heard (outcome_of_heard heard (prepared known heard seen)).tag.state }, (inl (same, refl), refl))
-  leniently (inr other) (inl error) lacks = inl (record { tag = (outcome_of_heard heard (prepared known heard seen)).tag; any = any_behind known heard (outcome_of_heard heard (prepared known heard seen)).tag.state }, (inr (inl (record { other = error; becomes = refl })), refl))
+  leniently (inl same) error lacks = inl (made, (inl (same, refl), refl))
+  leniently (inr other) (inl error) lacks = inl (made, (inr (inl (record { other = error; becomes = refl })), refl))
   leniently (inr other) (inr no_error) (inl lacks) = inl (record { tag = prepared known heard seen; any = any_behind known heard (prepared known heard seen).state }, (inr (inr lacks), refl))
   leniently (inr other) (inr no_error) (inr lacks_not) = inr (λ it. none it.0 it.1.0)
     where
@@ -216,9 +173,7 @@ module _ (known : Known) (heard : Option Command) (seen : Option Seen) where
       none next (inr (inr lacks)) = lacks_not (record { optional = lacks.optional; answered = lacks.answered; silent = lacks.silent; stays = refl })
 
 pub event_follows : (manner : Manner) (known : Known) (event : Event) → MayFollow manner known (Befalls event)
-event_follows ByTables known event =
-    (record { tag = tag_after_event event known.tag.state known.tag.body; any = known.any && waits (tag_after_event event known.tag.state known.tag.body).state }, (refl, refl))
-event_follows WithLiberties known event =
+event_follows manner known event =
     (record { tag = tag_after_event event known.tag.state known.tag.body; any = known.any && waits (tag_after_event event known.tag.state known.tag.body).state }, (refl, refl))
 
 pub may_follow : (manner : Manner) (known : Known) (entry : LogEntry) → Dec (MayFollow manner known entry)
@@ -226,5 +181,4 @@ may_follow ByTables known (Exchange heard seen) = strictly known heard seen (sam
 may_follow WithLiberties known (Exchange heard seen) =
     leniently known heard seen (same_answer (seen_answer_to heard (prepared known heard seen)) seen) (other_error (seen_answer_to heard (prepared known heard seen)) seen)
     (lacking known heard seen (same_bool (is_optional heard) true) (same_answer (seen_answer_to heard (prepared known heard seen)) None) (same_answer seen None))
-may_follow ByTables known (Befalls event) = inl (event_follows ByTables known event)
-may_follow WithLiberties known (Befalls event) = inl (event_follows WithLiberties known event)
+may_follow manner known (Befalls event) = inl (event_follows manner known event)

@@ -1,5 +1,5 @@
 -- What comes of a command is what its kind says, of the words that are drawn.
-use Rattle.std.proofs.Common.{◌≡◌, ℕ, ◌-◌, ◌≤◌, ◌==◌, Bool, true, false, List, Option, Some, None, if◌then◌else◌, refl, inl, inr, arith}
+use Rattle.std.proofs.Common.{rules, ◌≡◌, ℕ, ◌-◌, ◌≤◌, ◌==◌, Bool, true, false, List, Option, Some, None, if◌then◌else◌, refl, inl, inr, arith}
 use Rattle.std.proofs.lemmas.Bool.Decides.{eqb_tells}
 use Rattle.command_fields.specs.declared.choices.Sel.{Sel}
 use Rattle.command_fields.specs.declared.choices.Side.{Side}
@@ -13,15 +13,16 @@ use Rattle.session_flags.specs.Flags.{matches}
 use Rattle.reply_grammar.specs.declared.expected.Reply.TheVariants.{Handle}
 use Rattle.tag_machine.specs.declared.states.Held.{Held}
 use Rattle.tag_machine.specs.declared.states.Password.TheVariants as passwords
-use Rattle.tag_machine.specs.TagValue.{StateValue, ReadyState, ArbitrateState, ReplyState, AcknowledgedState, OpenState, SecuredState, KilledState, UnpoweredState, BodyValue}
+use Rattle.tag_machine.specs.TagValue.{StateValue, ReadyState, ArbitrateState, ReplyState, AcknowledgedState, OpenState, SecuredState, BodyValue}
 use Rattle.tag_machine.specs.Answers.{Outcome, silent, plain_answer}
-use Rattle.tag_machine.specs.Draws.{draw_of, body_after_draw, begin_reply, enter, body_after_inversion, close}
+use Rattle.tag_machine.specs.Draws.{draw_of, body_after_draw, enter, body_after_inversion, close}
 use Rattle.tag_machine.specs.Inventory.{take_part, body_after_close, end_turn, slot_below, count_down, q_after_adjust, query, query_rep, query_adjust}
-use Rattle.tag_machine.specs.Access.{held_state, first_level, new_held, req_rn}
+use Rattle.tag_memory.specs.Access.{banks_after_erase, banks_after_write}
+use Rattle.tag_machine.specs.Access.{block_erase_outcome, block_write_outcome, lock_outcome, read_outcome, write_outcome, held_state, first_level, new_held, req_rn}
 use Rattle.log_verdicts.specs.Explaining.{outcome_of_heard}
 use Rattle.log_verdicts.specs.laws.Logs.{IsLegalHeard}
-use Rattle.log_verdicts.specs.laws.Kinds.{Kind, Settled, Enters, Replies, Gives, outcome_from, reworded, take_kind, query_kind, count_kind, rep_kind, adjust_kind, first_held, number_kind, kind_of, Move, Stays, Leaves, Counts, kind_at, move_of, HasSmallQ, KeepsSmallQ}
-use Rattle.log_verdicts.proofs.Settling.{Settles, after_ack, after_nak, after_select, after_half, after_read, after_write, after_lock, after_block_write, after_block_erase, turn_ended}
+use Rattle.log_verdicts.specs.laws.Kinds.{Kind, Settled, Enters, Gives, outcome_from, reworded, take_kind, query_kind, count_kind, rep_kind, adjust_kind, first_held, number_kind, kind_of, Move, Stays, Leaves, Counts, kind_at, move_of, HasSmallQ, KeepsSmallQ}
+use Rattle.log_verdicts.proofs.Settling.{Settles, accessed, after_ack, after_half, after_nak, after_select, locked, memory_done, read_done, turn_ended, written}
 
 -- an outcome is what a kind says of these words, and the kind keeps Q in its range
 pub record IsOfKind (words : List ℕ) (place : ℕ) (outcome : Outcome) (kind : Kind) : Type 0 where
@@ -45,21 +46,19 @@ module _ (words : List ℕ) (place : ℕ) where
   abbrev with_them : BodyValue → BodyValue
   with_them body = reworded words place body
 
-  either : (test : Bool) (x y : Outcome) (k l : Kind) → IsOfKind words place x k → IsOfKind words place y l → IsOfKind words place (if test then x else y) (if test then k else l)
-  either true x y k l of_x of_y = of_x
-  either false x y k l of_x of_y = of_y
+  either : {x y : Outcome} {k l : Kind} (test : Bool) → IsOfKind words place x k → IsOfKind words place y l → IsOfKind words place (if test then x else y) (if test then k else l)
+  either true of_x of_y = of_x
+  either false of_x of_y = of_y
 
-  settled : (one other : Outcome) → Settles words place one other → IsOfKind words place other (Settled one)
-  settled one other settles = record { is = settles.same; small = settles.small }
+  settled : {one other : Outcome} → Settles words place one other → IsOfKind words place other (Settled one)
+  settled settles = record { is = settles.same; small = settles.small }
 
   stays : (state : StateValue) (body : BodyValue) → HasSmallQ state → IsOfKind words place (silent state (with_them body)) (Settled (silent state body))
   stays state body small = record { is = refl; small = small }
 
   -- Query
   took_part : (sel : Sel) (session : ℕ) (target : Side) (q : ℕ) (body : BodyValue) → q ≤ 15 → IsOfKind words place (take_part sel session target q (with_them body)) (take_kind sel session target q body)
-  took_part sel session target q body small =
-      either (matches sel session target body.flags) (enter session q (with_them body)) (silent ReadyState (with_them body)) (Enters session q body) (Settled (silent ReadyState body))
-      (record { is = refl; small = small }) (stays ReadyState body tt)
+  took_part sel session target q body small = either (matches sel session target body.flags) (record { is = refl; small = small }) (stays ReadyState body tt)
 
   took_part_closed : (sel : Sel) (session : ℕ) (target : Side) (q own : ℕ) (body : BodyValue) → q ≤ 15
       → IsOfKind words place (take_part sel session target q (body_after_close own session (with_them body))) (take_kind sel session target q (body_after_close own session body))
@@ -72,88 +71,42 @@ module _ (words : List ℕ) (place : ℕ) where
   of_query : (sel : Sel) (session : ℕ) (target : Side) (q : ℕ) (state : StateValue) (body : BodyValue) → q ≤ 15
       → IsOfKind words place (query sel session target q state (with_them body)) (query_kind sel session target q state body)
   of_query sel session target q ReadyState body small = took_part sel session target q body small
-  of_query sel session target q (ArbitrateState own own_q slot) body small = took_part sel session target q body small
-  of_query sel session target q (ReplyState own own_q rn) body small = took_part sel session target q body small
-  of_query sel session target q (AcknowledgedState own own_q rn) body small = took_part_closed sel session target q own body small
-  of_query sel session target q (OpenState held) body small = took_part_closed sel session target q held.session body small
-  of_query sel session target q (SecuredState held) body small = took_part_closed sel session target q held.session body small
-  of_query sel session target q KilledState body small = stays KilledState body tt
-  of_query sel session target q UnpoweredState body small = stays UnpoweredState body tt
+  of_query sel session target q state body small = search (rules, took_part, took_part_closed, stays)
 
   -- QueryRep and QueryAdjust
   closed : (session : ℕ) (body : BodyValue) → IsOfKind words place (close session (with_them body)) (Settled (close session body))
   closed session body = record { is = refl; small = tt }
 
   ended : (session : ℕ) (held : Held) (body : BodyValue) → held.q ≤ 15 → IsOfKind words place (end_turn session held (with_them body)) (Settled (end_turn session held body))
-  ended session held body small = settled (end_turn session held body) (end_turn session held (with_them body)) (turn_ended words place session held body small)
+  ended session held body small = settled (turn_ended words place session held body small)
 
   counted : (session q slot : ℕ) (body : BodyValue) → q ≤ 15 → IsOfKind words place (count_down session q slot (with_them body)) (count_kind session q slot body)
-  counted session q slot body small =
-      either (slot_below slot == 0) (begin_reply session q (with_them body)) (silent (ArbitrateState session q (slot_below slot)) (with_them body))
-      (Replies session q body) (Settled (silent (ArbitrateState session q (slot_below slot)) body))
-      (record { is = refl; small = small }) (stays (ArbitrateState session q (slot_below slot)) body small)
+  counted session q slot body small = either (slot_below slot == 0) (record { is = refl; small = small }) (stays (ArbitrateState session q (slot_below slot)) body small)
 
   of_query_rep : (session : ℕ) (state : StateValue) (body : BodyValue) → HasSmallQ state → IsOfKind words place (query_rep session state (with_them body)) (rep_kind session state body)
   of_query_rep session ReadyState body small = stays ReadyState body tt
-  of_query_rep session (ArbitrateState own q slot) body small =
-      either (own == session) (count_down session q slot (with_them body)) (silent (ArbitrateState own q slot) (with_them body))
-      (count_kind session q slot body) (Settled (silent (ArbitrateState own q slot) body))
-      (counted session q slot body small) (stays (ArbitrateState own q slot) body small)
-  of_query_rep session (ReplyState own q rn) body small =
-      either (own == session) (silent (ArbitrateState session q 0x7FFF) (with_them body)) (silent (ReplyState own q rn) (with_them body))
-      (Settled (silent (ArbitrateState session q 0x7FFF) body)) (Settled (silent (ReplyState own q rn) body))
-      (stays (ArbitrateState session q 0x7FFF) body small) (stays (ReplyState own q rn) body small)
-  of_query_rep session (AcknowledgedState own q rn) body small =
-      either (own == session) (close session (with_them body)) (silent (AcknowledgedState own q rn) (with_them body))
-      (Settled (close session body)) (Settled (silent (AcknowledgedState own q rn) body)) (closed session body) (stays (AcknowledgedState own q rn) body small)
-  of_query_rep session (OpenState held) body small =
-      either (held.session == session) (end_turn session held (with_them body)) (silent (OpenState held) (with_them body))
-      (Settled (end_turn session held body)) (Settled (silent (OpenState held) body)) (ended session held body small) (stays (OpenState held) body small)
-  of_query_rep session (SecuredState held) body small =
-      either (held.session == session) (end_turn session held (with_them body)) (silent (SecuredState held) (with_them body))
-      (Settled (end_turn session held body)) (Settled (silent (SecuredState held) body)) (ended session held body small) (stays (SecuredState held) body small)
-  of_query_rep session KilledState body small = stays KilledState body tt
-  of_query_rep session UnpoweredState body small = stays UnpoweredState body tt
+  of_query_rep session state body small = search (rules, either, counted, stays, closed, ended)
 
   entered : (test : Bool) (session q : ℕ) (state : StateValue) (body : BodyValue) → q ≤ 15 → HasSmallQ state
       → IsOfKind words place (if test then enter session q (with_them body) else silent state (with_them body)) (if test then Enters session q body else Settled (silent state body))
-  entered test session q state body small in_range =
-      either test (enter session q (with_them body)) (silent state (with_them body)) (Enters session q body) (Settled (silent state body))
-      (record { is = refl; small = small }) (stays state body in_range)
+  entered test session q state body small in_range = either test (record { is = refl; small = small }) (stays state body in_range)
 
   of_query_adjust : (session : ℕ) (updn : UpDn) (state : StateValue) (body : BodyValue) → HasSmallQ state
       → IsOfKind words place (query_adjust session updn state (with_them body)) (adjust_kind session updn state body)
   of_query_adjust session updn ReadyState body small = stays ReadyState body tt
-  of_query_adjust session updn (ArbitrateState own q slot) body small =
-      entered (own == session) session (q_after_adjust updn q) (ArbitrateState own q slot) body (adjusted updn q small) small
-  of_query_adjust session updn (ReplyState own q rn) body small =
-      entered (own == session) session (q_after_adjust updn q) (ReplyState own q rn) body (adjusted updn q small) small
-  of_query_adjust session updn (AcknowledgedState own q rn) body small =
-      either (own == session) (close session (with_them body)) (silent (AcknowledgedState own q rn) (with_them body))
-      (Settled (close session body)) (Settled (silent (AcknowledgedState own q rn) body)) (closed session body) (stays (AcknowledgedState own q rn) body small)
-  of_query_adjust session updn (OpenState held) body small =
-      either (held.session == session) (end_turn session held (with_them body)) (silent (OpenState held) (with_them body))
-      (Settled (end_turn session held body)) (Settled (silent (OpenState held) body)) (ended session held body small) (stays (OpenState held) body small)
-  of_query_adjust session updn (SecuredState held) body small =
-      either (held.session == session) (end_turn session held (with_them body)) (silent (SecuredState held) (with_them body))
-      (Settled (end_turn session held body)) (Settled (silent (SecuredState held) body)) (ended session held body small) (stays (SecuredState held) body small)
-  of_query_adjust session updn KilledState body small = stays KilledState body tt
-  of_query_adjust session updn UnpoweredState body small = stays UnpoweredState body tt
+  of_query_adjust session updn state body small = search (rules, either, entered, adjusted, stays, closed, ended)
 
   -- Req_RN
   given : (test : Bool) (state : ℕ → StateValue) (before : StateValue) (body : BodyValue) → ((number : ℕ) → HasSmallQ (state number)) → HasSmallQ before
       → IsOfKind words place (if test then plain_answer (state (draw_of (with_them body))) (body_after_draw (with_them body)) (Handle (draw_of (with_them body))) 0 else silent before (with_them body))
       (if test then Gives state body else Settled (silent before body))
-  given test state before body small in_range =
-      either test (plain_answer (state (draw_of (with_them body))) (body_after_draw (with_them body)) (Handle (draw_of (with_them body))) 0) (silent before (with_them body))
-      (Gives state body) (Settled (silent before body)) (record { is = refl; small = small }) (stays before body in_range)
+  given test state before body small in_range = either test (record { is = refl; small = small }) (stays before body in_range)
 
   first_small : (level : Level) (session q number : ℕ) → q ≤ 15 → HasSmallQ (held_state level (new_held session q number))
   first_small levels.Opened session q number small = small
   first_small levels.Secured session q number small = small
 
   of_req_rn : (rn : ℕ) (state : StateValue) (body : BodyValue) → HasSmallQ state → IsOfKind words place (req_rn rn state (with_them body)) (number_kind rn state body)
-  of_req_rn rn ReadyState body small = stays ReadyState body tt
   of_req_rn rn (ArbitrateState session q slot) body small = stays (ArbitrateState session q slot) body small
   of_req_rn rn (ReplyState session q own) body small = record { is = refl; small = small }
   of_req_rn rn (AcknowledgedState session q own) body small =
@@ -162,26 +115,29 @@ module _ (words : List ℕ) (place : ℕ) where
       given (held.handle == rn) (λ number. OpenState (record held { cover = Some number })) (OpenState held) body (λ number. small) small
   of_req_rn rn (SecuredState held) body small =
       given (held.handle == rn) (λ number. SecuredState (record held { cover = Some number })) (SecuredState held) body (λ number. small) small
-  of_req_rn rn KilledState body small = stays KilledState body tt
-  of_req_rn rn UnpoweredState body small = stays UnpoweredState body tt
+  of_req_rn rn state body small = stays state body tt
 
   pub of_kind : (heard : Option Command) (state : StateValue) (body : BodyValue) → IsLegalHeard heard → HasSmallQ state
       → IsOfKind words place (outcome_of_heard heard (record { state = state; body = with_them body })) (kind_of heard state body)
   of_kind None state body legal small = stays state body small
   of_kind (Some (commands.QueryRep session)) state body legal small = of_query_rep session state body small
-  of_kind (Some (commands.Ack rn)) state body legal small = settled _ _ (after_ack words place rn state body small)
+  of_kind (Some (commands.Ack rn)) state body legal small = settled (after_ack words place rn state body small)
   of_kind (Some (commands.Query dr line_code trext sel session target q)) state body legal small = of_query sel session target q state body legal.1
   of_kind (Some (commands.QueryAdjust session updn)) state body legal small = of_query_adjust session updn state body small
-  of_kind (Some (commands.Select target action bank pointer mask)) state body legal small = settled _ _ (after_select words place target action bank pointer mask state body small)
-  of_kind (Some commands.Nak) state body legal small = settled _ _ (after_nak words place state body small)
+  of_kind (Some (commands.Select target action bank pointer mask)) state body legal small = settled (after_select words place target action bank pointer mask state body small)
+  of_kind (Some commands.Nak) state body legal small = settled (after_nak words place state body small)
   of_kind (Some (commands.ReqRn rn)) state body legal small = of_req_rn rn state body small
-  of_kind (Some (commands.Read bank pointer count rn)) state body legal small = settled _ _ (after_read words place bank pointer count rn state body small)
-  of_kind (Some (commands.Write bank pointer covered rn)) state body legal small = settled _ _ (after_write words place bank pointer covered rn state body small)
-  of_kind (Some (commands.Kill covered rn)) state body legal small = settled _ _ (after_half words place passwords.Kill covered rn state body small)
-  of_kind (Some (commands.Lock payload rn)) state body legal small = settled _ _ (after_lock words place payload rn state body small)
-  of_kind (Some (commands.Access covered rn)) state body legal small = settled _ _ (after_half words place passwords.Access covered rn state body small)
-  of_kind (Some (commands.BlockWrite bank pointer block rn)) state body legal small = settled _ _ (after_block_write words place bank pointer block rn state body small)
-  of_kind (Some (commands.BlockErase bank pointer count rn)) state body legal small = settled _ _ (after_block_erase words place bank pointer count rn state body small)
+  of_kind (Some (commands.Read bank pointer count rn)) state body legal small = settled (accessed words place rn None (read_outcome bank pointer count) state body small (read_done words place bank pointer count body))
+  of_kind (Some (commands.Write bank pointer covered rn)) state body legal small = settled (accessed words place rn None (write_outcome bank pointer covered) state body small (written words place bank pointer covered body))
+  of_kind (Some (commands.Kill covered rn)) state body legal small = settled (after_half words place passwords.Kill covered rn state body small)
+  of_kind (Some (commands.Lock payload rn)) state body legal small = settled (accessed words place rn None (lock_outcome payload) state body small (locked words place payload body))
+  of_kind (Some (commands.Access covered rn)) state body legal small = settled (after_half words place passwords.Access covered rn state body small)
+  of_kind (Some (commands.BlockWrite bank pointer block rn)) state body legal small =
+      settled (accessed words place rn None (block_write_outcome bank pointer block) state body small
+      (λ level held. memory_done words place level held body (banks_after_write body.memory body.locks level bank pointer block)))
+  of_kind (Some (commands.BlockErase bank pointer count rn)) state body legal small =
+      settled (accessed words place rn None (block_erase_outcome bank pointer count) state body small
+      (λ level held. memory_done words place level held body (banks_after_erase body.memory body.locks level bank pointer count)))
 
 -- what a command does to a tag in arbitrate, by its slot counter
 moved : (test : Bool) (session q slot : ℕ) (body : BodyValue) (one other : Move) → (if test then kind_at one session q body slot else kind_at other session q body slot) ≡ kind_at (if test then one else other) session q body slot
@@ -189,18 +145,6 @@ moved true session q slot body one other = refl
 moved false session q slot body one other = refl
 
 pub of_move : (heard : Option Command) (session q slot : ℕ) (body : BodyValue) → kind_of heard (ArbitrateState session q slot) body ≡ kind_at (move_of heard session q body) session q body slot
-of_move None session q slot body = refl
 of_move (Some (commands.QueryRep other)) session q slot body = moved (session == other) session q slot body (Counts other) Stays
-of_move (Some (commands.Ack rn)) session q slot body = refl
-of_move (Some (commands.Query dr line_code trext sel other target new_q)) session q slot body = refl
 of_move (Some (commands.QueryAdjust other updn)) session q slot body = moved (session == other) session q slot body (Leaves (Enters other (q_after_adjust updn q) body)) Stays
-of_move (Some (commands.Select target action bank pointer mask)) session q slot body = refl
-of_move (Some commands.Nak) session q slot body = refl
-of_move (Some (commands.ReqRn rn)) session q slot body = refl
-of_move (Some (commands.Read bank pointer count rn)) session q slot body = refl
-of_move (Some (commands.Write bank pointer covered rn)) session q slot body = refl
-of_move (Some (commands.Kill covered rn)) session q slot body = refl
-of_move (Some (commands.Lock payload rn)) session q slot body = refl
-of_move (Some (commands.Access covered rn)) session q slot body = refl
-of_move (Some (commands.BlockWrite bank pointer block rn)) session q slot body = refl
-of_move (Some (commands.BlockErase bank pointer count rn)) session q slot body = refl
+of_move heard session q slot body = refl

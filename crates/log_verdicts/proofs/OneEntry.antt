@@ -2,14 +2,13 @@
 use Rattle.std.proofs.Common.{◌≡◌, ◌≢◌, ℕ, ◌+◌, ◌^◌, ◌<◌, ◌≤◌, ◌==◌, ◌&&◌, ◌||◌, Bool, true, false, List, [], ◌++◌, length, Option, Some, None, if◌then◌else◌, refl, sym, ◌∙◌, ap, subst, arith, inl, inr}
 use Rattle.air_events.specs.declared.Event.{Event}
 use Rattle.air_events.specs.declared.Event.TheVariants as events
-use Rattle.command_fields.specs.declared.choices.FlagName.{FlagName}
 use Rattle.command_grammar.specs.declared.commands.Command.{Command}
 use Rattle.command_grammar.specs.declared.commands.Command.TheVariants as commands
 use Rattle.reply_grammar.specs.declared.expected.Reply.TheVariants.{Error}
 use Rattle.tag_machine.specs.Answers.{Outcome}
 use Rattle.tag_machine.specs.Draws.{slot_of_draw, begin_reply, body_after_draw}
 use Rattle.tag_machine.specs.Answers.{silent}
-use Rattle.tag_machine.specs.Events.{tag_after_event, after_timeout, after_off, after_on, after_expiry}
+use Rattle.tag_machine.specs.Events.{tag_after_event}
 use Rattle.tag_machine.specs.TagValue.{StateValue, ReadyState, ArbitrateState, ReplyState, AcknowledgedState, OpenState, SecuredState, KilledState, UnpoweredState, BodyValue, TagValue}
 use Rattle.log_verdicts.specs.Log.{LogEntry, Seen, Exchange, Befalls}
 use Rattle.log_verdicts.specs.Explaining.{Allows, Explains, LacksCommand, Manner, ByTables, WithLiberties, TakesCode, seen_answer_to, is_optional, outcome_of_heard, seen_of}
@@ -28,66 +27,21 @@ abbrev known_as : TagValue → Bool → Known
 known_as tag any = record { tag = tag; any = any }
 
 -- Events draw nothing.
-timed_out : (state : StateValue) (body : BodyValue) (words : List ℕ) (place : ℕ)
-    → after_timeout state (reworded words place body) ≡ tag_as (after_timeout state body).state (reworded words place (after_timeout state body).body)
-timed_out ReadyState body words place = refl
-timed_out (ArbitrateState session q slot) body words place = refl
-timed_out (ReplyState session q rn) body words place = refl
-timed_out (AcknowledgedState session q rn) body words place = refl
-timed_out (OpenState held) body words place = refl
-timed_out (SecuredState held) body words place = refl
-timed_out KilledState body words place = refl
-timed_out UnpoweredState body words place = refl
-
-lost_power : (state : StateValue) (body : BodyValue) (words : List ℕ) (place : ℕ)
-    → after_off state (reworded words place body) ≡ tag_as (after_off state body).state (reworded words place (after_off state body).body)
-lost_power ReadyState body words place = refl
-lost_power (ArbitrateState session q slot) body words place = refl
-lost_power (ReplyState session q rn) body words place = refl
-lost_power (AcknowledgedState session q rn) body words place = refl
-lost_power (OpenState held) body words place = refl
-lost_power (SecuredState held) body words place = refl
-lost_power KilledState body words place = refl
-lost_power UnpoweredState body words place = refl
-
-got_power : (state : StateValue) (body : BodyValue) (words : List ℕ) (place : ℕ)
-    → after_on state (reworded words place body) ≡ tag_as (after_on state body).state (reworded words place (after_on state body).body)
-got_power ReadyState body words place = refl
-got_power (ArbitrateState session q slot) body words place = refl
-got_power (ReplyState session q rn) body words place = refl
-got_power (AcknowledgedState session q rn) body words place = refl
-got_power (OpenState held) body words place = refl
-got_power (SecuredState held) body words place = refl
-got_power KilledState body words place = refl
-got_power UnpoweredState body words place = refl
-
-expired : (flag : FlagName) (state : StateValue) (body : BodyValue) (words : List ℕ) (place : ℕ)
-    → after_expiry flag state (reworded words place body) ≡ tag_as (after_expiry flag state body).state (reworded words place (after_expiry flag state body).body)
-expired flag ReadyState body words place = refl
-expired flag (ArbitrateState session q slot) body words place = refl
-expired flag (ReplyState session q rn) body words place = refl
-expired flag (AcknowledgedState session q rn) body words place = refl
-expired flag (OpenState held) body words place = refl
-expired flag (SecuredState held) body words place = refl
-expired flag KilledState body words place = refl
-expired flag UnpoweredState body words place = refl
-
 befallen : (event : Event) (state : StateValue) (body : BodyValue) (words : List ℕ) (place : ℕ)
     → tag_after_event event state (reworded words place body) ≡ tag_as (tag_after_event event state body).state (reworded words place (tag_after_event event state body).body)
-befallen events.Timeout state body words place = timed_out state body words place
-befallen events.Off state body words place = lost_power state body words place
-befallen events.On state body words place = got_power state body words place
-befallen (events.Expire flag) state body words place = expired flag state body words place
+befallen events.Timeout ReadyState body words place = refl
+befallen events.Off ReadyState body words place = refl
+befallen events.On ReadyState body words place = refl
+befallen (events.Expire flag) ReadyState body words place = refl
+befallen event state body words place = refl
 
 -- a tag whose slot counter is any, behind an event
 slot_befallen : (event : Event) (session q most slot : ℕ) (body : BodyValue) → 1 ≤ slot → slot ≤ most
     → CoversState (true && waits (tag_after_event event (ArbitrateState session q most) body).state) (tag_after_event event (ArbitrateState session q most) body).state (tag_after_event event (ArbitrateState session q slot) body).state
-slot_befallen events.Timeout session q most slot body least within =
-    record { session = session; q = q; most = most; slot = slot; known_is = refl; is = refl; least = least; within = within }
 slot_befallen events.Off session q most slot body least within = refl
-slot_befallen events.On session q most slot body least within =
-    record { session = session; q = q; most = most; slot = slot; known_is = refl; is = refl; least = least; within = within }
 slot_befallen (events.Expire flag) session q most slot body least within =
+    record { session = session; q = q; most = most; slot = slot; known_is = refl; is = refl; least = least; within = within }
+slot_befallen event session q most slot body least within =
     record { session = session; q = q; most = most; slot = slot; known_is = refl; is = refl; least = least; within = within }
 
 state_befallen : (event : Event) (any : Bool) (known state : StateValue) (body : BodyValue) → CoversState any known state
@@ -99,10 +53,8 @@ state_befallen event true known state body covers =
     (slot_befallen event covers.session covers.q covers.most covers.slot body covers.least covers.within))
 
 slot_body : (event : Event) (session q slot other : ℕ) (body : BodyValue) → (tag_after_event event (ArbitrateState session q slot) body).body ≡ (tag_after_event event (ArbitrateState session q other) body).body
-slot_body events.Timeout session q slot other body = refl
-slot_body events.Off session q slot other body = refl
-slot_body events.On session q slot other body = refl
 slot_body (events.Expire flag) session q slot other body = refl
+slot_body event session q slot other body = refl
 
 body_befallen : (event : Event) (any : Bool) (known state : StateValue) (body : BodyValue) → CoversState any known state → (tag_after_event event state body).body ≡ (tag_after_event event known body).body
 body_befallen event false known state body covers = ap (λ (s : StateValue). (tag_after_event event s body).body) covers
@@ -112,37 +64,11 @@ body_befallen event true known state body covers =
 
 small_befallen : (event : Event) (state : StateValue) (body : BodyValue) → HasSmallQ state → HasSmallQ (tag_after_event event state body).state
 small_befallen events.Timeout ReadyState body small = small
-small_befallen events.Timeout (ArbitrateState session q slot) body small = small
-small_befallen events.Timeout (ReplyState session q rn) body small = small
-small_befallen events.Timeout (AcknowledgedState session q rn) body small = small
-small_befallen events.Timeout (OpenState held) body small = small
-small_befallen events.Timeout (SecuredState held) body small = small
-small_befallen events.Timeout KilledState body small = small
-small_befallen events.Timeout UnpoweredState body small = small
-small_befallen events.Off ReadyState body small = small
-small_befallen events.Off (ArbitrateState session q slot) body small = tt
-small_befallen events.Off (ReplyState session q rn) body small = tt
-small_befallen events.Off (AcknowledgedState session q rn) body small = tt
-small_befallen events.Off (OpenState held) body small = tt
-small_befallen events.Off (SecuredState held) body small = tt
-small_befallen events.Off KilledState body small = small
-small_befallen events.Off UnpoweredState body small = small
+small_befallen events.Off ReadyState body small = tt
+small_befallen events.Off state body small = tt
 small_befallen events.On ReadyState body small = small
-small_befallen events.On (ArbitrateState session q slot) body small = small
-small_befallen events.On (ReplyState session q rn) body small = small
-small_befallen events.On (AcknowledgedState session q rn) body small = small
-small_befallen events.On (OpenState held) body small = small
-small_befallen events.On (SecuredState held) body small = small
-small_befallen events.On KilledState body small = small
-small_befallen events.On UnpoweredState body small = tt
 small_befallen (events.Expire flag) ReadyState body small = small
-small_befallen (events.Expire flag) (ArbitrateState session q slot) body small = small
-small_befallen (events.Expire flag) (ReplyState session q rn) body small = small
-small_befallen (events.Expire flag) (AcknowledgedState session q rn) body small = small
-small_befallen (events.Expire flag) (OpenState held) body small = small
-small_befallen (events.Expire flag) (SecuredState held) body small = small
-small_befallen (events.Expire flag) KilledState body small = small
-small_befallen (events.Expire flag) UnpoweredState body small = small
+small_befallen event state body small = small
 
 -- which state before an event leads to one that is meant behind it
 pub record CameFrom (event : Event) (any : Bool) (known : StateValue) (body : BodyValue) (state : StateValue) : Type 0 where
@@ -153,14 +79,13 @@ pub record CameFrom (event : Event) (any : Bool) (known : StateValue) (body : Bo
 slot_came_from : (event : Event) (session q most : ℕ) (body : BodyValue) (state : StateValue) → 1 ≤ most
     → CoversState (true && waits (tag_after_event event (ArbitrateState session q most) body).state) (tag_after_event event (ArbitrateState session q most) body).state state
     → CameFrom event true (ArbitrateState session q most) body state
-slot_came_from events.Timeout session q most body state some covers = record { from = state; meant = covers; becomes = ap (λ (s : StateValue). (after_timeout s body).state) covers.is ∙ sym covers.is }
 slot_came_from events.Off session q most body state some covers = record {
   from = ArbitrateState session q most;
   meant = record { session = session; q = q; most = most; slot = most; known_is = refl; is = refl; least = some; within = omega arith };
   becomes = sym covers;
 }
-slot_came_from events.On session q most body state some covers = record { from = state; meant = covers; becomes = ap (λ (s : StateValue). (after_on s body).state) covers.is ∙ sym covers.is }
-slot_came_from (events.Expire flag) session q most body state some covers = record { from = state; meant = covers; becomes = ap (λ (s : StateValue). (after_expiry flag s body).state) covers.is ∙ sym covers.is }
+slot_came_from event session q most body state some covers =
+    record { from = state; meant = covers; becomes = ap (λ (s : StateValue). (tag_after_event event s body).state) covers.is ∙ sym covers.is }
 
 came_from : (event : Event) (any : Bool) (known : StateValue) (body : BodyValue) (state : StateValue) → CoversState any known known
     → CoversState (any && waits (tag_after_event event known body).state) (tag_after_event event known body).state state → CameFrom event any known body state
@@ -173,38 +98,16 @@ came_from event true known body state itself covers =
 
 -- A command that a tag need not have is drawn nothing at, and a tag that waits doesn't answer it.
 optional_settled : (heard : Option Command) (state : StateValue) (body : BodyValue) → is_optional heard ≡ true → (outcome : Outcome) × (kind_of heard state body ≡ Settled outcome)
-optional_settled None state body optional = absurd (cc)
-optional_settled (Some (commands.QueryRep session)) state body optional = absurd (cc)
-optional_settled (Some (commands.Ack rn)) state body optional = absurd (cc)
-optional_settled (Some (commands.Query dr line_code trext sel session target q)) state body optional = absurd (cc)
-optional_settled (Some (commands.QueryAdjust session updn)) state body optional = absurd (cc)
-optional_settled (Some (commands.Select target action bank pointer mask)) state body optional = absurd (cc)
-optional_settled (Some commands.Nak) state body optional = absurd (cc)
-optional_settled (Some (commands.ReqRn rn)) state body optional = absurd (cc)
-optional_settled (Some (commands.Read bank pointer count rn)) state body optional = absurd (cc)
-optional_settled (Some (commands.Write bank pointer covered rn)) state body optional = absurd (cc)
-optional_settled (Some (commands.Kill covered rn)) state body optional = absurd (cc)
-optional_settled (Some (commands.Lock payload rn)) state body optional = absurd (cc)
 optional_settled (Some (commands.Access covered rn)) state body optional = (_, refl)
 optional_settled (Some (commands.BlockWrite bank pointer block rn)) state body optional = (_, refl)
 optional_settled (Some (commands.BlockErase bank pointer count rn)) state body optional = (_, refl)
+optional_settled heard state body optional = absurd (cc)
 
 optional_waits : (heard : Option Command) (session q slot : ℕ) (body : BodyValue) → is_optional heard ≡ true → seen_answer_to heard (tag_as (ArbitrateState session q slot) body) ≡ None
-optional_waits None session q slot body optional = absurd (cc)
-optional_waits (Some (commands.QueryRep other)) session q slot body optional = absurd (cc)
-optional_waits (Some (commands.Ack rn)) session q slot body optional = absurd (cc)
-optional_waits (Some (commands.Query dr line_code trext sel other target new_q)) session q slot body optional = absurd (cc)
-optional_waits (Some (commands.QueryAdjust other updn)) session q slot body optional = absurd (cc)
-optional_waits (Some (commands.Select target action bank pointer mask)) session q slot body optional = absurd (cc)
-optional_waits (Some commands.Nak) session q slot body optional = absurd (cc)
-optional_waits (Some (commands.ReqRn rn)) session q slot body optional = absurd (cc)
-optional_waits (Some (commands.Read bank pointer count rn)) session q slot body optional = absurd (cc)
-optional_waits (Some (commands.Write bank pointer covered rn)) session q slot body optional = absurd (cc)
-optional_waits (Some (commands.Kill covered rn)) session q slot body optional = absurd (cc)
-optional_waits (Some (commands.Lock payload rn)) session q slot body optional = absurd (cc)
 optional_waits (Some (commands.Access covered rn)) session q slot body optional = refl
 optional_waits (Some (commands.BlockWrite bank pointer block rn)) session q slot body optional = refl
 optional_waits (Some (commands.BlockErase bank pointer count rn)) session q slot body optional = refl
+optional_waits heard session q slot body optional = absurd (cc)
 
 optional_same : (heard : Option Command) (state : StateValue) (body : BodyValue) (words words' : List ℕ) (place place' : ℕ) → IsLegalHeard heard → HasSmallQ state → is_optional heard ≡ true
     → seen_answer_to heard (tag_as state (reworded words place body)) ≡ seen_answer_to heard (tag_as state (reworded words' place' body))
@@ -243,10 +146,6 @@ silent_and_said none some = absurd (wrong (sym none ∙ some))
 
 pub follows_one : (manner : Manner) (known : Known) (entry : LogEntry) (one other : Known) → Follows manner known entry one → Follows manner known entry other → one ≡ other
 follows_one ByTables known (Exchange heard seen) one other left right = open_is known heard one other (left.0.1 ∙ sym right.0.1) left.1 right.1
-follows_one ByTables known (Befalls event) one other left right =
-    known_is one other (left.0 ∙ sym right.0) (left.1 ∙ ap (λ (t : TagValue). known.any && waits t.state) (left.0 ∙ sym right.0) ∙ sym right.1)
-follows_one WithLiberties known (Befalls event) one other left right =
-    known_is one other (left.0 ∙ sym right.0) (left.1 ∙ ap (λ (t : TagValue). known.any && waits t.state) (left.0 ∙ sym right.0) ∙ sym right.1)
 follows_one WithLiberties known (Exchange heard seen) one other left right = open_is known heard one other (same left.0 right.0) left.1 right.1
   where
     same : Allows WithLiberties (Exchange heard seen) (prepared known heard seen) one.tag → Allows WithLiberties (Exchange heard seen) (prepared known heard seen) other.tag → one.tag ≡ other.tag
@@ -259,6 +158,8 @@ follows_one WithLiberties known (Exchange heard seen) one other left right = ope
     same (inr (inr a)) (inl b) = absurd (a.answered (b.0 ∙ a.silent))
     same (inr (inr a)) (inr (inl b)) = silent_and_said a.silent b.other.said
     same (inr (inr a)) (inr (inr b)) = a.stays ∙ sym b.stays
+follows_one manner known (Befalls event) one other left right =
+    known_is one other (left.0 ∙ sym right.0) (left.1 ∙ ap (λ (t : TagValue). known.any && waits t.state) (left.0 ∙ sym right.0) ∙ sym right.1)
 
 -- Each tag that is meant, and may do what an entry says, leads to one that is meant by what is known behind it.
 pub record Goes (manner : Manner) (known : Known) (entry : LogEntry) (words : List ℕ) (behind : TagValue) : Type 0 where
@@ -352,23 +253,20 @@ module _ (known : Known) (valid : IsValid known) (words : List ℕ) (place : ℕ
         body = ap (λ (b : BodyValue). reworded words place b) (body_befallen event known.any known.tag.state tag.state known.tag.body covers.state);
       })
 
+  happens : (manner : Manner) (event : Event) (behind : TagValue) → Allows manner (Befalls event) tag behind → behind ≡ tag_after_event event tag.state tag.body
+  happens ByTables event behind allows = allows
+  happens WithLiberties event behind allows = allows
+
   -- so each tag that is meant goes on, where it may
   pub goes : (manner : Manner) (entry : LogEntry) (behind : TagValue) → IsLegalEntry entry → Allows manner entry tag behind → Goes manner known entry words behind
   goes ByTables (Exchange heard seen) behind legal allows = explained known valid words place inside tag covers heard seen behind legal.heard_is allows
   goes WithLiberties (Exchange heard seen) behind legal allows = excused heard seen behind legal.heard_is allows
-  goes ByTables (Befalls event) behind legal allows = record {
+  goes manner (Befalls event) behind legal allows = record {
     next = known_as (tag_after_event event known.tag.state known.tag.body) (known.any && waits (tag_after_event event known.tag.state known.tag.body).state);
     follows = (refl, refl);
     place = place;
     inside = inside;
-    covers = befalls event behind allows;
-  }
-  goes WithLiberties (Befalls event) behind legal allows = record {
-    next = known_as (tag_after_event event known.tag.state known.tag.body) (known.any && waits (tag_after_event event known.tag.state known.tag.body).state);
-    follows = (refl, refl);
-    place = place;
-    inside = inside;
-    covers = befalls event behind allows;
+    covers = befalls event behind (happens manner event behind allows);
   }
 
 -- Q stays in its range
@@ -418,10 +316,6 @@ prepared_is_meant known heard seen valid = record { state = covers_placed known.
 small_behind : (manner : Manner) (known : Known) (entry : LogEntry) (next : Known) → IsLegalEntry entry → IsValid known → Follows manner known entry next → HasSmallQ next.tag.state
 small_behind ByTables known (Exchange heard seen) next legal valid follows =
     subst (λ (t : TagValue). HasSmallQ t.state) (sym follows.0.1) (small_heard heard (placed known.any seen known.tag.state) known.tag.body (guessed heard seen) 0 legal.heard_is (small_placed known.any seen known.tag.state valid.small))
-small_behind ByTables known (Befalls event) next legal valid follows =
-    subst (λ (t : TagValue). HasSmallQ t.state) (sym follows.0) (small_befallen event known.tag.state known.tag.body valid.small)
-small_behind WithLiberties known (Befalls event) next legal valid follows =
-    subst (λ (t : TagValue). HasSmallQ t.state) (sym follows.0) (small_befallen event known.tag.state known.tag.body valid.small)
 small_behind WithLiberties known (Exchange heard seen) next legal valid follows = by follows.0
   where
     before : HasSmallQ (placed known.any seen known.tag.state)
@@ -434,32 +328,26 @@ small_behind WithLiberties known (Exchange heard seen) next legal valid follows 
     by (inl a) = subst (λ (t : TagValue). HasSmallQ t.state) (sym a.1) heard_small
     by (inr (inl a)) = subst (λ (t : TagValue). HasSmallQ t.state) (sym a.becomes) heard_small
     by (inr (inr a)) = subst (λ (t : TagValue). HasSmallQ t.state) (sym a.stays) before
+small_behind manner known (Befalls event) next legal valid follows =
+    subst (λ (t : TagValue). HasSmallQ t.state) (sym follows.0) (small_befallen event known.tag.state known.tag.body valid.small)
 
 -- so what is known behind an entry is valid, too
 pub valid_behind : (manner : Manner) (known : Known) (entry : LogEntry) (next : Known) → IsLegalEntry entry → IsValid known → Follows manner known entry next → IsValid next
 valid_behind manner known (Exchange heard seen) next legal valid follows =
     let meant = prepared_is_meant known heard seen valid in
     let two : 0 < 2 = omega arith in
-    let gone = goes known valid (guessed heard seen) 0 two (prepared known heard seen) meant manner (Exchange heard seen) next.tag legal (allowed manner follows) in
+    let gone = goes known valid (guessed heard seen) 0 two (prepared known heard seen) meant manner (Exchange heard seen) next.tag legal follows.0 in
     let same : gone.next ≡ next = follows_one manner known (Exchange heard seen) gone.next next gone.follows follows in
     record {
       small = small_behind manner known (Exchange heard seen) next legal valid follows;
       itself = subst (λ (k : Known). CoversState k.any k.tag.state next.tag.state) same gone.covers.state;
     }
-  where
-    allowed : (m : Manner) → Follows m known (Exchange heard seen) next → Allows m (Exchange heard seen) (prepared known heard seen) next.tag
-    allowed ByTables it = it.0
-    allowed WithLiberties it = it.0
 valid_behind manner known (Befalls event) next legal valid follows = record {
   small = small_behind manner known (Befalls event) next legal valid follows;
-  itself = by manner follows;
+  itself = subst (λ (o : Bool). CoversState o next.tag.state next.tag.state) (sym follows.1)
+      (subst (λ (t : TagValue). CoversState (known.any && waits t.state) t.state t.state) (sym follows.0)
+      (state_befallen event known.any known.tag.state known.tag.state known.tag.body valid.itself));
 }
-  where
-    by : (m : Manner) → Follows m known (Befalls event) next → CoversState next.any next.tag.state next.tag.state
-    by ByTables it = subst (λ (o : Bool). CoversState o next.tag.state next.tag.state) (sym it.1)
-        (subst (λ (t : TagValue). CoversState (known.any && waits t.state) t.state t.state) (sym it.0) (state_befallen event known.any known.tag.state known.tag.state known.tag.body valid.itself))
-    by WithLiberties it = subst (λ (o : Bool). CoversState o next.tag.state next.tag.state) (sym it.1)
-        (subst (λ (t : TagValue). CoversState (known.any && waits t.state) t.state t.state) (sym it.0) (state_befallen event known.any known.tag.state known.tag.state known.tag.body valid.itself))
 
 -- Each tag that is meant behind an entry comes of one that is meant before it, by some words.
 pub record Comes (manner : Manner) (known : Known) (entry : LogEntry) (next : Known) (state : StateValue) : Type 0 where

@@ -13,7 +13,7 @@ use Rattle.log_verdicts.specs.laws.Known.{Known, Covers, CoversState, draws_slot
 use Rattle.log_verdicts.specs.laws.Standing.{IsValid}
 use Rattle.log_verdicts.proofs.Guesses.{not_zero}
 use Rattle.log_verdicts.proofs.KindsOfSteps.{of_kind, of_move}
-use Rattle.log_verdicts.proofs.OneKind.{AreSmall, ComesBy, IsSlotWithin, StandsFor, body_kept, body_of, comes_by, guess, replied, settled_comes, slot_within, stands_for}
+use Rattle.log_verdicts.proofs.OneKind.{AreSmall, ComesBy, IsSlotWithin, StandsFor, body_kept, body_of, comes_by, guess, moved_over, replied, settled_comes, slot_within, stands_for}
 use Rattle.log_verdicts.proofs.SuitedKinds.{IsGoodKind, IsGoodMove, good_move, suits}
 
 -- the counter of a tag that waits
@@ -29,12 +29,6 @@ counts_on session q slot body more =
 abbrev pub slot_seen : Option Seen → ℕ → ℕ
 slot_seen None most = most
 slot_seen (Some seen) most = 1
-
-moved_over : (any : Bool) (words : List ℕ) (seen : Option Seen) (mine mine' its its' : Outcome) → mine ≡ mine' → its ≡ its'
-    → StandsFor (any && waits mine'.tag.state) words seen mine' its' → StandsFor (any && waits mine.tag.state) words seen mine its
-moved_over any words seen mine mine' its its' of_mine of_its stands =
-    subst (λ (o : Outcome). StandsFor (any && waits o.tag.state) words seen o its) (sym of_mine)
-    (subst (λ (o : Outcome). StandsFor (any && waits mine'.tag.state) words seen mine' o) (sym of_its) stands)
 
 module _ (draws : Bool) (session q most : ℕ) (body : BodyValue) where
   abbrev MineAt : Move → Option Seen → Outcome
@@ -88,10 +82,8 @@ module _ (draws : Bool) (session q most : ℕ) (body : BodyValue) where
           inside = inside;
           body = refl;
         } in
-        let with_its : StandsFor true words None (silent (ArbitrateState other q (most - 1)) (reworded (guess draws None) 0 body)) (outcome_from (count_kind other q slot body) words place)
-        = subst (λ (k : Kind). StandsFor true words None (silent (ArbitrateState other q (most - 1)) (reworded (guess draws None) 0 body)) (outcome_from k words place)) (sym its) here in
         let whole : GoalAt (Counts other) None
-        = subst (λ (k : Kind). StandsFor (true && waits (outcome_from k (guess draws None) 0).tag.state) words None (outcome_from k (guess draws None) 0) (outcome_from (count_kind other q slot body) words place)) (sym mine) with_its in
+        = moved_over true words None (ap (λ (k : Kind). outcome_from k (guess draws None) 0) mine) (ap (λ (k : Kind). outcome_from k words place) its) here in
         subst (λ (it : Option Seen). GoalAt (Counts other) it) told whole
 
     pub stands_at : (move : Move) (seen : Option Seen) → IsGoodMove draws move → seen_of (outcome_from (kind_at move session q body slot) words place).answer ≡ seen → GoalAt move seen
@@ -223,8 +215,7 @@ module _ (heard : Option Command) (legal : IsLegalHeard heard) (seen : Option Se
       let kind = kind_of heard state body in
       let mine = of_kind (guessed heard seen) 0 heard state body legal small in
       let its = of_kind words place heard state body legal small in
-      moved_over (is_enters kind) words seen (outcome_of_heard heard (record { state = state; body = reworded (guessed heard seen) 0 body })) (outcome_from kind (guessed heard seen) 0)
-      (outcome_of_heard heard (record { state = state; body = reworded words place body })) (outcome_from kind words place) mine.is its.is
+      moved_over (is_enters kind) words seen mine.is its.is
       (stands_for (draws_slot heard) words place inside kind seen (suits heard state body) mine.small (sym (ap (λ (o : Outcome). seen_of o.answer) its.is) ∙ given))
 
   opened : (session q most slot : ℕ) (body : BodyValue) (words : List ℕ) (place : ℕ) → place < length words → q ≤ 15 → 1 ≤ slot → slot ≤ most
@@ -233,9 +224,7 @@ module _ (heard : Option Command) (legal : IsLegalHeard heard) (seen : Option Se
   opened session q most slot body words place inside small least within given =
       let move = move_of heard session q body in
       let its = its_at session q slot body words place small in
-      moved_over true words seen (mine_of (known_as true (ArbitrateState session q most) body) heard seen) (MineAt (draws_slot heard) session q most body move seen)
-      (outcome_of_heard heard (record { state = ArbitrateState session q slot; body = reworded words place body })) (outcome_from (kind_at move session q body slot) words place)
-      (mine_at session q most body small) its
+      moved_over true words seen (mine_at session q most body small) its
       (stands_at (draws_slot heard) session q most body words place inside slot least within move seen (good_move heard session q body legal small) (sym (ap (λ (o : Outcome). seen_of o.answer) its) ∙ given))
 
   by_state : (any : Bool) (known : StateValue) (body : BodyValue) (words : List ℕ) (place : ℕ) (state : StateValue) → place < length words → HasSmallQ known → CoversState any known state

@@ -30,6 +30,12 @@ pub record StandsFor (any : Bool) (words : List ℕ) (seen : Option Seen) (mine 
   pub inside : place < length words
   pub body : its.tag.body ≡ reworded words place mine.tag.body
 
+pub moved_over : (any : Bool) (words : List ℕ) (seen : Option Seen) {mine mine' its its' : Outcome} → mine ≡ mine' → its ≡ its'
+    → StandsFor (any && waits mine'.tag.state) words seen mine' its' → StandsFor (any && waits mine.tag.state) words seen mine its
+moved_over any words seen {mine' = mine'} {its = its} of_mine of_its stands =
+    subst (λ (o : Outcome). StandsFor (any && waits o.tag.state) words seen o its) (sym of_mine)
+    (subst (λ (o : Outcome). StandsFor (any && waits mine'.tag.state) words seen mine' o) (sym of_its) stands)
+
 -- the words that are guessed
 abbrev pub guess : Bool → Option Seen → List ℕ
 guess draws seen = (if draws then slot_word seen else number_in seen) ∷ number_in seen ∷ []
@@ -60,17 +66,11 @@ module _ (draws : Bool) (words : List ℕ) (place : ℕ) (inside : place < lengt
           let answer : Seen = record { reply = Rn16 rn; extended = false } in
           let told : Some answer ≡ seen = sym (ap (λ (o : Outcome). seen_of o.answer) its) ∙ given in
           let guessed_are : guess draws (Some answer) ≡ 0 ∷ rn ∷ [] = ap (λ (it : Bool). (if it then 0 else rn) ∷ rn ∷ []) slot in
-          let mine : enter session q (reworded (0 ∷ rn ∷ []) 0 body) ≡ begin_reply session q (reworded (0 ∷ rn ∷ []) 1 body)
-          = enters_now session q (reworded (0 ∷ rn ∷ []) 0 body) (zero_slot q) in
+          let mine : enter session q (reworded (guess draws (Some answer)) 0 body) ≡ begin_reply session q (reworded (0 ∷ rn ∷ []) 1 body)
+          = ap (λ (ws : List ℕ). enter session q (reworded ws 0 body)) guessed_are ∙ enters_now session q (reworded (0 ∷ rn ∷ []) 0 body) (zero_slot q) in
           let here : StandsFor false words (Some answer) (begin_reply session q (reworded (0 ∷ rn ∷ []) 1 body)) (begin_reply session q (reworded words next_place body))
           = record { answers = refl; state = refl; place = place_behind (length words) next_place; inside = behind_inside (length words) next_place next_inside; body = refl } in
-          let with_mine : StandsFor (true && waits (enter session q (reworded (0 ∷ rn ∷ []) 0 body)).tag.state) words (Some answer) (enter session q (reworded (0 ∷ rn ∷ []) 0 body)) (begin_reply session q (reworded words next_place body))
-          = subst (λ (o : Outcome). StandsFor (true && waits o.tag.state) words (Some answer) o (begin_reply session q (reworded words next_place body))) (sym mine) here in
-          let with_its : StandsFor (true && waits (enter session q (reworded (0 ∷ rn ∷ []) 0 body)).tag.state) words (Some answer) (enter session q (reworded (0 ∷ rn ∷ []) 0 body)) (enter session q (reworded words place body))
-          = subst (λ (o : Outcome). StandsFor (true && waits (enter session q (reworded (0 ∷ rn ∷ []) 0 body)).tag.state) words (Some answer) (enter session q (reworded (0 ∷ rn ∷ []) 0 body)) o) (sym its) with_mine in
-          let with_words : Goal (Enters session q body) (Some answer)
-          = subst (λ (ws : List ℕ). StandsFor (true && waits (enter session q (reworded ws 0 body)).tag.state) words (Some answer) (enter session q (reworded ws 0 body)) (enter session q (reworded words place body))) (sym guessed_are) with_its in
-          subst (λ (it : Option Seen). Goal (Enters session q body) it) told with_words
+          subst (λ (it : Option Seen). Goal (Enters session q body) it) told (moved_over true words (Some answer) mine its here)
 
       later : 1 ≤ slot_of_draw q (reworded words place body) → Goal (Enters session q body) seen
       later some =
@@ -81,8 +81,8 @@ module _ (draws : Bool) (words : List ℕ) (place : ℕ) (inside : place < lengt
           let below : slot_is < 2 ^ q = slot_below_power (slice_index words place) q in
           let full : 0xFFFF % 2 ^ q ≡ 2 ^ q - 1 = full_slot q small in
           let more : 1 ≤ 0xFFFF % 2 ^ q = omega (arith, full, below, some) in
-          let mine : enter session q (reworded (0xFFFF ∷ 0 ∷ []) 0 body) ≡ silent (ArbitrateState session q (0xFFFF % 2 ^ q)) (reworded (0xFFFF ∷ 0 ∷ []) 1 body)
-          = enters_later session q (reworded (0xFFFF ∷ 0 ∷ []) 0 body) more in
+          let mine : enter session q (reworded (guess draws None) 0 body) ≡ silent (ArbitrateState session q (0xFFFF % 2 ^ q)) (reworded (0xFFFF ∷ 0 ∷ []) 1 body)
+          = ap (λ (ws : List ℕ). enter session q (reworded ws 0 body)) guessed_are ∙ enters_later session q (reworded (0xFFFF ∷ 0 ∷ []) 0 body) more in
           let here : StandsFor true words None (silent (ArbitrateState session q (0xFFFF % 2 ^ q)) (reworded (0xFFFF ∷ 0 ∷ []) 1 body)) (silent (ArbitrateState session q slot_is) (reworded words next_place body))
           = record {
             answers = refl;
@@ -91,13 +91,7 @@ module _ (draws : Bool) (words : List ℕ) (place : ℕ) (inside : place < lengt
             inside = next_inside;
             body = refl;
           } in
-          let with_mine : StandsFor (true && waits (enter session q (reworded (0xFFFF ∷ 0 ∷ []) 0 body)).tag.state) words None (enter session q (reworded (0xFFFF ∷ 0 ∷ []) 0 body)) (silent (ArbitrateState session q slot_is) (reworded words next_place body))
-          = subst (λ (o : Outcome). StandsFor (true && waits o.tag.state) words None o (silent (ArbitrateState session q slot_is) (reworded words next_place body))) (sym mine) here in
-          let with_its : StandsFor (true && waits (enter session q (reworded (0xFFFF ∷ 0 ∷ []) 0 body)).tag.state) words None (enter session q (reworded (0xFFFF ∷ 0 ∷ []) 0 body)) (enter session q (reworded words place body))
-          = subst (λ (o : Outcome). StandsFor (true && waits (enter session q (reworded (0xFFFF ∷ 0 ∷ []) 0 body)).tag.state) words None (enter session q (reworded (0xFFFF ∷ 0 ∷ []) 0 body)) o) (sym its) with_mine in
-          let with_words : Goal (Enters session q body) None
-          = subst (λ (ws : List ℕ). StandsFor (true && waits (enter session q (reworded ws 0 body)).tag.state) words None (enter session q (reworded ws 0 body)) (enter session q (reworded words place body))) (sym guessed_are) with_its in
-          subst (λ (it : Option Seen). Goal (Enters session q body) it) told with_words
+          subst (λ (it : Option Seen). Goal (Enters session q body) it) told (moved_over true words None mine its here)
 
   pub replied : (session q : ℕ) (body : BodyValue) (seen : Option Seen) → draws ≡ false
       → seen_of (begin_reply session q (reworded words place body)).answer ≡ seen → Goal (Replies session q body) seen

@@ -1,9 +1,9 @@
 -- Each log has exactly one verdict, and what becomes of it where the log goes on.
-use Rattle.std.proofs.Common.{◌≡◌, ℕ, ◌+◌, ◌<◌, ◌^◌, false, List, [], ◌∷◌, ◌++◌, Option, Some, None, refl, sym, ◌∙◌, ap, subst, arith, inl, inr, append_assoc, append-nil}
+use Rattle.std.proofs.Common.{rules, ◌≡◌, ℕ, ◌+◌, ◌<◌, ◌^◌, false, List, [], ◌∷◌, ◌++◌, Option, Some, None, refl, sym, ◌∙◌, ap, subst, arith, inl, inr, append_assoc, append-nil}
 use Rattle.std.specs.Prelude.{◌⊎◌}
 use Rattle.command_grammar.specs.declared.commands.Command.{Command}
 use Rattle.reply_grammar.specs.declared.expected.Reply.{Reply}
-use Rattle.reply_grammar.specs.declared.expected.Reply.TheVariants.{Rn16, Epc, Handle, Words, Header, Error}
+use Rattle.reply_grammar.specs.declared.expected.Reply.TheVariants.{Rn16, Handle}
 use Rattle.tag_machine.specs.Events.{tag_after_event}
 use Rattle.tag_machine.specs.TagValue.{TagValue}
 use Rattle.log_verdicts.specs.Log.{AreDrawn, LogEntry, LoggedTag, Seen, Exchange, Befalls, last_line, line_count, lines_in, tag_with}
@@ -81,23 +81,20 @@ module _ (manner : Manner) (tag : LoggedTag) where
 pub allowed_or_fails : (manner : Manner) (tag : LoggedTag) (log : List LogEntry) → IsLegalLog log → IsAllowed manner tag log ⊎ Failure manner tag log
 allowed_or_fails manner tag log legal = first_failure manner tag [] (record { tag = tag_with tag (0 ∷ []); any = false }) log (stands_first manner tag (0 ∷ [])) legal
 
+-- what is allowed is allowed up to a failure
+allowed_up_to : (manner : Manner) {by : Manner} {tag : LoggedTag} {log : List LogEntry} {number : ℕ} {want : Want} → (first : FailsFirst by tag log number want)
+    → IsAllowed manner tag log → IsAllowed manner tag (first.before ++ Exchange first.heard first.seen ∷ [])
+allowed_up_to manner {tag = tag} first allowed =
+    allowed_front manner tag (first.before ++ Exchange first.heard first.seen ∷ []) first.behind
+    (subst (λ (l : List LogEntry). IsAllowed manner tag l) (first.cut ∙ sym (append_assoc first.before (Exchange first.heard first.seen ∷ []) first.behind)) allowed)
+
 pub some_verdict : (tag : LoggedTag) (log : List LogEntry) → IsLegalLog log → (verdict : Verdict) × IsVerdict tag log verdict
 some_verdict tag log legal = by (allowed_or_fails ByTables tag log legal) (allowed_or_fails WithLiberties tag log legal)
   where
-    unexplained : {number : ℕ} {want : Want} → FailsFirst ByTables tag log number want → ¬ IsExplained tag log
-    unexplained first explained =
-        first.fails (allowed_front ByTables tag (first.before ++ Exchange first.heard first.seen ∷ []) first.behind
-        (subst (λ (l : List LogEntry). IsExplained tag l) (first.cut ∙ sym (append_assoc first.before (Exchange first.heard first.seen ∷ []) first.behind)) explained))
-
-    unexcused : {number : ℕ} {want : Want} → FailsFirst WithLiberties tag log number want → ¬ IsExcused tag log
-    unexcused first excused =
-        first.fails (allowed_front WithLiberties tag (first.before ++ Exchange first.heard first.seen ∷ []) first.behind
-        (subst (λ (l : List LogEntry). IsExcused tag l) (first.cut ∙ sym (append_assoc first.before (Exchange first.heard first.seen ∷ []) first.behind)) excused))
-
     by : IsExplained tag log ⊎ Failure ByTables tag log → IsExcused tag log ⊎ Failure WithLiberties tag log → (verdict : Verdict) × IsVerdict tag log verdict
     by (inl explained) other = (Yes, explained)
-    by (inr one) (inl excused) = (Profile one.0 one.1, record { unexplained = unexplained one.2; excused = excused; first = one.2 })
-    by (inr one) (inr other) = (No other.0 other.1, record { unexcused = unexcused other.2; first = other.2 })
+    by (inr one) (inl excused) = (Profile one.0 one.1, record { unexplained = λ explained. one.2.fails (allowed_up_to ByTables one.2 explained); excused = excused; first = one.2 })
+    by (inr one) (inr other) = (No other.0 other.1, record { unexcused = λ excused. other.2.fails (allowed_up_to WithLiberties other.2 excused); first = other.2 })
 
 -- Two wants that mean the same are one.
 abbrev rn_answer : ℕ → Option Seen
@@ -114,11 +111,8 @@ a_handle number range = record { number = number; range = range; is = refl }
 
 abbrev what_reply : Reply → ℕ
 what_reply (Rn16 number) = 3 + number
-what_reply (Epc pc epc) = 1
 what_reply (Handle number) = 2
-what_reply (Words words) = 1
-what_reply Header = 1
-what_reply (Error code) = 1
+what_reply reply = 1
 
 abbrev what_answer : Option Seen → ℕ
 what_answer None = 0
@@ -129,12 +123,8 @@ seen_or default None = default
 seen_or default (Some seen) = seen
 
 abbrev handle_of_reply : Reply → ℕ
-handle_of_reply (Rn16 number) = 0
-handle_of_reply (Epc pc epc) = 0
 handle_of_reply (Handle number) = 1 + number
-handle_of_reply (Words words) = 0
-handle_of_reply Header = 0
-handle_of_reply (Error code) = 0
+handle_of_reply reply = 0
 
 abbrev handle_in : Option Seen → ℕ
 handle_in None = 0
@@ -236,21 +226,16 @@ module _ (manner : Manner) (tag : LoggedTag) (log : List LogEntry) where
 
 pub one_verdict : (tag : LoggedTag) (log : List LogEntry) (one other : Verdict) → IsVerdict tag log one → IsVerdict tag log other → one ≡ other
 one_verdict tag log Yes Yes left right = refl
-one_verdict tag log Yes (Profile number want) left right = absurd (right.unexplained left)
-one_verdict tag log Yes (No number want) left right = absurd (right.unexcused (explained_is_excused tag log left))
-one_verdict tag log (Profile number want) Yes left right = absurd (left.unexplained right)
 one_verdict tag log (Profile number want) (Profile number' want') left right =
     let same = one_failure ByTables tag log number number' want want' left.first right.first in
     ap (λ n. Profile n want) same.0 ∙ ap (λ w. Profile number' w) same.1
-one_verdict tag log (Profile number want) (No number' want') left right = absurd (right.unexcused left.excused)
-one_verdict tag log (No number want) Yes left right = absurd (left.unexcused (explained_is_excused tag log right))
-one_verdict tag log (No number want) (Profile number' want') left right = absurd (left.unexcused right.excused)
 one_verdict tag log (No number want) (No number' want') left right =
     let same = one_failure WithLiberties tag log number number' want want' left.first right.first in
     ap (λ n. No n want) same.0 ∙ ap (λ w. No number' w) same.1
+one_verdict tag log one other left right = absurd (search (rules, explained_is_excused))
 
 -- Where a log goes on, its first failure stays the first.
-goes_on : (manner : Manner) (tag : LoggedTag) (log more : List LogEntry) (number : ℕ) (want : Want) → FailsFirst manner tag log number want → FailsFirst manner tag (log ++ more) number want
+pub goes_on : (manner : Manner) (tag : LoggedTag) (log more : List LogEntry) (number : ℕ) (want : Want) → FailsFirst manner tag log number want → FailsFirst manner tag (log ++ more) number want
 goes_on manner tag log more number want first = record {
   before = first.before;
   heard = first.heard;
@@ -282,8 +267,7 @@ fails_later tag log more number number' want want' excused one other = by (two_c
     whole = ap (λ (l : List LogEntry). l ++ more) one.cut ∙ append_assoc one.before (Exchange one.heard one.seen ∷ one.behind) more
 
     up_to_one : IsExcused tag (one.before ++ Exchange one.heard one.seen ∷ [])
-    up_to_one = allowed_front WithLiberties tag (one.before ++ Exchange one.heard one.seen ∷ []) one.behind
-        (subst (λ (l : List LogEntry). IsExcused tag l) (one.cut ∙ sym (append_assoc one.before (Exchange one.heard one.seen ∷ []) one.behind)) excused)
+    up_to_one = allowed_up_to WithLiberties one excused
 
     by : TwoCuts one.before other.before (Exchange one.heard one.seen) (Exchange other.heard other.seen) → number < number'
     by (at_one befores entries) = absurd (other.fails (subst (λ (l : List LogEntry). IsExcused tag l)

@@ -17,12 +17,9 @@ use Rattle.reply_text.specs.declared.kinds.ReplyKind.TheVariants as kinds
 use Rattle.reply_text.specs.ReplyText.{IsFaultyReply, IsReplyForm, IsReplyText, other_reply_fields, replies, reply_field_count, reply_fields, reply_kind, reply_line, reply_name}
 
 name_is : (kind : ReplyKind) → IsFieldText (reply_name kind)
-name_is kinds.Rn16 = search (arith, before, IsFieldText-one) depth 12
-name_is kinds.Epc = search (arith, before, IsFieldText-one) depth 12
 name_is kinds.Handle = search (arith, before, IsFieldText-one) depth 16
-name_is kinds.Words = search (arith, before, IsFieldText-one) depth 12
 name_is kinds.Header = search (arith, before, IsFieldText-one) depth 16
-name_is kinds.Error = search (arith, before, IsFieldText-one) depth 12
+name_is kind = search (arith, before, IsFieldText-one) depth 12
 
 one_text : (field : List ℕ) → IsFieldText field → All IsFieldText (field ∷ [])
 one_text field is = All-cons IsFieldText field [] is (All-nil IsFieldText)
@@ -42,11 +39,7 @@ reply_texts reply = All-cons IsFieldText (reply_name (reply_kind reply)) (other_
 -- a reply has as many fields as its name says
 counted : (reply : Reply) → reply_field_count (reply_kind reply) ≡ length (other_reply_fields reply)
 counted (Rn16 rn) = refl
-counted (Epc pc epc) = refl
-counted (Handle rn) = refl
-counted (Words words) = refl
-counted Header = refl
-counted (Error code) = refl
+counted reply = refl
 
 filled : (reply : Reply) → IsReplyForm reply → AreFilled (reply_field_count (reply_kind reply)) (other_reply_fields reply)
 filled reply is = texts_filled (other_reply_fields reply) (reply_field_count (reply_kind reply)) (other_texts reply) (counted reply)

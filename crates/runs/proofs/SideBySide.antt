@@ -1,38 +1,35 @@
 -- Rounds that stand side by side: a sound one lists each tag that has the flag it asks for, and leaves each tag with the flag that the
 -- next one asks for.
-use Rattle.std.proofs.Common.{◌≡◌, ℕ, zero, suc, ◌+◌, ◌*◌, ◌≤◌, ◌==◌, ◌&&◌, Bool, true, false, ◌⊎◌, inl, inr, List, [], ◌∷◌, ◌++◌, length, Some, if◌then◌else◌, refl, ap, sym, ◌∙◌, subst, arith}
-use Rattle.std.proofs.lemmas.List.{append_assoc}
+use Rattle.std.proofs.Common.{◌≡◌, ℕ, zero, suc, ◌+◌, ◌≤◌, ◌==◌, ◌&&◌, Bool, true, false, ◌⊎◌, inl, inr, List, [], ◌∷◌, ◌++◌, Some, if◌then◌else◌, refl, ap, sym, ◌∙◌, subst, arith}
 use Rattle.std.proofs.lemmas.Bool.{eqb-true}
-use Rattle.access_ops.specs.declared.OpList.{OpList}
 use Rattle.air_model.specs.Channel.{Given, silence, whole, broken, raw}
 use Rattle.air_events.specs.Entries.{no_entry}
 use Rattle.air_model.specs.Past.{Start, Record, Item, befell, exchanged, operated, ended, tag_behind, next_entry, next_record}
 use Rattle.command_fields.specs.declared.choices.Side.{Side}
 use Rattle.command_fields.specs.declared.choices.Side.TheVariants.{A, B}
-use Rattle.command_fields.specs.declared.choices.Sel.{Sel}
-use Rattle.q_round.specs.SpecValue.{SpecValue}
-use Rattle.q_round.specs.declared.round.RoundEnd.{RoundEnd}
+use Rattle.session_flags.specs.Actions.{side_after}
+use Rattle.session_flags.specs.declared.flags.Effect.TheVariants.{Negate}
 use Rattle.q_round.specs.declared.round.RoundEnd.TheVariants as ends
 use Rattle.scenario.specs.declared.values.Step.{Step}
 use Rattle.scenario.specs.declared.values.Step.TheVariants as steps
 use Rattle.session_flags.specs.declared.flags.Flags.{Flags}
 use Rattle.session_flags.specs.Flags.{flags_after_inversion, is_side, matches, sel_allows, side_of}
-use Rattle.tag_machine.specs.TagValue.{StateValue, ReadyState, ArbitrateState, ReplyState, AcknowledgedState, OpenState, SecuredState, KilledState, UnpoweredState, TagValue, is_present}
+use Rattle.tag_machine.specs.TagValue.{StateValue, ReadyState, AcknowledgedState, OpenState, SecuredState, TagValue, is_present}
 use Rattle.runs.specs.Complete.{HasNumber}
-use Rattle.runs.specs.Counted.{CountedRound, is_spoken_to}
+use Rattle.runs.specs.Counted.{is_spoken_to}
 use Rattle.runs.specs.Headline.{AreLegalSteps, IsRecordOf, rounds_of}
-use Rattle.runs.specs.History.{history_of, past_behind}
+use Rattle.runs.specs.History.{history_of}
 use Rattle.runs.specs.Listed.{is_of_round, listed_as, sender_listed_by, sender_where, tags_listed_in, times}
 use Rattle.runs.specs.Listing.{Listed, listed_by}
 use Rattle.runs.specs.Moments.{Ending, ending_of, is_query_of, past_after_query, tag_after_query}
-use Rattle.runs.specs.Recounts.{AreInTurn, HoldsOfEach, IsSound, MayTakePart, Recount, history_with, is_inventoried_in, other_side, round_behind, steps_with, tag_where, unsound_from}
-use Rattle.runs.specs.TagInRound.{flags_behind_query, flags_closed, flags_in_round, is_matched}
+use Rattle.runs.specs.Recounts.{IsSound, MayTakePart, is_inventoried_in, other_side, round_behind, tag_where}
+use Rattle.runs.specs.TagInRound.{flags_behind_query, flags_in_round, is_matched}
 use Rattle.runs.proofs.Growth.{RoundsKeepLimit}
-use Rattle.runs.proofs.PlayedRounds.{number_of, past_behind_played}
+use Rattle.runs.proofs.PlayedRounds.{number_of}
 use Rattle.runs.proofs.CompleteRound.{IsFairRound, IsTold, RoundAmong, RoundsHaveFacts, at-quiet, counted-round, number-among, past_behind-append, legal-split, played, steps_around, taken-told}
 use Rattle.runs.proofs.Population.{tag-steps, tag_stepped}
 use Rattle.runs.proofs.TagQuery.{query-flags, query-matched}
-use Rattle.runs.proofs.TagsInRound.{past_at_query, query_command}
+use Rattle.runs.proofs.TagsInRound.{query_command}
 use Rattle.runs.proofs.Times.{times-append, times-one, bit}
 use Rattle.runs.proofs.WholeRound.{slots_to}
 
@@ -65,62 +62,36 @@ sl-closed own (suc (suc (suc (suc session)))) flags true few = absurd (omega (ar
 sl-closed own session flags false few = refl
 
 sl-kept : (session : ℕ) (state : StateValue) (flags : Flags) → session ≤ 3 → (flags_behind_query session state flags).sl ≡ flags.sl
-sl-kept session ReadyState flags few = refl
-sl-kept session (ArbitrateState own q slot) flags few = refl
-sl-kept session (ReplyState own q rn) flags few = refl
 sl-kept session (AcknowledgedState own q rn) flags few = sl-closed own session flags (own == session) few
 sl-kept session (OpenState held) flags few = sl-closed held.session session flags (held.session == session) few
 sl-kept session (SecuredState held) flags few = sl-closed held.session session flags (held.session == session) few
-sl-kept session KilledState flags few = refl
-sl-kept session UnpoweredState flags few = refl
+sl-kept session state flags few = refl
 
 own-side : (side : Side) → is_side side side ≡ true
 own-side A = refl
 own-side B = refl
 
 -- the flag that a round of this target leaves: it inverts the flag of a tag that has it
-left-zero : (target side : Side) (flags : Flags) → flags.s0 ≡ side → side_of (flags_in_round 0 (is_side target side) flags) 0 ≡ other_side target
-left-zero A A flags is = rw is refl
-left-zero A B flags is = is
-left-zero B A flags is = is
-left-zero B B flags is = rw is refl
-
-left-one : (target side : Side) (flags : Flags) → flags.s1 ≡ side → side_of (flags_in_round 1 (is_side target side) flags) 1 ≡ other_side target
-left-one A A flags is = rw is refl
-left-one A B flags is = is
-left-one B A flags is = is
-left-one B B flags is = rw is refl
-
-left-two : (target side : Side) (flags : Flags) → flags.s2 ≡ side → side_of (flags_in_round 2 (is_side target side) flags) 2 ≡ other_side target
-left-two A A flags is = rw is refl
-left-two A B flags is = is
-left-two B A flags is = is
-left-two B B flags is = rw is refl
-
-left-three : (target side : Side) (flags : Flags) → flags.s3 ≡ side → side_of (flags_in_round 3 (is_side target side) flags) 3 ≡ other_side target
-left-three A A flags is = rw is refl
-left-three A B flags is = is
-left-three B A flags is = is
-left-three B B flags is = rw is refl
+left : (target side : Side) (of : Bool → Side) → of true ≡ side_after Negate side → of false ≡ side → of (is_side target side) ≡ other_side target
+left A A of listed other = listed
+left A B of listed other = other
+left B A of listed other = other
+left B B of listed other = listed
 
 side-left : (session : ℕ) (target : Side) (flags : Flags) → session ≤ 3
     → side_of (flags_in_round session (is_side target (side_of flags session)) flags) session ≡ other_side target
-side-left zero target flags few = left-zero target flags.s0 flags refl
-side-left (suc zero) target flags few = left-one target flags.s1 flags refl
-side-left (suc (suc zero)) target flags few = left-two target flags.s2 flags refl
-side-left (suc (suc (suc zero))) target flags few = left-three target flags.s3 flags refl
+side-left zero target flags few = left target flags.s0 (λ listed. side_of (flags_in_round 0 listed flags) 0) refl refl
+side-left (suc zero) target flags few = left target flags.s1 (λ listed. side_of (flags_in_round 1 listed flags) 1) refl refl
+side-left (suc (suc zero)) target flags few = left target flags.s2 (λ listed. side_of (flags_in_round 2 listed flags) 2) refl refl
+side-left (suc (suc (suc zero))) target flags few = left target flags.s3 (λ listed. side_of (flags_in_round 3 listed flags) 3) refl refl
 side-left (suc (suc (suc (suc session)))) target flags few = absurd (omega (arith, few))
 
 -- the flag of a tag that is fresh is left as it is
 pub side-fresh : (session : ℕ) (state : StateValue) (flags : Flags) → is_inventoried_in session state ≡ false → flags_behind_query session state flags ≡ flags
-side-fresh session ReadyState flags no_part = refl
-side-fresh session (ArbitrateState own q slot) flags no_part = refl
-side-fresh session (ReplyState own q rn) flags no_part = refl
 side-fresh session (AcknowledgedState own q rn) flags no_part = ap (λ (b : Bool). if b then flags_after_inversion flags session else flags) no_part
 side-fresh session (OpenState held) flags no_part = ap (λ (b : Bool). if b then flags_after_inversion flags session else flags) no_part
 side-fresh session (SecuredState held) flags no_part = ap (λ (b : Bool). if b then flags_after_inversion flags session else flags) no_part
-side-fresh session KilledState flags no_part = refl
-side-fresh session UnpoweredState flags no_part = refl
+side-fresh session state flags no_part = refl
 
 -- where the step behind these steps begins, a Query finds the flag of a tag to be this, if the tag is present
 abbrev pub HasFlagWhere : Start → ℕ → Side → ℕ → TagValue → List Step → Type 0

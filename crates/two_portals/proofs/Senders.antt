@@ -82,14 +82,13 @@ weight_of pair (Some other) = cond (same_pair pair other) 1 0
 sent-counted : (own : List Pair) (pair : Pair) (pairs : List Pair) (senders : List ℕ) → AllZip (λ sent number. slice_get own number ≡ Some sent) pairs senders
     → count pair pairs ≡ sum_by (λ number. weight_of pair (slice_get own number)) senders
 sent-counted own pair [] [] sent = refl
-sent-counted own pair [] (number ∷ senders) sent = absurd sent
-sent-counted own pair (first ∷ pairs) [] sent = absurd sent
 sent-counted own pair (first ∷ pairs) (number ∷ senders) sent =
     let here = sum_by-cons (λ (other : Pair). cond (same_pair pair other) 1 0) first pairs in
     let there = sum_by-cons (λ (each : ℕ). weight_of pair (slice_get own each)) number senders in
     let weight = ap (weight_of pair) sent.0 in
     let later = sent-counted own pair pairs senders sent.1 in
     omega (arith, here, there, weight, later)
+sent-counted own pair pairs senders sent = absurd sent
 
 pub sent-alike : (own : List Pair) (one other : List Pair) (senders senders2 : List ℕ) → AllZip (λ sent number. slice_get own number ≡ Some sent) one senders
     → AllZip (λ sent number. slice_get own number ≡ Some sent) other senders2 → NameAlike senders senders2 → AreAlike one other
@@ -100,8 +99,6 @@ sent-alike own one other senders senders2 sent sent2 alike = λ pair.
 pub unknown-unnamed : (own : List Pair) (pairs : List Pair) (senders : List ℕ) (number : ℕ) → AllZip (λ sent each. slice_get own each ≡ Some sent) pairs senders
     → slice_get own number ≡ None → times number senders ≡ 0
 unknown-unnamed own [] [] number sent unknown = refl
-unknown-unnamed own [] (first ∷ senders) number sent unknown = absurd sent
-unknown-unnamed own (pair ∷ pairs) [] number sent unknown = absurd sent
 unknown-unnamed own (pair ∷ pairs) (first ∷ senders) number sent unknown =
     elim (split (first == number)) [
       | inl here ↦ absurd (let known = sent.0 in let same = eqb-true first number here in cc)
@@ -111,3 +108,4 @@ unknown-unnamed own (pair ∷ pairs) (first ∷ senders) number sent unknown =
           let later = unknown-unnamed own pairs senders number sent.1 unknown in
           omega (arith, whole, none, later)
     ]
+unknown-unnamed own pairs senders number sent unknown = absurd sent

@@ -1,5 +1,5 @@
 -- Two portals don't disturb each other: each round leaves the flags of the other portal's session.
-use Rattle.std.proofs.Common.{◌≡◌, ◌⊎◌, inl, inr, ℕ, Bool, true, false, List, [], ◌∷◌, map, refl, sym, ap, ◌∙◌, subst, Some, None, option_map, zero, suc}
+use Rattle.std.proofs.Common.{rules, ◌≡◌, ◌⊎◌, inl, inr, ℕ, Bool, true, false, List, [], ◌∷◌, map, refl, sym, ap, ◌∙◌, subst, Some, None, option_map, zero, suc}
 use Rattle.std.specs.Prelude.{All, slice_get, if◌then◌else◌}
 use Rattle.std.specs.List.{AllZip}
 use Rattle.std.proofs.lemmas.Option.{slice_get-map}
@@ -90,24 +90,16 @@ AreAllTwins session joint alone = AllZip (AreTwins session) joint alone
 pub own-round : (spec : SpecValue) (joint alone left own : List TagValue) → IsPortal spec.session → AreAllTwins spec.session joint alone → AllZip (IsLeftByRound spec) joint left
     → AllZip (IsLeftByRound spec) alone own → AreAllTwins spec.session left own
 own-round spec [] [] [] [] portal twins kept kept2 = twins
-own-round spec [] [] [] (tag ∷ own) portal twins kept kept2 = absurd kept2
-own-round spec [] [] (tag ∷ left) own portal twins kept kept2 = absurd kept
-own-round spec [] (tag ∷ alone) left own portal twins kept kept2 = absurd twins
-own-round spec (tag ∷ joint) [] left own portal twins kept kept2 = absurd twins
-own-round spec (tag ∷ joint) (tag2 ∷ alone) [] own portal twins kept kept2 = absurd kept
-own-round spec (tag ∷ joint) (tag2 ∷ alone) (tag3 ∷ left) [] portal twins kept kept2 = absurd kept2
 own-round spec (tag ∷ joint) (tag2 ∷ alone) (tag3 ∷ left) (tag4 ∷ own) portal twins kept kept2 =
     (own-twins spec tag tag2 tag3 tag4 portal twins.0 kept.0 kept2.0, own-round spec joint alone left own portal twins.1 kept.1 kept2.1)
+own-round spec joint alone left own portal twins kept kept2 = absurd (search rules)
 
 pub other-round : (spec : SpecValue) (session : ℕ) (joint alone left : List TagValue) → IsPortal spec.session → KeepsSide spec.session session → AreAllTwins session joint alone
     → AllZip (IsLeftByRound spec) joint left → AreAllTwins session left alone
 other-round spec session [] [] [] portal keeps twins kept = twins
-other-round spec session [] [] (tag ∷ left) portal keeps twins kept = absurd kept
-other-round spec session [] (tag ∷ alone) left portal keeps twins kept = absurd twins
-other-round spec session (tag ∷ joint) [] left portal keeps twins kept = absurd twins
-other-round spec session (tag ∷ joint) (tag2 ∷ alone) [] portal keeps twins kept = absurd kept
 other-round spec session (tag ∷ joint) (tag2 ∷ alone) (tag3 ∷ left) portal keeps twins kept =
     (other-twins spec session tag tag2 tag3 portal keeps twins.0 kept.0, other-round spec session joint alone left portal keeps twins.1 kept.1)
+other-round spec session joint alone left portal keeps twins kept = absurd (search rules)
 
 new-twins : (session : ℕ) (tag : TagValue) → IsNewTag tag → AreTwins session tag tag
 new-twins session tag fresh = record { ready = fresh.state; alone_ready = fresh.state; memory = refl; sl = refl; side = refl }
@@ -118,15 +110,13 @@ all-new-twins session (tag ∷ tags) fresh = (new-twins session tag (All-head Is
 
 pub joint-ready : (session : ℕ) (joint alone : List TagValue) → AreAllTwins session joint alone → AreReady joint
 joint-ready session [] [] twins = All-nil (λ tag. tag.state ≡ ReadyState)
-joint-ready session [] (tag ∷ alone) twins = absurd twins
-joint-ready session (tag ∷ joint) [] twins = absurd twins
 joint-ready session (tag ∷ joint) (tag2 ∷ alone) twins = All-cons (λ tag. tag.state ≡ ReadyState) tag joint twins.0.ready (joint-ready session joint alone twins.1)
+joint-ready session joint alone twins = absurd twins
 
 pub alone-ready : (session : ℕ) (joint alone : List TagValue) → AreAllTwins session joint alone → AreReady alone
 alone-ready session [] [] twins = All-nil (λ tag. tag.state ≡ ReadyState)
-alone-ready session [] (tag ∷ alone) twins = absurd twins
-alone-ready session (tag ∷ joint) [] twins = absurd twins
 alone-ready session (tag ∷ joint) (tag2 ∷ alone) twins = All-cons (λ tag. tag.state ≡ ReadyState) tag2 alone twins.0.alone_ready (alone-ready session joint alone twins.1)
+alone-ready session joint alone twins = absurd twins
 
 -- twins have one memory
 one-pair : (session : ℕ) (joint alone : TagValue) → AreTwins session joint alone → pc_and_epc_of joint ≡ pc_and_epc_of alone
@@ -134,12 +124,11 @@ one-pair session joint alone twins = rw twins.memory refl
 
 same-pairs : (session : ℕ) (joint alone : List TagValue) → AreAllTwins session joint alone → map pc_and_epc_of joint ≡ map pc_and_epc_of alone
 same-pairs session [] [] twins = refl
-same-pairs session [] (tag ∷ alone) twins = absurd twins
-same-pairs session (tag ∷ joint) [] twins = absurd twins
 same-pairs session (tag ∷ joint) (tag2 ∷ alone) twins =
     let here = one-pair session tag tag2 twins.0 in
     let later = same-pairs session joint alone twins.1 in
     λ i. here i ∷ later i
+same-pairs session joint alone twins = absurd twins
 
 -- the tags of a number in both halls, or that there are none
 data AreAt (session : ℕ) (joint alone : List TagValue) (number : ℕ) : Type 0 where
@@ -148,14 +137,13 @@ data AreAt (session : ℕ) (joint alone : List TagValue) (number : ℕ) : Type 0
 
 twins-at : (session : ℕ) (joint alone : List TagValue) (number : ℕ) → AreAllTwins session joint alone → AreAt session joint alone number
 twins-at session [] [] number twins = none refl refl
-twins-at session [] (tag ∷ alone) number twins = absurd twins
-twins-at session (tag ∷ joint) [] number twins = absurd twins
 twins-at session (tag ∷ joint) (tag2 ∷ alone) zero twins = both tag tag2 refl refl twins.0
 twins-at session (tag ∷ joint) (tag2 ∷ alone) (suc number) twins =
     elim (twins-at session joint alone number twins.1) [
       | both one own here there alike ↦ both one own here there alike
       | none here there ↦ none here there
     ]
+twins-at session joint alone number twins = absurd twins
 
 no-pair : (tags : List TagValue) (number : ℕ) → slice_get tags number ≡ None → slice_get (map pc_and_epc_of tags) number ≡ None
 no-pair tags number unknown = slice_get-map pc_and_epc_of tags number ∙ ap (option_map pc_and_epc_of) unknown

@@ -1,6 +1,6 @@
 -- What is judged of the log, or the line of the first fault; and what a failed write left of it is a front.
 use Rattle.std.proofs.Common.{◌≡◌, ◌∙◌, inl, inr, rules}
-use Rattle.log_judge.specs.Answers.{verdict_in}
+use Rattle.judge_lines.specs.Answers.{verdict_in}
 use Rattle.judge_lines.specs.VerdictLine.{line_of_verdict}
 use Rattle.top_call.specs.words.Judged.{judge_job}
 use Rattle.top_call.proofs.Ends.{write_failed}
