@@ -5,6 +5,7 @@ use Rattle.std.proofs.lemmas.Bool.{eq-eqb, ne_eqb}
 use Rattle.std.proofs.lemmas.Bool.Decides.{eqb_tells}
 use Rattle.std.proofs.lemmas.List.{length-map}
 use Rattle.air_events.specs.declared.Entry.{Entry}
+use Rattle.command_fields.specs.declared.choices.UpDn.{UpDn}
 use Rattle.command_grammar.specs.declared.commands.Command.{Command}
 use Rattle.command_grammar.specs.declared.commands.Command.TheVariants as commands
 use Rattle.tag_machine.specs.Answers.{Outcome, silent}
@@ -15,8 +16,9 @@ use Rattle.tag_machine.specs.Reach.{reaches_waiting}
 use Rattle.tag_machine.specs.Slots.{is_beyond_arbitrate}
 use Rattle.tag_machine.specs.Step.{step}
 use Rattle.tag_machine.specs.TagValue.{StateValue, ReadyState, ArbitrateState, ReplyState, AcknowledgedState, OpenState, SecuredState, KilledState, UnpoweredState, BodyValue, TagValue}
+use Rattle.tag_population.proofs.HeardTags.{StaysSilent}
 use Rattle.tag_population.proofs.SeatedTags.{length-tags_of, tag_at, participation_of_tag}
-use Rattle.tag_population.specs.Floor.{tag_seated, participation_in, participations_of, called_in, no_tag, counted_floor, FloorValue, AreCalledFor, CallsTags, IsMissedCalled, IsDueCalled}
+use Rattle.tag_population.specs.Floor.{tag_seated, participation_in, participations_of, called_in, no_tag, counted_floor, FloorValue, AreCalledFor, CallsTags, IsMissedCalled, IsDueCalled, IsPassedOver, outcome_each}
 use Rattle.waiting_tags.proofs.SlotPlaces.{same_waits}
 use Rattle.waiting_tags.specs.Waiting.{participation_at, is_called, waits_in, counted_down}
 use Rattle.waiting_tags.specs.declared.waiting.Participation.{Participation}
@@ -71,6 +73,31 @@ none_called_for command entry floor settled some = record {
   whole = settled_whole floor settled;
   uncalled = λ number within apart. settled_at floor number settled;
 }
+
+-- a QueryAdjust passes over a tag in no round
+adjust_past : (session : ℕ) (updn : UpDn) (state : StateValue) (body : BodyValue) → participation_in state ≡ None → step (commands.QueryAdjust session updn) state body ≡ silent state body
+adjust_past session updn ReadyState body none = refl
+adjust_past session updn (ArbitrateState own q slot) body none = absurd (cc)
+adjust_past session updn (ReplyState own q rn) body none = absurd (cc)
+adjust_past session updn (AcknowledgedState own q rn) body none = absurd (cc)
+adjust_past session updn (OpenState held) body none = absurd (cc)
+adjust_past session updn (SecuredState held) body none = absurd (cc)
+adjust_past session updn KilledState body none = refl
+adjust_past session updn UnpoweredState body none = refl
+
+pub passed_silent : (command : Command) (entry : Entry) (floor : FloorValue) (number : ℕ) → floor.parts ≡ participations_of floor.tags → IsPassedOver command (participation_at floor.parts number)
+    → StaysSilent (outcome_each command entry floor) floor number
+passed_silent command entry floor number settled passed =
+    let tag : TagValue = get_or floor.tags number no_tag in
+    let part : participation_at floor.parts number ≡ participation_in tag.state = settled_at floor number settled in
+    let stay : step command tag.state tag.body ≡ silent tag.state tag.body =
+    ap (λ (c : Command). step c tag.state tag.body) passed.0.2 ∙ adjust_past passed.0.0 passed.0.1 tag.state tag.body (sym part ∙ passed.1) in
+    let is : outcome_each command entry floor number ≡ silent tag.state tag.body = sym (unless_stays (is_missed number entry) command tag stay) in
+    record {
+      tag = ap (λ (o : Outcome). o.tag) (sym is);
+      part = part ∙ ap (λ (o : Outcome). participation_in o.tag.state) (sym is);
+      answer = ap (λ (o : Outcome). o.answer) is;
+    }
 
 -- A QueryRep: the tags that are called hear it or miss it, and the others wait on or have no part in it.
 IsRep : ℕ → Bool → Option Participation → TagValue → Type 0

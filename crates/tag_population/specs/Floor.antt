@@ -4,7 +4,9 @@ use Rattle.std.proofs.Common.{◌≡◌, ◌≢◌, ℕ, zero, suc, ◌+◌, ◌
 use Rattle.std.specs.Prelude.{slice_set}
 use Rattle.air_events.specs.TagNumbers.{most_tags}
 use Rattle.air_events.specs.declared.Entry.{Entry}
+use Rattle.command_fields.specs.declared.choices.UpDn.{UpDn}
 use Rattle.command_grammar.specs.declared.commands.Command.{Command}
+use Rattle.command_grammar.specs.declared.commands.Command.TheVariants as commands
 use Rattle.lock_rules.specs.Lock.{locks_of}
 use Rattle.tag_machine.specs.declared.any_tag.AnyTag.{AnyTag}
 use Rattle.tag_machine.specs.Answers.{Outcome, silent}
@@ -104,6 +106,10 @@ called_in (participation ∷ participations) = (if is_called participation then 
 -- what comes of a command for the tag of a number
 abbrev pub outcome_each : Command → Entry → FloorValue → ℕ → Outcome
 outcome_each command entry floor number = outcome_unless (is_missed number entry) command (get_or floor.tags number no_tag)
+
+-- a command passes over a tag: a QueryAdjust over one that takes part in no round
+abbrev pub IsPassedOver : Command → Option Participation → Type 0
+IsPassedOver command part = ((session : ℕ) × (updn : UpDn) × (command ≡ commands.QueryAdjust session updn)) × (part ≡ None)
 
 -- .. where a tag that isn't called stays as it is
 abbrev pub outcome_called : Command → Entry → FloorValue → ℕ → Outcome

@@ -1,6 +1,7 @@
 //! The tags of a population in their seats, with those that wait for their slots.
 ghost use Rattle.std.specs.Prelude.{◌≡◌, ◌+◌, ◌<◌, ◌≤◌, ◌++◌, Some, map, length, vec_len, get_or, IfOk};
 ghost use Rattle.std.specs.Borrow.{sem};
+ghost use Rattle.std.specs.Option.{is_some};
 ghost use Rattle.air_events.specs.TagNumbers.{most_tags};
 ghost use Rattle.tag_machine.specs.Events.{tag_after_event};
 ghost use Rattle.tag_machine.specs.Exchange.{AreLegalTags, outcome_unless, reply_of};
@@ -156,6 +157,14 @@ impl Floor {
         ensures { result ≡ waits_in session (participation_at self.now.parts number) }
     {
         self.waiting.waits_in(number, session)
+    }
+
+    /// Whether a tag takes part in a round.
+    pub(crate) fn takes_part(&self, number: TagNumber) -> bool
+        requires { number < length self.now.tags }
+        ensures { result ≡ is_some (participation_at self.now.parts number) }
+    {
+        self.waiting.takes_part(number)
     }
 
     /// A tag whose slot comes next in a session; none exactly where there is no such tag.

@@ -1,5 +1,5 @@
 //! Tags with numbers.
-ghost use Rattle.std.specs.Prelude.{◌≡◌, ℕ, ◌+◌, ◌*◌, ◌<◌, ◌≤◌, [], All, Some, map, length, vec_len, slice_get, IfOk};
+ghost use Rattle.std.specs.Prelude.{◌≡◌, ℕ, ◌+◌, ◌*◌, ◌<◌, ◌≤◌, [], All, Some, true, map, length, vec_len, slice_get, IfOk};
 ghost use Rattle.std.specs.Borrow.{sem};
 ghost use Rattle.air_events.specs.TagNumbers.{most_tags};
 ghost use Rattle.tag_machine.specs.Answers.{IsSent};
@@ -7,7 +7,7 @@ ghost use Rattle.tag_machine.specs.Exchange.{AreLegalTags, IsQueryRep, busy_from
 ghost use Rattle.tag_machine.specs.Hearing.{tag_value_of};
 ghost use Rattle.tag_machine.specs.TagValue.{IsLegalTag};
 ghost use Rattle.tag_population.specs.Answers.{answers_of};
-ghost use Rattle.tag_population.specs.Floor.{AreCalledFor, AreUncalledSettled, CallsTags, HeardEach, IsDueCalled, IsMissedCalled, called_in, outcome_called, outcome_each, participations_of};
+ghost use Rattle.tag_population.specs.Floor.{AreCalledFor, AreUncalledSettled, CallsTags, HeardEach, IsDueCalled, IsMissedCalled, IsPassedOver, called_in, outcome_called, outcome_each, participations_of};
 ghost use Rattle.tag_population.specs.Hearing.{HearsAll, hearing_from, tags_after_events};
 ghost use Rattle.tag_population.specs.Lent.{KeepsPopulation};
 ghost use Rattle.waiting_tags.specs.TagSets.{IsSetOf};
@@ -247,7 +247,7 @@ fn call_due<L: Ledger>(floor: &mut Floor, session: Session, steps: &mut Steps<L>
     }
 }
 
-/// Lets each tag hear a command, unless it misses it, in the order of their numbers.
+/// Lets each tag hear a command, unless it misses it or the command passes over it, in the order of their numbers.
 fn hear_each<L: Ledger>(
     floor: &mut Floor,
     command: &Command,
@@ -256,6 +256,7 @@ fn hear_each<L: Ledger>(
     answers: &mut Answers,
     steps: &mut Steps<L>,
 )
+    requires settled { floor.old.parts ≡ participations_of floor.old.tags }
     requires of { IsSetOf missed.now entry.now.missed }
     requires none { answers.old.items ≡ [] }
     requires room { length floor.old.tags ≤ answers.old.tags }
@@ -266,8 +267,22 @@ fn hear_each<L: Ledger>(
 {
     for at in 0..floor.len() {
         let number = TagNumber::from_index(at);
+        if passes_over(floor, number, command) {
+            continue;
+        }
         let misses = is_missed(number, entry, missed);
         floor.hear(number, misses, command, answers, steps);
+    }
+}
+
+/// Whether a command passes over a tag: a QueryAdjust does where the tag takes part in no round.
+fn passes_over(floor: &Floor, number: TagNumber, command: &Command) -> bool
+    requires { number < length floor.now.tags }
+    ensures { result ≡ true → IsPassedOver command.now (participation_at floor.now.parts number) }
+{
+    match command {
+        Command::QueryAdjust { .. } => !floor.takes_part(number),
+        _ => false,
     }
 }
 

@@ -1,5 +1,6 @@
 //! Which tags wait for their slots, and which are called.
 ghost use Rattle.std.specs.Prelude.{◌≡◌, ℕ, ◌+◌, ◌<◌, ◌≤◌, Some, None, length, map, replicate, slice_set, IfOk};
+ghost use Rattle.std.specs.Option.{is_some};
 ghost use Rattle.air_events.specs.TagNumbers.{most_tags};
 ghost use Rattle.waiting_tags.specs.Waiting.{AreSlots, IsDue, IsLegalParticipation, IsNextCalled, counted_down, waiting_slot, slot_place, participation_at, waits_in};
 
@@ -88,6 +89,14 @@ impl Waiting {
             Some(place) => place / SLOTS == usize::from(session.get()),
             None => false,
         }
+    }
+
+    /// Whether a tag takes part in a round.
+    pub fn takes_part(&self, number: TagNumber) -> bool
+        requires { number < length self.now }
+        ensures { result ≡ is_some (participation_at self.now number) }
+    {
+        self.wheel.place(number).is_some()
     }
 
     /// Lets a tag take part as is said.

@@ -1,7 +1,8 @@
-use Rattle.std.proofs.Common.{◌≡◌, ◌∙◌, ap, arith, get_or, refl, Bool}
+use Rattle.std.proofs.Common.{◌≡◌, ◌∙◌, ap, arith, get_or, refl, sym, Bool, None}
 use Rattle.tag_machine.specs.Exchange.{is_missed, outcome_unless}
 use Rattle.tag_machine.specs.TagValue.{TagValue}
-use Rattle.tag_population.proofs.HeardTags.{heard_none, heard_next, heard_each}
+use Rattle.tag_population.proofs.HeardTags.{heard_none, heard_next, heard_past, heard_each}
+use Rattle.tag_population.proofs.QueryRepCalls.{passed_silent}
 use Rattle.tag_population.proofs.SeatedTags.{steps_back_most}
 use Rattle.tag_population.specs.Answers.{AnswersValue}
 use Rattle.tag_population.specs.Floor.{no_tag, outcome_each}
@@ -17,6 +18,28 @@ loop-at-init g c = record {
 
 pub from_index-number-requires : goal.from_index-number-requires
 from_index-number-requires g c = omega (arith, c.loop-at-test.true, c.len-at-end.ensures.count, c.len-at-end.ensures.few)
+
+pub passes_over-requires : goal.passes_over-requires
+passes_over-requires g c =
+    rw (c.from_index-number.ensures, c.loop-at.invariant.heard.whole) (omega (arith, c.loop-at-test.true, c.len-at-end.ensures.count))
+
+pub loop-at-preserved-then-passes_over : goal.loop-at-preserved-then-passes_over
+loop-at-preserved-then-passes_over g c =
+    let command = c.args.command.now in
+    let entry = c.args.entry.now in
+    let before = c.args.floor.now in
+    let now = c.loop-at.invariant in
+    let number = c.loop-at.at in
+    let passed = c.passes_over.ensures c.if-passes_over.true in
+    let none : participation_at before.parts number ≡ None =
+    sym (now.heard.left number (omega arith)).1 ∙ ap (λ n. participation_at c.loop-at.floor.parts n) (sym c.from_index-number.ensures) ∙ passed.1 in
+    record {
+      heard =
+          heard_past (outcome_each command entry before) before number c.loop-at.floor c.loop-at.answers.items now.heard
+          (omega (arith, c.loop-at-test.true, c.len-at-end.ensures.count)) (passed_silent command entry before number c.requires.settled (passed.0, none));
+      tags = now.tags;
+      counted = omega (arith, now.counted);
+    }
 
 pub hear-requires-clause-number : goal.hear-requires-clause-number
 hear-requires-clause-number g c =
