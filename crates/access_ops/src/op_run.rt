@@ -292,7 +292,6 @@ impl OpRun {
     }
 
     /// Sends the command that ends an operation.
-    #[inline(always)]
     fn send_last(&mut self, command: Command, expect: Expect, extended: bool, next: &mut OpNext)
         ensures run { self.new ≡ record self.old { stage = Stage.Last } }
         ensures send { next.new ≡ OpNext.Send command expect extended }

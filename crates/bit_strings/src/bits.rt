@@ -56,7 +56,6 @@ impl Bits {
     }
 
     /// Takes the list out of its place, where an empty one without room stays.
-    #[inline(always)]
     pub fn take(&mut self) -> Bits
         ensures taken { result ≡ self.old }
         ensures left { self.new ≡ record { items = []; capacity = 0 } }
@@ -144,7 +143,6 @@ impl Bits {
     }
 
     /// Adds these bits, all at once, to a list that has room for them.
-    #[inline(always)]
     pub fn put_all_reserved(&mut self, bits: &[bool])
         requires { length self.old.items + length bits.now ≤ self.old.capacity }
         ensures { self.new ≡ record self.old { items = self.old.items ++ bits.now } }

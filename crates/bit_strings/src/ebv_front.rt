@@ -61,7 +61,6 @@ impl EbvFront {
     }
 
     /// What one bit more makes of it.
-    #[inline]
     pub fn take(self, bit: bool) -> EbvStep
         ensures answer { IsEbvStep result (self ++ bit ∷ []) }
         ensures begun { IsCutEbv self }
@@ -79,7 +78,6 @@ impl EbvFront {
 
     /// Takes the bits with which these begin inside a digit, as most bits do: gives how many. It stops
     /// before an extension bit or the last bit of a digit.
-    #[inline]
     pub fn take_run(&mut self, bits: &[bool]) -> usize
         ensures within { result ≤ length bits.now }
         ensures taken { self.new ≡ self.old ++ take result bits.now }

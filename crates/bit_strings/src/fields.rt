@@ -49,7 +49,6 @@ impl Bits {
     }
 
     /// Adds the 16 bits of a word to a list that has room for them.
-    #[inline]
     pub fn put_u16_reserved(&mut self, value: u16)
         requires { length self.old.items + 16 ≤ self.old.capacity }
         ensures { self.new ≡ record self.old { items = self.old.items ++ field_of value 16 } }

@@ -5,7 +5,6 @@ ghost use Rattle.bit_strings.specs.Numbers.{digit_of, value_of, field_of};
 use std::simd::prelude::{SimdPartialEq, u8x16};
 
 /// The word that 16 bits are, most significant bit first.
-#[inline]
 pub fn word_of(bits: &[bool]) -> u16
     requires { length bits.now ≡ 16 }
     ensures { result ≡ value_of bits.now }
@@ -14,7 +13,6 @@ pub fn word_of(bits: &[bool]) -> u16
 }
 
 /// The number that 16 bits are. They are compared as one vector, of whose mask the first lane gives the lowest bit.
-#[inline]
 fn mask_of(bits: &[bool]) -> u64
     requires { length bits.now ≡ 16 }
     ensures { result ≡ value_of bits.now }
@@ -44,7 +42,6 @@ fn mask_of(bits: &[bool]) -> u64
 const PLACES: [u8; 16] = [128, 64, 32, 16, 8, 4, 2, 1, 128, 64, 32, 16, 8, 4, 2, 1];
 
 /// The 16 bits of a word as digits 0 and 1. All places are tried at once.
-#[inline]
 fn digits_of(word: u16) -> [u8; 16]
     ensures { result ≡ map digit_of (field_of word 16) }
 {
@@ -60,7 +57,6 @@ fn digits_of(word: u16) -> [u8; 16]
 }
 
 /// The 16 bits of a word.
-#[inline]
 pub(crate) fn bits_of(word: u16) -> [bool; 16]
     ensures { result ≡ field_of word 16 }
 {

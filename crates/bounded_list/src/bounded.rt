@@ -89,7 +89,6 @@ impl<T> Bounded<T> {
 
 impl<T: Copy> Bounded<T> {
     /// Adds these items, all at once, to a list that has room for them.
-    #[inline(always)]
     pub fn push_all_reserved(&mut self, items: &[T])
         requires { length self.old.items + length items.now ≤ self.old.capacity }
         ensures { self.new ≡ record self.old { items = self.old.items ++ items.now } }

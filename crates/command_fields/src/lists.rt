@@ -25,7 +25,6 @@ impl Model for Mask {
 
 impl Mask {
     /// The empty mask, which every tag matches that has the bit at its pointer.
-    #[inline]
     pub fn new() -> Mask
         ensures { result ≡ [] }
     {
@@ -105,7 +104,6 @@ impl Model for BlockWords {
 
 impl BlockWords {
     /// The block of this one word.
-    #[inline]
     pub fn first(word: u16) -> BlockWords
         ensures { result ≡ word ∷ [] }
     {

@@ -34,7 +34,6 @@ pub(crate) fn begin(out: &mut Bits, kind: CommandKind)
 }
 
 /// Adds these bits.
-#[inline]
 pub(crate) fn put_bits(out: &mut Bits, bits: &[bool])
     requires { length out.old.items + length bits.now ≤ out.old.capacity }
     ensures items { out.new.items ≡ out.old.items ++ bits.now }

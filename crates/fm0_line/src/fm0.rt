@@ -99,7 +99,6 @@ fn four_symbols(before: bool, number: u16) -> &'static [bool; 8]
 }
 
 /// 32 levels as the bits of a number, of which the first level is the lowest.
-#[inline]
 fn word_of(levels: &[bool]) -> u32
     requires { length levels.now ≡ 32 }
     ensures { result ≡ mask_l levels.now }
@@ -110,7 +109,6 @@ fn word_of(levels: &[bool]) -> u32
 }
 
 /// Whether each of the 32 levels of a word is the same as the one before it, as the bits of a number. The first of them follows the level `before`.
-#[inline]
 fn stays_of(before: bool, word: u32) -> u32
     ensures { (levels : List Bool) → length levels ≡ 32 → word ≡ mask_l levels
         → result ≡ mask_l (stays before levels) }
@@ -119,7 +117,6 @@ fn stays_of(before: bool, word: u32) -> u32
 }
 
 /// Whether the second level of each of 16 symbols is the same as its first, as digits. All are tried at once.
-#[inline]
 fn digits_of_middles(stays: u32) -> [u8; 16]
     ensures { (places : List Bool) → length places ≡ 32 → stays ≡ mask_l places
         → result ≡ map digit_of (odds places) }
@@ -135,7 +132,6 @@ fn digits_of_middles(stays: u32) -> [u8; 16]
 }
 
 /// The bits of 16 symbols, by whether their second levels are the same as their first.
-#[inline]
 fn bits_of_middles(stays: u32) -> [bool; 16]
     ensures { (places : List Bool) → length places ≡ 32 → stays ≡ mask_l places
         → result ≡ odds places }

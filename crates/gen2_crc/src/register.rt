@@ -54,7 +54,6 @@ impl Crc16 {
     }
 
     /// Stands for the 16 bits of a word more.
-    #[inline]
     pub fn push_word(&mut self, word: u16)
         ensures { (bits : List Bool) → RegisterStandsFor self.old bits
             → RegisterStandsFor self.new (bits ++ field_of word 16) }
@@ -63,7 +62,6 @@ impl Crc16 {
     }
 
     /// Stands for the 8 bits of an octet more.
-    #[inline]
     fn push_octet(&mut self, octet: u8)
         ensures { (bits : List Bool) → RegisterStandsFor self.old bits
             → RegisterStandsFor self.new (bits ++ field_of octet 8) }
@@ -94,7 +92,6 @@ impl Crc16 {
     }
 
     /// Stands for these bits more, which are fewer than 16. The first eight are taken at once, where there are as many.
-    #[inline]
     fn push_few(&mut self, bits: &[bool])
         ensures { (front : List Bool) → RegisterStandsFor self.old front
             → RegisterStandsFor self.new (front ++ bits.now) }
@@ -108,7 +105,6 @@ impl Crc16 {
     }
 
     /// Stands for these bits more, taken one by one.
-    #[inline]
     fn push_each(&mut self, bits: &[bool])
         ensures { (front : List Bool) → RegisterStandsFor self.old front
             → RegisterStandsFor self.new (front ++ bits.now) }
@@ -148,7 +144,6 @@ fn shifted16(register: u16, bit: bool) -> u16
 }
 
 /// The register 16 zeros later. Long division takes differences to differences, so that each byte has a table of its own.
-#[inline]
 fn shifted_by_word(register: u16) -> u16
     ensures { field_of result 16
         ≡ remainder_of (field_of register 16) others16 (replicate 16 false) }
@@ -159,7 +154,6 @@ fn shifted_by_word(register: u16) -> u16
 }
 
 /// The number that 8 bits are, read as a word whose upper 8 bits are 0.
-#[inline]
 fn octet_of(bits: &[bool]) -> u8
     requires { length bits.now ≡ 8 }
     ensures { result ≡ value_of bits.now }
@@ -172,7 +166,6 @@ fn octet_of(bits: &[bool]) -> u8
 }
 
 /// The register 8 zeros later. Its lower byte is then the upper one.
-#[inline]
 fn shifted_by_octet(register: u16) -> u16
     ensures { field_of result 16
         ≡ remainder_of (field_of register 16) others16 (replicate 8 false) }

@@ -6,7 +6,6 @@ ghost use Rattle.bit_strings.specs.Numbers.{digit_of};
 use std::simd::prelude::{SimdPartialEq, u8x16};
 
 /// 16 levels as the bits of a number, of which the first level is the lowest.
-#[inline]
 pub fn word_of_levels(levels: &[bool]) -> u16
     requires { length levels.now ≡ 16 }
     ensures { result ≡ mask_l levels.now }
@@ -15,7 +14,6 @@ pub fn word_of_levels(levels: &[bool]) -> u16
 }
 
 /// 16 levels as digits.
-#[inline]
 fn digits_of(levels: &[bool]) -> u8x16
     requires { length levels.now ≡ 16 }
     ensures { result ≡ map digit_of levels.now }

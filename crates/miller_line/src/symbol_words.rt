@@ -12,7 +12,6 @@ use line_code::word_of_levels;
 use std::simd::prelude::{u8x16, u64x2};
 
 /// The number that 32 levels are, of which the first is the lowest bit.
-#[inline(always)]
 fn half_word_of(levels: &[bool]) -> u64
     requires { length levels.now ≡ 32 }
     ensures value { result ≡ mask_l levels.now }
@@ -22,7 +21,6 @@ fn half_word_of(levels: &[bool]) -> u64
 }
 
 /// The word that 64 levels are.
-#[inline(always)]
 fn word_of(levels: &[bool]) -> u64
     requires { length levels.now ≡ 64 }
     ensures { result ≡ mask_l levels.now }
@@ -31,7 +29,6 @@ fn word_of(levels: &[bool]) -> u64
 }
 
 /// Where the phase differs from that of the half before, at the first level of each half. `carry` are the phases before the word.
-#[inline(always)]
 fn changes_of(m: u32, carry: u64, phases: u64) -> u64
     requires { m ≤ 8 }
     ensures { result ≡ changes_of m carry phases }
@@ -41,7 +38,6 @@ fn changes_of(m: u32, carry: u64, phases: u64) -> u64
 
 /// Where the levels are not those of symbols. `inside` are the places within halves, `middles` those of the first level of second halves, and
 /// `before` is the bit before the word, where it would stand in the middle of the first symbol.
-#[inline(always)]
 fn faults_of(
     m: u32,
     inside: u64,
@@ -61,7 +57,6 @@ fn faults_of(
 }
 
 /// The phase of a half, for each of its levels.
-#[inline(always)]
 fn phases_of_half(m: u32, phase: bool) -> u64
     requires { IsOneOfThree m }
     ensures { result ≡ mask_l (replicate m phase) }
@@ -76,7 +71,6 @@ fn phases_of_half(m: u32, phase: bool) -> u64
 
 /// The bits of the symbols whose levels are a word, in the middles of the symbols, and what stands before the bit that follows them; none where
 /// the word is not that of symbols.
-#[inline(always)]
 fn symbols_of_word(
     m: u32,
     inside: u64,
@@ -106,7 +100,6 @@ fn symbols_of_word(
 }
 
 /// Which of 16 bytes have this digit.
-#[inline(always)]
 fn have_digit(bytes: u8x16, digit: u8) -> [bool; 16]
     ensures { result ≡ map (λ byte. bit_and byte digit == digit) bytes }
 {
@@ -119,7 +112,6 @@ fn have_digit(bytes: u8x16, digit: u8) -> [bool; 16]
 }
 
 /// The bits of the 16 symbols of a word with M = 2, of which a byte has two.
-#[inline(always)]
 fn bits_of_word(word: u64) -> [bool; 16]
     ensures { result ≡ symbol_bits 2 word }
 {
@@ -130,7 +122,6 @@ fn bits_of_word(word: u64) -> [bool; 16]
 }
 
 /// The bits of the 16 symbols of two words with M = 4, of which a byte has one.
-#[inline(always)]
 fn bits_of_words(first: u64, second: u64) -> [bool; 16]
     ensures { result ≡ symbol_bits 4 first ++ symbol_bits 4 second }
 {
@@ -138,7 +129,6 @@ fn bits_of_words(first: u64, second: u64) -> [bool; 16]
 }
 
 /// The bits of the 16 symbols of four words with M = 8, of which every second byte has one.
-#[inline(always)]
 fn bits_of_four_words(first: u64, second: u64, third: u64, fourth: u64) -> [bool; 16]
     ensures { result ≡ (symbol_bits 8 first ++ symbol_bits 8 second)
         ++ (symbol_bits 8 third ++ symbol_bits 8 fourth) }
@@ -173,7 +163,6 @@ fn symbols_of_two_words(
 }
 
 /// The sixteen bits whose blocks with M = 2, one behind the other, the levels are, and what stands before the bit that follows them.
-#[inline(always)]
 pub(crate) fn sixteen_of_two_cycles(
     before: SymbolBefore,
     levels: &[bool],
@@ -195,7 +184,6 @@ pub(crate) fn sixteen_of_two_cycles(
 }
 
 /// The same with M = 4.
-#[inline(always)]
 pub(crate) fn sixteen_of_four_cycles(
     before: SymbolBefore,
     levels: &[bool],
@@ -216,7 +204,6 @@ pub(crate) fn sixteen_of_four_cycles(
 }
 
 /// The same with M = 8.
-#[inline(always)]
 pub(crate) fn sixteen_of_eight_cycles(
     before: SymbolBefore,
     levels: &[bool],

@@ -61,7 +61,6 @@ fn decode_intervals(intervals: &[u32], out: &mut Bits) -> Result<FrameKind, PieR
 
 /// Gives a decoder the data symbols that stand from a place on, one by one, as most intervals are those of data symbols.
 /// Gives the place behind them.
-#[inline(always)]
 fn take_symbols(edges: &mut Edges, intervals: &[u32], from: usize, out: &mut Bits) -> usize
     requires given { HasReadTo edges.old out.old.items intervals.now from }
     requires room { length intervals.now ≤ out.old.capacity }

@@ -69,7 +69,6 @@ impl Edges {
     ghost use Rattle.pie_line.specs.DataSymbols.{IsBeforeSymbol};
 
     /// A decoder that was given no interval.
-    #[inline(always)]
     pub fn new() -> Edges
         ensures stands { EdgesStandFor result [] [] }
         ensures count { result.count ≡ 0 }
@@ -114,7 +113,6 @@ impl Edges {
 
     /// Takes the high and the low of a data symbol, in nanoseconds, where the decoder stands before one, and gives its bit.
     /// It takes nothing where it stands elsewhere, or where the two make no data symbol: `push` takes them then.
-    #[inline(always)]
     pub fn push_symbol(&mut self, high: u32, low: u32) -> Option<bool>
         requires high { high ≤ longest_interval }
         requires low { low ≤ longest_interval }

@@ -33,15 +33,12 @@ impl FrameTaker for Nobody {
 
     ghost count = { λ taker. 0 };
 
-    #[inline(always)]
     fn take(&mut self, _interval: u32) {}
 
-    #[inline(always)]
     fn take_symbol(&mut self, _high: u32, _low: u32) {}
 }
 
 /// Adds a symbol for each bit: the high of a data-0 or of a data-1, and the low of each, in nanoseconds.
-#[inline]
 fn put_symbols(zero: u32, one: u32, low: u32, bits: &[bool], out: &mut Intervals)
     requires order { zero ≤ one }
     requires room { length out.old.items + 2 * length bits.now ≤ out.old.capacity }
@@ -62,7 +59,6 @@ fn put_symbols(zero: u32, one: u32, low: u32, bits: &[bool], out: &mut Intervals
 }
 
 /// The symbols of eight bits, all at once: for each the high of a data-0, and where the bit is 1 what the high of a data-1 has more.
-#[inline]
 fn pairs_of(zero: u32, one: u32, low: u32, bits: &[bool]) -> [u32; 16]
     requires order { zero ≤ one }
     requires eight { length bits.now ≡ 8 }
@@ -109,7 +105,6 @@ pub(crate) fn highs(link: &Link) -> (u32, u32)
 }
 
 /// The high of the symbol of a bit, of those of a data-0 and of a data-1.
-#[inline(always)]
 pub(crate) fn high_of(zero: u32, one: u32, bit: bool) -> u32
     ensures { result ≡ if bit then one else zero }
 {

@@ -37,7 +37,6 @@ impl FrameKind {
     ghost use Rattle.pie_line.specs.FrameState.{rtcal_of};
 
     /// RTcal, in nanoseconds.
-    #[inline(always)]
     pub fn rtcal(self) -> u32
         ensures { result ≡ rtcal_of self }
     {

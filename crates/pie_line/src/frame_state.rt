@@ -31,7 +31,6 @@ pub enum FrameState {
 }
 
 /// Whether a low of at least one nanosecond may follow such a high in a pair that lasts at most `most`.
-#[inline(always)]
 fn is_high(interval: u32, most: u32) -> bool
     ensures { IsTrue result ↔ IsHigh interval most }
 {

@@ -8,7 +8,6 @@ ghost use Rattle.pie_line.specs.DataSymbols.{IsDataSymbol};
 pub const TARI_MOST: u32 = 25_000;
 
 /// Whether a delimiter may last so long.
-#[inline(always)]
 pub fn is_delimiter(interval: u32) -> bool
     ensures { IsTrue result ↔ IsDelimiter interval }
 {
@@ -16,7 +15,6 @@ pub fn is_delimiter(interval: u32) -> bool
 }
 
 /// Whether Tari is in its range.
-#[inline(always)]
 pub fn is_tari(tari: u32) -> bool
     ensures { IsTrue result ↔ IsTari tari }
 {
@@ -24,7 +22,6 @@ pub fn is_tari(tari: u32) -> bool
 }
 
 /// Whether RTcal is in its range for a Tari.
-#[inline(always)]
 pub fn is_rtcal(tari: u32, rtcal: u32) -> bool
     ensures { IsTrue result ↔ IsRtCal tari rtcal }
 {
@@ -32,7 +29,6 @@ pub fn is_rtcal(tari: u32, rtcal: u32) -> bool
 }
 
 /// Whether TRcal is in its range for an RTcal.
-#[inline(always)]
 pub fn is_trcal(rtcal: u32, trcal: u32) -> bool
     ensures { IsTrue result ↔ IsTrCal rtcal trcal }
 {
@@ -48,7 +44,6 @@ pub fn is_pw(tari: u32, pw: u32) -> bool
 }
 
 /// The pivot, half of RTcal, rounded up (6.3.1.2.8): a symbol that lasts less is a data-0, and another a data-1.
-#[inline(always)]
 pub fn pivot_of(rtcal: u32) -> u32
     ensures { (sum : ℕ) → nat_le result sum ≡ bit_of_symbol rtcal sum }
 {
@@ -56,7 +51,6 @@ pub fn pivot_of(rtcal: u32) -> u32
 }
 
 /// The bit of a symbol that lasts `sum`: 0 where it is shorter than half of RTcal, else 1.
-#[inline(always)]
 pub fn bit_of_sum(rtcal: u32, sum: u32) -> bool
     ensures { result ≡ bit_of_symbol rtcal sum }
 {
@@ -64,7 +58,6 @@ pub fn bit_of_sum(rtcal: u32, sum: u32) -> bool
 }
 
 /// The bit of the data symbol that has this high and this low; none exactly where they make no data symbol (6.3.1.2.3).
-#[inline(always)]
 pub fn bit_of_symbol(rtcal: u32, high: u32, low: u32) -> Option<bool>
     requires rtcal { rtcal ≤ 75000 }
     requires high { high ≤ longest_interval }

@@ -38,7 +38,6 @@ pub trait FrameTaker {
 }
 
 /// Writes the frame of these bits as [`encode_frame`](crate::encode_frame) does, and has each interval taken as it is made.
-#[inline(always)]
 pub fn send_frame<T: FrameTaker>(
     link: &Link,
     lead: Lead,
@@ -63,7 +62,6 @@ pub fn send_frame<T: FrameTaker>(
 }
 
 /// Sends the delimiter and the header (6.3.1.2.8), in place of what the frame had.
-#[inline(always)]
 pub(crate) fn send_header<T: FrameTaker>(
     link: &Link,
     lead: Lead,
@@ -91,7 +89,6 @@ pub(crate) fn send_header<T: FrameTaker>(
 }
 
 /// Sends a symbol for each bit: the high of a data-0 or of a data-1, and the low of each, in nanoseconds.
-#[inline(always)]
 fn send_symbols<T: FrameTaker>(
     zero: u32,
     one: u32,
@@ -116,7 +113,6 @@ fn send_symbols<T: FrameTaker>(
 }
 
 /// Sends one more interval, in nanoseconds.
-#[inline(always)]
 fn send<T: FrameTaker>(interval: u32, frame: &mut Intervals, taker: &mut T)
     requires interval { interval ≤ longest_interval }
     requires room { length frame.old.items + 1 ≤ frame.old.capacity }

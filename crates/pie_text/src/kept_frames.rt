@@ -32,7 +32,6 @@ impl<const COUNT: usize, const STORED: usize> KeptFrames<COUNT, STORED> {
     }
 
     /// Writes the intervals of a frame as the next fields, in decimal digits. After an error the text may hold a part of them.
-    #[inline(always)]
     pub(crate) fn push_next(
         &mut self,
         text: &mut String,
@@ -53,7 +52,6 @@ impl<const COUNT: usize, const STORED: usize> KeptFrames<COUNT, STORED> {
 }
 
 /// Where a frame is kept: the number of its last three bits, where a high as long as that of data-0 is a 1.
-#[inline(always)]
 fn place_of<const COUNT: usize>(frame: &[u32; COUNT]) -> usize
     requires { 6 ≤ COUNT }
     ensures { result < PLACES }

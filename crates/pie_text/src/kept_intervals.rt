@@ -124,7 +124,6 @@ impl KeptIntervals {
     }
 
     /// Puts the text of two bits behind what fills the room up to a place, and tells where it ends.
-    #[inline(always)]
     fn put_pair(&mut self, pair: &[u32; TWO_BITS], short: u32, filled: usize) -> usize
         requires { filled + VECTOR ≤ ROOM }
         ensures end { result ≤ filled + VECTOR }

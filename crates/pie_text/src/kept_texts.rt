@@ -50,7 +50,6 @@ impl<const COUNT: usize, const STORED: usize> KeptText<COUNT, STORED> {
     }
 
     /// Whether these intervals are kept.
-    #[inline(always)]
     fn is(&self, intervals: &[u32; COUNT]) -> bool
         ensures { IsTrue result → self.now.intervals ≡ intervals.now }
     {
@@ -63,7 +62,6 @@ impl<const COUNT: usize, const STORED: usize> KeptText<COUNT, STORED> {
     }
 
     /// Keeps these intervals, where they aren't kept.
-    #[inline(always)]
     pub(crate) fn keep(&mut self, intervals: &[u32; COUNT])
         requires few { COUNT ≤ 100 }
         requires room { 11 * COUNT ≤ STORED }
@@ -88,7 +86,6 @@ impl<const COUNT: usize, const STORED: usize> KeptText<COUNT, STORED> {
     }
 
     /// The text.
-    #[inline(always)]
     pub(crate) fn text(&self) -> &[u8]
         ensures text { result.now ≡ fields_behind (map decimal self.now.intervals) }
         ensures ascii { IsAscii result.now }
@@ -111,7 +108,6 @@ fn spell_next<const ROOM: usize>(spelled: &mut ArrayString<ROOM>, interval: u32)
 impl<const COUNT: usize> KeptText<COUNT, VECTOR> {
     /// Puts the text behind what fills the room up to a place, and tells where the text ends. What stands behind that end may
     /// change.
-    #[inline(always)]
     pub(crate) fn put(&self, room: &mut [u8], filled: usize) -> usize
         requires { filled + VECTOR ≤ length room.old }
         ensures end { result ≤ filled + VECTOR }

@@ -89,7 +89,6 @@ impl AnyTag {
     /// An answer is `Extended` exactly where the command is a Write, Lock, BlockWrite or BlockErase, or a Kill
     /// after a first half. A tag that answers an error keeps its memory, locks, flags and draws. A killed tag and
     /// one without power stay as they are and are silent.
-    #[inline(always)]
     pub fn hear<L: Ledger>(self, command: &Command, out: &mut Bits, steps: &mut Steps<L>) -> Heard
         requires room { reply_room ≤ out.old.capacity }
         ensures step { GivesOutcome

@@ -100,7 +100,6 @@ pub fn begin_reply(mut body: Body, session: Session, q: QValue, out: &mut Bits) 
 }
 
 /// ENTER: draws a slot, the last Q bits of a word, and replies at once where it is 0.
-#[inline(always)]
 pub fn enter(mut body: Body, session: Session, q: QValue, out: &mut Bits) -> Heard
     requires room { reply_room ≤ out.old.capacity }
     ensures { GivesOutcome (enter session q body) result out.old out.new }

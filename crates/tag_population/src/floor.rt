@@ -214,7 +214,6 @@ fn settle(seats: &[Seat], waiting: &mut Waiting)
 }
 
 /// Writes the slot counter of a tag that waits back into its seat.
-#[inline(always)]
 fn write_back<L: Ledger>(
     seats: &mut [Seat],
     waiting: &Waiting,

@@ -33,7 +33,6 @@ impl<'a> Model for Digits<'a> {
 }
 
 /// Whether a byte is one of the digits 0 and 1.
-#[inline]
 pub fn is_binary_digit(byte: u8) -> bool
     ensures { result ≡ is_binary_digit byte }
 {
@@ -119,7 +118,6 @@ const TOGETHER: usize = 64;
 
 /// Writes bits in binary digits, or a hyphen for none, at the end of the text. After an error the
 /// text may hold a part of them.
-#[inline]
 pub fn push_bits(text: &mut String, bits: &[bool]) -> Result<(), OutOfMemory>
     ensures { OnOk result (string_bytes text.new ≡ string_bytes text.old ++ binary bits.now) }
 {
@@ -129,8 +127,7 @@ pub fn push_bits(text: &mut String, bits: &[bool]) -> Result<(), OutOfMemory>
     push_parts(text, bits)
 }
 
-/// Writes bits in binary digits at the end of the text. It is a call of its own, so that a hyphen takes none.
-#[inline(never)]
+/// Writes bits in binary digits at the end of the text.
 fn push_parts(text: &mut String, bits: &[bool]) -> Result<(), OutOfMemory>
     ensures { OnOk result (string_bytes text.new ≡ string_bytes text.old
         ++ map binary_digit bits.now) }

@@ -48,6 +48,7 @@ pub(crate) fn is_upper_hexadecimal(digits: &[u8]) -> bool
 }
 
 /// The word of four digits.
+#[inline(always)]
 fn word_of(digits: &[u8; 4]) -> u16
     requires { AllPass is_upper_hex_digit digits.now }
     ensures { words_of_digits digits.now ≡ result ∷ [] }

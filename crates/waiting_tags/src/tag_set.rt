@@ -136,7 +136,6 @@ impl TagSet {
 }
 
 /// The least place from one on at which a word has a 1, if there is one.
-#[inline]
 pub(crate) fn next_one(word: u64, from: usize) -> Option<usize>
     ensures { IsNextOne word from result }
 {

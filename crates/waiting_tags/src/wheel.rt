@@ -97,7 +97,6 @@ impl Wheel {
     }
 
     /// Lets a tag stand nowhere.
-    #[inline(always)]
     pub(crate) fn take(&mut self, number: TagNumber)
         requires { number < length self.old }
         ensures { self.new ≡ slice_set self.old number None }

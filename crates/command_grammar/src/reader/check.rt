@@ -52,7 +52,6 @@ impl Check {
     }
 
     /// One bit more.
-    #[inline(always)]
     pub(crate) fn push(&mut self, bit: bool)
         ensures counts { (front : List Bool) → IsRegisterOf self.old front
             → IsRegisterOf self.new (front ++ bit ∷ []) }

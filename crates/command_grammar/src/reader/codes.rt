@@ -34,7 +34,6 @@ pub(crate) enum CodeStep {
 }
 
 /// The code with its next bit.
-#[inline]
 pub(crate) fn code_step(front: CodeFront, bit: bool) -> CodeStep
     ensures says { IsCodeStep result front bit }
     ensures keeps { KeepsCode result front bit }

@@ -155,7 +155,6 @@ pub(crate) struct Fields {
 
 impl Fields {
     /// No field was read.
-    #[inline(always)]
     pub(crate) fn new() -> Fields {
         Fields {
             dr: false,
@@ -183,7 +182,6 @@ impl Fields {
 
     /// Answers with the command whose fields were all read. Each command is written where the answer stands,
     /// since a command has room for the longest mask and the longest list of words.
-    #[inline(always)]
     pub(crate) fn answer(&mut self, kind: CommandKind, answer: &mut Result<Command, CommandRefusal>)
         ensures { answer.new ≡ Ok (command_of kind self.old) }
     {
@@ -270,7 +268,6 @@ impl Fields {
 
     /// Answers with the Select whose fields were all read, and takes the mask out of them. It is a function of its
     /// own, so that no other command sets up the list that takes the mask's place.
-    #[inline(never)]
     fn answer_select(&mut self, answer: &mut Result<Command, CommandRefusal>)
         ensures { answer.new ≡ Ok (command_of kinds.Select self.old) }
     {
@@ -285,7 +282,6 @@ impl Fields {
 
     /// Answers with the BlockWrite whose fields were all read, and takes the words out of them, as `answer_select`
     /// does with a mask.
-    #[inline(never)]
     fn answer_block_write(&mut self, answer: &mut Result<Command, CommandRefusal>)
         ensures { answer.new ≡ Ok (command_of kinds.BlockWrite self.old) }
     {

@@ -38,7 +38,6 @@ impl NumberFront {
     }
 
     /// Takes the next bit where it isn't the last one, and gives whether it did.
-    #[inline(always)]
     fn take_inside(&mut self, bit: bool) -> bool
         requires { self.old.value < 2 ^ 30 }
         ensures reads { IsTrue result → (rest : List Bool)
@@ -58,7 +57,6 @@ impl NumberFront {
     }
 
     /// The number with one bit more behind those read.
-    #[inline]
     fn with(&self, bit: bool) -> u32
         requires { self.now.value < 2 ^ 30 }
         ensures { result ≡ 2 * self.now.value + digit_of bit }
@@ -67,7 +65,6 @@ impl NumberFront {
     }
 
     /// The next bit of a number that is known.
-    #[inline]
     fn next(&self) -> bool
         requires { self.now.behind ≤ 15 }
         ensures { result ≡ next_bit self.now }
@@ -76,7 +73,6 @@ impl NumberFront {
     }
 
     /// Takes the next bit of a number that is known where it isn't the last one and doesn't differ, and gives whether it did.
-    #[inline(always)]
     fn take_known_inside(&mut self, bit: bool) -> bool
         requires { self.old.behind ≤ 15 }
         ensures reads { IsTrue result → (reason : Reason) (fields : Fields) (rest : List Bool)
@@ -227,7 +223,6 @@ impl Stage {
 
     /// Takes a bit inside a number, a mask or bits that are known, as most bits are, or the first one of two or three, and
     /// gives whether it did. The last bit of these isn't taken, nor one that differs from the known one, nor one elsewhere.
-    #[inline(always)]
     pub(crate) fn take_inside(&mut self, bit: bool, fields: &mut Fields) -> bool
         requires { AreFieldsInRange self.old fields.old }
         ensures reads { IsTrue result → (rest : List Bool)
@@ -277,7 +272,6 @@ impl Stage {
 }
 
 /// Takes the next bit of a mask, behind which so many come, where it isn't the last one, and gives whether it did.
-#[inline(always)]
 fn take_mask_inside(behind: &mut u32, bit: bool, fields: &mut Fields) -> bool
     requires { length fields.old.mask + behind.old + 1 ≤ 255 }
     ensures reads { IsTrue result → (rest : List Bool)

@@ -108,7 +108,6 @@ impl State {
     }
 
     /// Takes one bit more, of those that `take_inside` doesn't take, or says why no command goes on with it.
-    #[cold]
     fn take_edge(&mut self, bit: bool) -> Option<Reason>
         requires open { IsOpen self.old None }
         requires edge { IsAtEdge self.old.position bit }
@@ -186,7 +185,6 @@ impl State {
 
     /// Answers with the command that the bits are, or with `refused`, or with `Short`. It stands for no bits
     /// afterwards.
-    #[inline(always)]
     pub(crate) fn finish(
         &mut self,
         refused: Option<(u32, Reason)>,

@@ -15,7 +15,6 @@ use std::sync::ledger::Ledger;
 
 impl AnyTag {
     /// Lock, in each state.
-    #[inline(never)]
     pub(crate) fn lock(self, payload: Payload, rn: u16, out: &mut Bits) -> Heard
         requires room { reply_room ≤ out.old.capacity }
         ensures { GivesOutcome

@@ -14,7 +14,6 @@ use std::sync::ledger::Ledger;
 
 impl AnyTag {
     /// Read, in each state.
-    #[inline(never)]
     pub(crate) fn read(
         self,
         bank: Bank,
@@ -43,7 +42,6 @@ impl AnyTag {
     }
 
     /// Write, in each state.
-    #[inline(never)]
     pub(crate) fn write(
         self,
         bank: Bank,
@@ -70,7 +68,6 @@ impl AnyTag {
     }
 
     /// BlockWrite, in each state.
-    #[inline(never)]
     pub(crate) fn block_write(
         self,
         bank: Bank,
@@ -94,7 +91,6 @@ impl AnyTag {
     }
 
     /// BlockErase, in each state.
-    #[inline(never)]
     pub(crate) fn block_erase(
         self,
         bank: Bank,

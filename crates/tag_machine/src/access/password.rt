@@ -76,7 +76,6 @@ impl TagWithHandle {
 impl AnyTag {
     /// Kill or Access, in each state, with the covered half of this password: a first half is kept, and with a second one the
     /// password is whole.
-    #[inline(never)]
     pub(crate) fn take_half(
         self,
         password: Password,

@@ -65,7 +65,6 @@ impl TagWithHandle {
 
 impl AnyTag {
     /// Req_RN, in each state.
-    #[inline(never)]
     pub(crate) fn req_rn(self, rn: u16, out: &mut Bits) -> Heard
         requires room { reply_room ≤ out.old.capacity }
         ensures { GivesOutcome

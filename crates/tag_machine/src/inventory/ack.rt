@@ -32,7 +32,6 @@ fn answer_epc(tag: AnyTag, out: &mut Bits) -> Heard
 
 impl AnyTag {
     /// ACK, in each state.
-    #[inline(never)]
     pub(crate) fn ack(self, rn: u16, out: &mut Bits) -> Heard
         requires room { reply_room ≤ out.old.capacity }
         ensures { GivesOutcome

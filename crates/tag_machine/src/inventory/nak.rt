@@ -14,7 +14,6 @@ use std::sync::ledger::Ledger;
 
 impl AnyTag {
     /// NAK, in each state.
-    #[inline(never)]
     pub(crate) fn nak(self, out: &mut Bits) -> Heard
         ensures { GivesOutcome
             (nak (tag_value_of self).state (tag_value_of self).body) result out.old out.new }

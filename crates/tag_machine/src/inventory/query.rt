@@ -36,7 +36,6 @@ fn take_part(
 
 impl AnyTag {
     /// Query, in each state.
-    #[inline(never)]
     pub(crate) fn query(
         self,
         sel: Sel,

@@ -16,7 +16,6 @@ use tag_body::adjusted;
 
 impl AnyTag {
     /// QueryAdjust, in each state.
-    #[inline(always)]
     pub(crate) fn query_adjust(self, session: Session, updn: UpDn, out: &mut Bits) -> Heard
         requires room { reply_room ≤ out.old.capacity }
         ensures { GivesOutcome

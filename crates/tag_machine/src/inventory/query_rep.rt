@@ -26,7 +26,6 @@ fn end_turn(body: Body, session: Session, held: Held, out: &mut Bits) -> Heard
 
 impl AnyTag {
     /// QueryRep, in each state.
-    #[inline(always)]
     pub(crate) fn query_rep(self, session: Session, out: &mut Bits) -> Heard
         requires room { reply_room ≤ out.old.capacity }
         ensures { GivesOutcome

@@ -34,7 +34,6 @@ fn select_ready(
 
 impl AnyTag {
     /// Select, in each state.
-    #[inline(never)]
     pub(crate) fn select(
         self,
         target: FlagName,
