@@ -14,7 +14,7 @@ use Rattle.report_lines.specs.ReadLines.{first_field, most_rx_levels, text_of}
 use Rattle.report_lines.specs.ReportLine.{ReportLine, ListLine, RxLine, report_line_text}
 use Rattle.runs.proofs.Answering.{TagLaws, given-of-answers}
 use Rattle.runs.specs.Listing.{Listed, listed_by}
-use Rattle.air_audit.specs.Auditing.{AuditorValue, GoesOnOrStops, GoesOnWith, AuditorIsAt, IsHearing, KeepsUp, SendsTo, AuditorStandsAt, StopsAt, TellsLine, TellsOther, position_behind}
+use Rattle.air_audit.specs.Auditing.{AuditorValue, GoesOnOrStops, GoesOnWith, AuditorIsAt, IsHearing, KeepsUp, SendsTo, AuditorStandsAt, AuditStopsAt, TellsLine, TellsOther, position_behind}
 use Rattle.air_audit.specs.FirstWords.{first_word, word_of}
 use Rattle.air_audit.specs.LineRefusals.{DiffersFirst, IsNoTxLine, IsOther, IsRefusedAs, IsRefusedHere}
 use Rattle.air_audit.specs.Standing.{GoesOnAs, TraceStanding, begun, between, sending, telling, TellsNextTag, behind_exchange, behind_told, link_line, next_tag, record_of, rx_line, told_line}
@@ -134,7 +134,7 @@ module _ (start : Start) (past : List Item) (told : ℕ) (from : TraceStanding) 
             (position ∙ ap (λ (tags : List TagValue). position_behind told (slice_get tags told)) keeps.tags);
       }
 
-  told-not : (stop : Stop) → TellsOther (told_line told (slice_get before.tags told)) line stop → StopsAt stop start from line
+  told-not : (stop : Stop) → TellsOther (told_line told (slice_get before.tags told)) line stop → AuditStopsAt stop start from line
   told-not (stops.OutOfMemory error) other = tt
   told-not (stops.Refused reason) other =
       refused-as start from line reason words.OfTags word

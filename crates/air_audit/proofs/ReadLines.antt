@@ -9,14 +9,14 @@ use Rattle.text_fields.specs.declared.fields_fault.FieldsFault.TheVariants.{Word
 use Rattle.command_grammar.specs.declared.commands.Command.{Command}
 use Rattle.report_lines.specs.ReadLines.{IsNoRx, IsNoTx, RxFields, TxFields, first_field, text_of}
 use Rattle.report_lines.specs.ReportLine.{RxLine}
-use Rattle.air_audit.specs.LineRefusals.{DiffersFirst, IsNoTxLine, reason_of}
+use Rattle.air_audit.specs.LineRefusals.{DiffersFirst, IsNoTxLine, audit_reason_of}
 use Rattle.air_audit.specs.TraceLines.{AreFrameOf}
 use Rattle.air_audit.specs.declared.verdict.AuditReason.TheVariants as reasons
 use Rattle.air_audit.proofs.OneStanding.{rx-same, tx-same}
 use Rattle.air_audit.proofs.OneVerdict.{tx-shape}
 
 -- a line that begins with tx and is no tx line is refused
-pub tx-faulty : (exchange : ℕ) (line : List ℕ) (fault : FieldsFault) → first_field line ≡ codes "tx" → IsNoTx line fault → IsNoTxLine exchange line (reason_of fault)
+pub tx-faulty : (exchange : ℕ) (line : List ℕ) (fault : FieldsFault) → first_field line ≡ codes "tx" → IsNoTx line fault → IsNoTxLine exchange line (audit_reason_of fault)
 tx-faulty exchange line Word word none = absurd (none word)
 tx-faulty exchange line Shape word none = inl (none.1, refl)
 tx-faulty exchange line Number word none = inr (none.1, inl (none.2, refl))
@@ -32,7 +32,7 @@ tx-no-frame exchange line tx number none =
 
 -- ... and so is one that begins with rx
 pub rx-faulty : (exchange count : ℕ) (levels : List Bool) (line : List ℕ) (fault : FieldsFault) → first_field line ≡ codes "rx" → IsNoRx line fault
-    → DiffersFirst exchange count levels line (reason_of fault)
+    → DiffersFirst exchange count levels line (audit_reason_of fault)
 rx-faulty exchange count levels line Word word none = absurd (none word)
 rx-faulty exchange count levels line Shape word none = inl (none.1, refl)
 rx-faulty exchange count levels line Number word none = inr (none.1, inl (none.2, refl))

@@ -134,14 +134,14 @@ pub record GoesOnWith (start : Start) (standing : TraceStanding) (line : List �
   pub stands : AuditorStandsAt start next auditor
 
 -- the line is refused, or there was no memory
-abbrev pub StopsAt : Stop → Start → TraceStanding → List ℕ → Type 0
-StopsAt (stops.Refused reason) start standing line = IsRefusedHere start standing line reason
-StopsAt (stops.OutOfMemory error) start standing line = Unit {0}
+abbrev pub AuditStopsAt : Stop → Start → TraceStanding → List ℕ → Type 0
+AuditStopsAt (stops.Refused reason) start standing line = IsRefusedHere start standing line reason
+AuditStopsAt (stops.OutOfMemory error) start standing line = Unit {0}
 
 -- the answer to a line
 abbrev pub GoesOnOrStops : Result (Unit {0}) Stop → Start → TraceStanding → List ℕ → AuditorValue → Type 0
 GoesOnOrStops (Ok done) start standing line auditor = GoesOnWith start standing line auditor
-GoesOnOrStops (Err stop) start standing line auditor = StopsAt stop start standing line
+GoesOnOrStops (Err stop) start standing line auditor = AuditStopsAt stop start standing line
 
 -- the line sends a command, which the tags have heard
 pub record SendsTo (start : Start) (past : List Item) (line : List ℕ) (auditor : AuditorValue) : Type 0 where

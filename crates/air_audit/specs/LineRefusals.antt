@@ -19,10 +19,10 @@ use Rattle.air_audit.specs.Standing.{TraceStanding, begun, between, sending, lis
 use Rattle.air_audit.specs.TraceLines.{Sends}
 
 -- a line whose fields are not of their forms is refused for this reason
-abbrev pub reason_of : FieldsFault → AuditReason
-reason_of faults.Word = reasons.Word
-reason_of faults.Shape = reasons.Shape
-reason_of faults.Number = reasons.Number
+abbrev pub audit_reason_of : FieldsFault → AuditReason
+audit_reason_of faults.Word = reasons.Word
+audit_reason_of faults.Shape = reasons.Shape
+audit_reason_of faults.Number = reasons.Number
 
 -- what is looked for in a line, and why the line is refused where it isn't so
 pub record Part : Type 1 where

@@ -5,8 +5,8 @@ use Rattle.reply_grammar.specs.Table.{longest_reply}
 use Rattle.tag_population.specs.Answers.{AnswerValue}
 
 -- the room for the stream of each reply, in levels
-abbrev pub room_for_streams : ℕ
-room_for_streams = 132208
+abbrev pub room_for_audited_streams : ℕ
+room_for_audited_streams = 132208
 
 -- an answer that has no more bits than the longest reply
 abbrev pub IsShortAnswer : AnswerValue → Type 0

@@ -80,13 +80,13 @@ impl<'a, L: Ledger> Model for Auditor<'a, L> {
     ghost use Rattle.std.specs.Prelude.{◌≤◌, length};
     ghost use Rattle.std.specs.String.{string_bytes};
     ghost use Rattle.air_audit.specs.Auditing.{AuditorValue};
-    ghost use Rattle.air_audit.specs.Rooms.{room_for_streams};
+    ghost use Rattle.air_audit.specs.Rooms.{room_for_audited_streams};
 
     ghost Value = { AuditorValue };
 
     ghost view = { λ a. record { several = a.several; tags = a.population; entries = a.entries; position = a.position; exchanges = a.exchanges; round = a.round; slot = a.slot; sent = a.frame; answers = record { link = a.heard.link; count = length a.answers.items; levels = a.heard.levels }; text = string_bytes a.text } };
 
-    ghost invariant = { λ a. (room_for_streams ≤ a.room.capacity)
+    ghost invariant = { λ a. (room_for_audited_streams ≤ a.room.capacity)
         × (length a.population ≤ a.answers.tags) };
 }
 

@@ -1,7 +1,7 @@
 //! The fields of the lines of exchanges.
 ghost use Rattle.std.specs.Prelude.{◌≡◌, IsFalse, IsTrue};
 ghost use Rattle.std.specs.Fmt.{decimal};
-ghost use Rattle.air_audit.specs.LineRefusals.{reason_of};
+ghost use Rattle.air_audit.specs.LineRefusals.{audit_reason_of};
 
 use crate::AuditReason;
 use text_fields::{FieldsFault, number};
@@ -16,7 +16,7 @@ pub(crate) fn spells(field: &[u8], value: u32) -> bool
 
 /// The reason for which a line with such a fault is refused.
 pub(crate) fn reason_of(fault: FieldsFault) -> AuditReason
-    ensures { result ≡ reason_of fault }
+    ensures { result ≡ audit_reason_of fault }
 {
     match fault {
         FieldsFault::Word => AuditReason::Word,

@@ -77,7 +77,15 @@ impl Air {
         several: Several,
     ) -> Result<Air, OutOfMemory>
         ensures { IfOk result
-            (λ air. air ≡ record { link = link; several = several; tags = population; frame = []; stream = []; answers = []; exchanges = 0 }) }
+            (λ air. air ≡ record {
+              link = link;
+              several = several;
+              tags = population;
+              frame = [];
+              stream = [];
+              answers = [];
+              exchanges = 0;
+            }) }
     {
         let answers = Answers::new(alloc, population.len() as usize)?;
         let bits = Bits::new(alloc, FRAME_ROOM)?;

@@ -33,7 +33,12 @@ impl Model for MemSource {
 impl MemSource {
     /// A source that has these bytes left. Its reads are numbered from 1, and those with a number in `failing` fail.
     pub fn new(bytes: Vec<u8>, failing: Vec<u64>) -> MemSource
-        ensures { result ≡ record { left = bytes.items; failing = failing.items; calls = 0; faults = 0 } }
+        ensures { result ≡ record {
+          left = bytes.items;
+          failing = failing.items;
+          calls = 0;
+          faults = 0;
+        } }
     {
         MemSource {
             source: SureSource::new(bytes),
@@ -114,7 +119,13 @@ impl MemSink {
     /// There is no memory for the room.
     pub fn new(alloc: Global, room: u32, failing: Vec<u64>) -> Result<MemSink, OutOfMemory>
         ensures { IfOk result (λ sink. sink
-            ≡ record { written = []; room = room; failing = failing.items; calls = 0; faults = 0 }) }
+            ≡ record {
+              written = [];
+              room = room;
+              failing = failing.items;
+              calls = 0;
+              faults = 0;
+            }) }
     {
         let bytes = Vec::with_capacity(alloc, room as usize)?;
         Ok(MemSink {

@@ -6,7 +6,7 @@ use Rattle.text_fields.specs.Lines.{lines_of, fields_of}
 use Rattle.checked_lines.specs.declared.fault.FaultReason.{FaultReason}
 use Rattle.checked_lines.specs.declared.fault.FaultReason.TheVariants.{End}
 use Rattle.checked_lines.specs.declared.fault.FaultyLine.{FaultyLine}
-use Rattle.checked_lines.specs.TextRules.{TextRules, IsFaultText as HasFaultText, IsFirstFault as HasFirstFault}
+use Rattle.checked_lines.specs.TextRules.{TextRules, IsFaultText, IsFirstFault}
 
 -- What is said of one line, where R is what lines ask for and A what is answered.
 pub record LineRules (R A : Type 0) : Type 1 where
@@ -52,9 +52,9 @@ text_rules {R} rules = record {
 }
 
 -- the first faulty line of the bytes, counted from 1, with its first reason
-abbrev pub IsFirstFault : {R A : Type 0} → LineRules R A → List ℕ → FaultyLine → Type 0
-IsFirstFault rules bytes fault = HasFirstFault (text_rules rules) bytes fault.line fault.reason
+abbrev pub IsFirstFaultyLine : {R A : Type 0} → LineRules R A → List ℕ → FaultyLine → Type 0
+IsFirstFaultyLine rules bytes fault = IsFirstFault (text_rules rules) bytes fault.line fault.reason
 
 -- the text is the fault line of the bytes
-abbrev pub IsFaultText : {R A : Type 0} → LineRules R A → (bytes text : List ℕ) → Type 0
-IsFaultText rules bytes text = HasFaultText (text_rules rules) bytes text
+abbrev pub IsFaultyLineText : {R A : Type 0} → LineRules R A → (bytes text : List ℕ) → Type 0
+IsFaultyLineText rules bytes text = IsFaultText (text_rules rules) bytes text

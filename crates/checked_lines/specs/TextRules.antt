@@ -25,25 +25,25 @@ Lead rules from [] to = from ≡ to
 Lead {S} rules from (line ∷ lines) to = (behind : S) × rules.leads from line behind × Lead rules behind lines to
 
 -- what comes of lines
-pub data Outcome (S R : Type 0) : Type 0 where
+pub data TextOutcome (S R : Type 0) : Type 0 where
   -- they are a text, which stands there at its end
-  Whole : (standing : S) → Outcome S R
+  Whole : (standing : S) → TextOutcome S R
   -- the line of this number is the first faulty one, and this is its first reason
-  Faulty : (line : ℕ) → (reason : R) → Outcome S R
+  Faulty : (line : ℕ) → (reason : R) → TextOutcome S R
 
 -- what comes of what stands behind the last line feed, as the line of this number: nothing may stand there
-abbrev pub EndsIn : {S R : Type 0} → TextRules S R → S → ℕ → List ℕ → Outcome S R → Type 0
+abbrev pub EndsIn : {S R : Type 0} → TextRules S R → S → ℕ → List ℕ → TextOutcome S R → Type 0
 EndsIn rules standing number rest (Whole to) = (rest ≡ []) × rules.may_end standing × (to ≡ standing)
 EndsIn rules standing number rest (Faulty line reason) = (rest ≡ [] → ¬ rules.may_end standing) × (line ≡ number) × (reason ≡ rules.unended standing)
 
 -- the line of this number, which has its line feed, is the first faulty one
-abbrev pub StopsAt : {S R : Type 0} → TextRules S R → S → ℕ → List ℕ → Outcome S R → Type 0
+abbrev pub StopsAt : {S R : Type 0} → TextRules S R → S → ℕ → List ℕ → TextOutcome S R → Type 0
 StopsAt rules standing number text (Whole to) = ⊥
 StopsAt rules standing number text (Faulty line reason) = rules.is_faulty standing text reason × (line ≡ number)
 
 -- What comes of lines that stand here, of which the first has this number: that is faulty, or it leads on to those behind it. The last
 -- of them is what stands behind the last line feed.
-abbrev pub HasOutcomeFrom : {S R : Type 0} → TextRules S R → S → ℕ → List (List ℕ) → Outcome S R → Type 0
+abbrev pub HasOutcomeFrom : {S R : Type 0} → TextRules S R → S → ℕ → List (List ℕ) → TextOutcome S R → Type 0
 HasOutcomeFrom rules from number [] outcome = ⊥
 HasOutcomeFrom rules from number (line ∷ []) outcome = EndsIn rules from number line outcome
 HasOutcomeFrom {S} rules from number (line ∷ next ∷ lines) outcome =
@@ -51,7 +51,7 @@ HasOutcomeFrom {S} rules from number (line ∷ next ∷ lines) outcome =
     ⊎ ((behind : S) × rules.leads from line behind × HasOutcomeFrom rules behind (number + 1) (next ∷ lines) outcome)
 
 -- what comes of bytes, whose lines are counted from 1
-abbrev pub HasOutcome : {S R : Type 0} → TextRules S R → List ℕ → Outcome S R → Type 0
+abbrev pub HasOutcome : {S R : Type 0} → TextRules S R → List ℕ → TextOutcome S R → Type 0
 HasOutcome rules bytes outcome = HasOutcomeFrom rules rules.start 1 (lines_of bytes) outcome
 
 -- the bytes are a text by the rules, which stands there at its end

@@ -7,7 +7,7 @@ use Rattle.checked_lines.specs.declared.fault.FaultyLine.{FaultyLine}
 use Rattle.checked_lines.specs.laws.AnsweredLines.{answers_none}
 use Rattle.decode_lines.specs.Answer.{decode_rules}
 use Rattle.decode_lines.specs.Answered.{AnsweredSoFar}
-use Rattle.decode_lines.specs.DecodeLines.{IsFirstFault}
+use Rattle.decode_lines.specs.DecodeLines.{IsFirstDecodeFault}
 
 -- before the first piece
 pub begins : (part text : List ℕ) → part ≡ [] → text ≡ [] → AnsweredSoFar None [] part text 1
@@ -21,10 +21,10 @@ pub line_lacks : (part end : List ℕ) → Lacks line_feed part → Lacks line_f
 line_lacks part end before lacks = All-append (λ byte. byte ≢ line_feed) part end before lacks
 
 -- a fault that is known is that of the input, if nothing more comes
-pub fault_known : (fault : Option FaultyLine) (known : FaultyLine) (input part text : List ℕ) (number : ℕ) → fault ≡ Some known → AnsweredSoFar fault input part text number → IsFirstFault input known
+pub fault_known : (fault : Option FaultyLine) (known : FaultyLine) (input part text : List ℕ) (number : ℕ) → fault ≡ Some known → AnsweredSoFar fault input part text number → IsFirstDecodeFault input known
 fault_known fault known input part text number is stands =
     let told : AnsweredSoFar (Some known) input part text number = rw is at stands in
-    subst (λ bytes. IsFirstFault bytes known) (append-nil input) (told [])
+    subst (λ bytes. IsFirstDecodeFault bytes known) (append-nil input) (told [])
 
 -- where none is known the lines so far are answered
 pub none_known : (fault : Option FaultyLine) (input part text : List ℕ) (number : ℕ) → fault ≡ None → AnsweredSoFar fault input part text number → AnsweredSoFar None input part text number

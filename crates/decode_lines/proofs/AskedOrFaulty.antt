@@ -6,7 +6,7 @@ use Rattle.pie_text.specs.Numbers.{RefusesNumbers, SpellsNumbers}
 use Rattle.pie_text.specs.declared.numbers.NotNumbers.{NotNumbers}
 use Rattle.pie_text.specs.declared.numbers.NotNumbers.TheVariants as reasons
 use Rattle.pie_line.specs.Pie.{longest_interval}
-use Rattle.decode_lines.specs.Request.{request_word, most_intervals, AsksBehind, AreFaulty, IsFaultyRequest}
+use Rattle.decode_lines.specs.Request.{request_word, most_intervals, AsksToDecodeBehind, AreFaultyToDecode, IsFaultyToDecode}
 use Rattle.checked_lines.specs.laws.OneLine.{AsksOrIsFaulty}
 use Rattle.decode_lines.specs.Answer.{decode_rules}
 use Rattle.decode_lines.specs.declared.request.RequestKind.{RequestKind}
@@ -20,19 +20,19 @@ use Rattle.checked_lines.specs.declared.fault.FaultReason.TheVariants.{Shape, Nu
 abbrev pub AskedOrFaulty : List ℕ → Type 0
 AskedOrFaulty = AsksOrIsFaulty decode_rules
 
-faulty_line : (line : List ℕ) (kind : RequestKind) (others : List (List ℕ)) (reason : FaultReason) → fields_of line ≡ request_word kind ∷ others → AreFaulty kind others reason
-    → IsFaultyRequest (fields_of line) reason
+faulty_line : (line : List ℕ) (kind : RequestKind) (others : List (List ℕ)) (reason : FaultReason) → fields_of line ≡ request_word kind ∷ others → AreFaultyToDecode kind others reason
+    → IsFaultyToDecode (fields_of line) reason
 faulty_line line kind others Shape fields faulty = (kind, others, fields, faulty)
 faulty_line line kind others Number fields faulty = (kind, others, fields, faulty)
 faulty_line line kind others reason fields faulty = absurd faulty
 
 -- ... by what is read of these fields
 pub by_others : (line : List ℕ) (kind : RequestKind) (others : List (List ℕ)) (read : Result Request FaultReason) → fields_of line ≡ request_word kind ∷ others
-    → IfOk read (AsksBehind kind others) → IfErr read (AreFaulty kind others) → AskedOrFaulty line
+    → IfOk read (AsksToDecodeBehind kind others) → IfErr read (AreFaultyToDecode kind others) → AskedOrFaulty line
 by_others line kind others (Ok request) fields asks faulty = inl (request, record { kind = kind; others = others; fields = fields; asks = asks })
 by_others line kind others (Err reason) fields asks faulty = inr (reason, faulty_line line kind others reason fields faulty)
 
-no_other : (others : List (List ℕ)) → RefusesNumbers reasons.Number most_intervals longest_interval others → (request : Request) → ¬ AsksBehind PieKind others request
+no_other : (others : List (List ℕ)) → RefusesNumbers reasons.Number most_intervals longest_interval others → (request : Request) → ¬ AsksToDecodeBehind PieKind others request
 no_other others refused (Pie intervals) asks = refused.1 intervals asks.limits.2 asks.spelling
 no_other others refused (Stream code trext levels) asks = let same = asks.same_kind in cc
 no_other others refused (Samples threshold per_level samples) asks = let same = asks.same_kind in cc

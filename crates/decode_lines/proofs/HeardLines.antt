@@ -7,7 +7,7 @@ use Rattle.text_fields.specs.CodeNames.{code_word}
 use Rattle.reply_grammar.specs.declared.expected.Expect.{Expect}
 use Rattle.reply_text.specs.ReplyText.{expect_word, IsExpect}
 use Rattle.checked_lines.specs.declared.fault.FaultReason.TheVariants.{Number}
-use Rattle.decode_lines.specs.Request.{AreFaulty, AsksBehind}
+use Rattle.decode_lines.specs.Request.{AreFaultyToDecode, AsksToDecodeBehind}
 use Rattle.decode_lines.specs.declared.request.RequestKind.TheVariants as kinds
 use Rattle.decode_lines.specs.declared.request.Request.{Request}
 use Rattle.decode_lines.specs.declared.request.Request.TheVariants.{Stream, Samples, Reply, Heard, Pie, Command, Sgtin, Uri}
@@ -20,7 +20,7 @@ abbrev pub SpellNone : (code trext expect : List ℕ) → Type 0
 SpellNone code trext expect = (named : Code) (extended : Bool) (expected : Expect) → code ≡ code_word named → trext ≡ binary_digit extended ∷ []
     → IsExpect expected → expect ≡ expect_word expected → ⊥
 
-asks_none : (code trext expect levels : List ℕ) → SpellNone code trext expect → (request : Request) → ¬ AsksBehind kinds.Heard (code ∷ trext ∷ expect ∷ levels ∷ []) request
+asks_none : (code trext expect levels : List ℕ) → SpellNone code trext expect → (request : Request) → ¬ AsksToDecodeBehind kinds.Heard (code ∷ trext ∷ expect ∷ levels ∷ []) request
 asks_none code trext expect levels none (Heard named extended expected bits) asks =
     let spelled : code ∷ trext ∷ expect ∷ levels ∷ [] ≡ code_word named ∷ (binary_digit extended ∷ []) ∷ expect_word expected ∷ binary bits ∷ [] = asks.spelling in
     let first : code ≡ code_word named = cc in
@@ -36,7 +36,7 @@ asks_none code trext expect levels none (Sgtin words) asks = let same = asks.sam
 asks_none code trext expect levels none (Uri text) asks = let same = asks.same_kind in cc
 
 pub heard_unnamed : (code trext expect levels : List ℕ) → code ≢ [] → trext ≢ [] → expect ≢ [] → levels ≢ [] → SpellNone code trext expect
-    → AreFaulty kinds.Heard (code ∷ trext ∷ expect ∷ levels ∷ []) Number
+    → AreFaultyToDecode kinds.Heard (code ∷ trext ∷ expect ∷ levels ∷ []) Number
 heard_unnamed code trext expect levels some some' some'' some''' none = (
   (
     refl,

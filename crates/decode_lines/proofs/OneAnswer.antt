@@ -28,7 +28,7 @@ use Rattle.epc_sgtin.specs.Uri.{IsUriOf}
 use Rattle.epc_sgtin.specs.UriFaults.{RefusesUri}
 use Rattle.epc_sgtin.specs.declared.encoding.EpcFault.{EpcFault}
 use Rattle.epc_sgtin.specs.declared.tag_uri.UriFault.{UriFault}
-use Rattle.decode_lines.specs.Request.{IsWithinLimits}
+use Rattle.decode_lines.specs.Request.{IsWithinDecodeLimits}
 use Rattle.decode_lines.specs.Answer.{Answer, IsLineAnswer, streamed, sliced, replied, heard, framed, commanded, named, worded}
 use Rattle.decode_lines.specs.declared.request.Request.{Request}
 use Rattle.decode_lines.specs.declared.request.Request.TheVariants.{Stream, Samples, Reply as ReplyLine, Heard, Pie, Command as CommandLine, Sgtin as SgtinLine, Uri as UriLine}
@@ -124,7 +124,7 @@ pub record TellAnswers : Type 0 where
   pub sgtins : TellSgtins
 
 -- a request within its limits has one answer: samples need a level that has samples
-pub same_answer : TellAnswers → (request : Request) (one other : Answer) → IsWithinLimits request → IsLineAnswer request one → IsLineAnswer request other → one ≡ other
+pub same_answer : TellAnswers → (request : Request) (one other : Answer) → IsWithinDecodeLimits request → IsLineAnswer request one → IsLineAnswer request other → one ≡ other
 same_answer tell (Stream code trext levels) (streamed one) other within left right = same_streamed code trext levels one other left right
 same_answer tell (Samples threshold per_level samples) (sliced one) other within left right = same_sliced threshold per_level samples within.1 one other left right
 same_answer tell (ReplyLine expect bits) (replied one) other within left right = same_replied expect bits one other left right

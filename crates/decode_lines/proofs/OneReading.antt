@@ -17,7 +17,7 @@ use Rattle.hex.proofs.OnLiterals.{hex_on_literals}
 use Rattle.std.specs.Fmt.{decimal}
 use Rattle.text_fields.proofs.FieldTextLaws.{IsFieldText-decimal, IsFieldText-binary, IsFieldText-hex_words}
 use Rattle.text_fields.specs.Hexadecimal.{hex_words}
-use Rattle.decode_lines.specs.Request.{most_intervals, request_word, HasShape, request_kind, AreSpelled, IsWithinLimits, AsksBehind, AsksForRequest, AreFaulty, IsFaultyRequest}
+use Rattle.decode_lines.specs.Request.{most_intervals, request_word, HasDecodeShape, decode_request_kind, AreSpelled, IsWithinDecodeLimits, AsksToDecodeBehind, AsksToDecode, AreFaultyToDecode, IsFaultyToDecode}
 use Rattle.decode_lines.specs.declared.request.RequestKind.{RequestKind}
 use Rattle.decode_lines.specs.declared.request.RequestKind.TheVariants.{Stream as StreamKind, Samples as SamplesKind, Reply as ReplyKind, Heard as HeardKind, Pie as PieKind, Command as CommandKind, Sgtin as SgtinKind, Uri as UriKind}
 use Rattle.decode_lines.specs.declared.request.Request.{Request}
@@ -89,7 +89,7 @@ no_samples digits (s ∷ samples) none spelled some =
     let e : decode_of [] ≡ Ok (s ∷ samples) = subst (λ d. decode_of d ≡ Ok (s ∷ samples)) none spelled in cc
 
 -- the fields of a request have the shape that its kind wants
-request_shape : (request : Request) (others : List (List ℕ)) → AreSpelled request others → IsWithinLimits request → HasShape (request_kind request) others
+request_shape : (request : Request) (others : List (List ℕ)) → AreSpelled request others → IsWithinDecodeLimits request → HasDecodeShape (decode_request_kind request) others
 request_shape (Stream code trext levels) others spelling limits =
     let digit : Filled (binary_digit trext ∷ []) = λ e. cc in
     rw spelling (refl, two_filled (binary_digit trext ∷ []) (binary levels) digit (IsFieldText-binary levels).filled)
@@ -120,10 +120,10 @@ request_shape (Sgtin words) others spelling limits =
 request_shape (Uri text) others spelling limits = rw spelling (refl, All-cons Filled text [] limits (All-nil Filled))
 
 -- fields that ask for something are not faulty
-asked_not_faulty : (request : Request) (kind : RequestKind) (others : List (List ℕ)) (reason : FaultReason) → AsksBehind kind others request → AreFaulty kind others reason → ⊥
+asked_not_faulty : (request : Request) (kind : RequestKind) (others : List (List ℕ)) (reason : FaultReason) → AsksToDecodeBehind kind others request → AreFaultyToDecode kind others reason → ⊥
 asked_not_faulty request kind others Number asks faulty = faulty.1 request asks
 asked_not_faulty request kind others Shape asks faulty =
-    faulty (subst (λ k. HasShape k others) (sym asks.same_kind) (request_shape request others asks.spelling asks.limits))
+    faulty (subst (λ k. HasDecodeShape k others) (sym asks.same_kind) (request_shape request others asks.spelling asks.limits))
 asked_not_faulty request kind others reason asks faulty = faulty
 
 -- two lists of fields that are equal have equal first fields and equal others
@@ -131,14 +131,14 @@ pub same_fields : (a b : List ℕ) (xs ys : List (List ℕ)) → a ∷ xs ≡ b 
 same_fields a b xs ys e = (cc, cc)
 
 -- a line that asks for something is not faulty behind another reading of its first field
-behind_not_faulty : (line : List ℕ) (request : Request) (reason : FaultReason) (kind : RequestKind) (others : List (List ℕ)) → AsksForRequest line request → fields_of line ≡ request_word kind ∷ others → AreFaulty kind others reason → ⊥
+behind_not_faulty : (line : List ℕ) (request : Request) (reason : FaultReason) (kind : RequestKind) (others : List (List ℕ)) → AsksToDecode line request → fields_of line ≡ request_word kind ∷ others → AreFaultyToDecode kind others reason → ⊥
 behind_not_faulty line request reason kind others spells fields faulty =
     let parts = same_fields _ _ _ _ (sym spells.fields ∙ fields) in
     let same_kind = kind_word-injective spells.kind kind parts.0 in
     asked_not_faulty request kind others reason
-    (subst (λ k. AsksBehind k others request) same_kind (subst (λ o. AsksBehind spells.kind o request) parts.1 spells.asks)) faulty
+    (subst (λ k. AsksToDecodeBehind k others request) same_kind (subst (λ o. AsksToDecodeBehind spells.kind o request) parts.1 spells.asks)) faulty
 
 -- a line that asks for something is not faulty
-pub spelled_not_faulty : (line : List ℕ) (request : Request) (reason : FaultReason) → AsksForRequest line request → IsFaultyRequest (fields_of line) reason → ⊥
+pub spelled_not_faulty : (line : List ℕ) (request : Request) (reason : FaultReason) → AsksToDecode line request → IsFaultyToDecode (fields_of line) reason → ⊥
 spelled_not_faulty line request Word spells faulty = faulty spells.kind spells.others spells.fields
 spelled_not_faulty line request reason spells faulty = behind_not_faulty line request reason faulty.0 faulty.1 spells faulty.2 faulty.3

@@ -10,7 +10,7 @@ use Rattle.text_fields.specs.Hexadecimal.{hex_words}
 use Rattle.bit_strings.specs.declared.code.Code.{Code}
 use Rattle.reply_text.specs.ReplyText.{expect_word}
 use Rattle.reply_text.proofs.ToldApart.{expect_told}
-use Rattle.decode_lines.specs.Request.{request_kind, AreSpelled, IsWithinLimits, AsksForRequest}
+use Rattle.decode_lines.specs.Request.{decode_request_kind, AreSpelled, IsWithinDecodeLimits, AsksToDecode}
 use Rattle.decode_lines.specs.declared.request.RequestKind.TheVariants.{Stream as StreamKind}
 use Rattle.decode_lines.specs.declared.request.Request.{Request}
 use Rattle.decode_lines.specs.declared.request.Request.TheVariants.{Stream, Samples, Reply, Heard, Pie, Command, Sgtin, Uri}
@@ -44,8 +44,8 @@ numbers_told (m ∷ ms) (n ∷ ns) small small' same =
     cc
 
 -- the fields behind the first spell one request of a kind
-same_behind : (one other : Request) (others : List (List ℕ)) → request_kind one ≡ request_kind other
-    → AreSpelled one others → AreSpelled other others → IsWithinLimits one → IsWithinLimits other → one ≡ other
+same_behind : (one other : Request) (others : List (List ℕ)) → decode_request_kind one ≡ decode_request_kind other
+    → AreSpelled one others → AreSpelled other others → IsWithinDecodeLimits one → IsWithinDecodeLimits other → one ≡ other
 same_behind (Stream code trext levels) (Stream code' trext' levels') others kinds spelled spelled' within within' =
     let fields : (binary_digit trext ∷ []) ∷ binary levels ∷ [] ≡ (binary_digit trext' ∷ []) ∷ binary levels' ∷ [] = sym spelled ∙ spelled' in
     let e : trext ≡ trext' = digit_told trext trext' (cc) in
@@ -91,7 +91,7 @@ same_behind (Uri text) (Uri text') others kinds spelled spelled' within within' 
 same_behind one other others kinds spelled spelled' within within' = cc
 
 -- a line asks for one thing
-pub same_request : (line : List ℕ) (one other : Request) → AsksForRequest line one → AsksForRequest line other → one ≡ other
+pub same_request : (line : List ℕ) (one other : Request) → AsksToDecode line one → AsksToDecode line other → one ≡ other
 same_request line one other left right =
     let parts = same_fields _ _ _ _ (sym left.fields ∙ right.fields) in
     let kinds : left.kind ≡ right.kind = kind_word-injective left.kind right.kind parts.0 in

@@ -3,7 +3,7 @@ use Rattle.std.proofs.Common.{◌≡◌, ℕ, List, ◌∷◌, refl, sym, ◌∙
 use Rattle.checked_lines.specs.declared.fault.FaultReason.{FaultReason}
 use Rattle.checked_lines.specs.declared.fault.FaultReason.TheVariants.{Word, Shape, Number}
 use Rattle.checked_lines.specs.laws.OneLine.{TellLines, HaveOneAnswer}
-use Rattle.decode_lines.specs.Request.{request_word, HasShape, IsFaultyRequest}
+use Rattle.decode_lines.specs.Request.{request_word, HasDecodeShape, IsFaultyToDecode}
 use Rattle.decode_lines.specs.Answer.{decode_rules}
 use Rattle.decode_lines.specs.declared.request.RequestKind.{RequestKind}
 use Rattle.decode_lines.proofs.OneReading.{kind_word-injective, same_fields, spelled_not_faulty}
@@ -12,14 +12,14 @@ use Rattle.decode_lines.proofs.OneAnswer.{TellAnswers, same_answer}
 
 -- where a first field is read in two ways, the fields have the shape of both or of none
 one_reading : (fields : List (List ℕ)) (kind kind' : RequestKind) (others others' : List (List ℕ)) → fields ≡ request_word kind ∷ others → fields ≡ request_word kind' ∷ others'
-    → HasShape kind others → HasShape kind' others'
+    → HasDecodeShape kind others → HasDecodeShape kind' others'
 one_reading fields kind kind' others others' read read' shape =
     let parts = same_fields _ _ _ _ (sym read ∙ read') in
     let kinds : kind ≡ kind' = kind_word-injective kind kind' parts.0 in
-    subst (λ k. HasShape k others') kinds (subst (λ o. HasShape kind o) parts.1 shape)
+    subst (λ k. HasDecodeShape k others') kinds (subst (λ o. HasDecodeShape kind o) parts.1 shape)
 
 -- fields have one first reason
-same_reason : (fields : List (List ℕ)) (one other : FaultReason) → IsFaultyRequest fields one → IsFaultyRequest fields other → one ≡ other
+same_reason : (fields : List (List ℕ)) (one other : FaultReason) → IsFaultyToDecode fields one → IsFaultyToDecode fields other → one ≡ other
 same_reason fields Word Word left right = refl
 same_reason fields Word other left right = absurd (left right.0 right.1 right.2)
 same_reason fields one Word left right = absurd (right left.0 left.1 left.2)

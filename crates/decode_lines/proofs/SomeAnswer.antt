@@ -27,7 +27,7 @@ use Rattle.epc_sgtin.specs.Uri.{IsUriOf}
 use Rattle.epc_sgtin.specs.UriFaults.{RefusesUri}
 use Rattle.epc_sgtin.specs.declared.encoding.EpcFault.{EpcFault}
 use Rattle.epc_sgtin.specs.declared.tag_uri.UriFault.{UriFault}
-use Rattle.decode_lines.specs.Request.{IsWithinLimits}
+use Rattle.decode_lines.specs.Request.{IsWithinDecodeLimits}
 use Rattle.decode_lines.specs.Answer.{Answer, IsLineAnswer, streamed, sliced, replied, heard, framed, commanded, named, worded}
 use Rattle.decode_lines.specs.declared.request.Request.{Request}
 use Rattle.decode_lines.specs.declared.request.Request.TheVariants.{Stream, Samples, Reply as ReplyLine, Heard, Pie, Command as CommandLine, Sgtin as SgtinLine, Uri as UriLine}
@@ -97,7 +97,7 @@ worded_as sgtins text (inr is) = (worded (Err is.0), is.1)
 
 -- a request within its limits has an answer
 pub some_answer : StreamsHaveAnswers → SamplesHaveAnswers → RepliesHaveAnswers → LevelsAreReceived → FramesHaveAnswers → CommandsHaveAnswers → SgtinsHaveAnswers
-    → (request : Request) → IsWithinLimits request → HasAnswer request
+    → (request : Request) → IsWithinDecodeLimits request → HasAnswer request
 some_answer streams slices replies received frames commands sgtins (Stream code trext levels) within = let is = streams code trext levels in streamed_as code trext levels is.0 is.1
 some_answer streams slices replies received frames commands sgtins (Samples threshold per_level samples) within = let is = slices threshold per_level samples within.1 in sliced_as threshold per_level samples is.0 is.1
 some_answer streams slices replies received frames commands sgtins (ReplyLine expect bits) within = replied_as expect bits (replies expect bits)

@@ -38,7 +38,7 @@ use Rattle.epc_sgtin.specs.declared.tag_uri.UriFault.{UriFault}
 use Rattle.sgtin_text.specs.SgtinText.{name_line, sgtin_words_line, epc_fault_line, uri_fault_line}
 use Rattle.checked_lines.specs.LineRules.{LineRules}
 use Rattle.checked_lines.specs.Answered.{AddsLine, AddsLineFor}
-use Rattle.decode_lines.specs.Request.{AsksBehind, AsksForRequest, IsFaultyRequest}
+use Rattle.decode_lines.specs.Request.{AsksToDecodeBehind, AsksToDecode, IsFaultyToDecode}
 use Rattle.decode_lines.specs.declared.request.Request.{Request}
 use Rattle.decode_lines.specs.declared.request.RequestKind.{RequestKind}
 use Rattle.decode_lines.specs.declared.request.Request.TheVariants.{Stream, Samples, Reply as ReplyLine, Heard as HeardLine, Pie as PieLine, Command as CommandLine, Sgtin as SgtinLine, Uri as UriLine}
@@ -107,7 +107,7 @@ line_of_answer (worded (Err fault)) = uri_fault_line fault ++ line_feed ∷ []
 
 -- what is said of one decode line
 abbrev pub decode_rules : LineRules Request Answer
-decode_rules = record { asks = AsksForRequest; is_faulty = IsFaultyRequest; answers = IsLineAnswer; line_of = line_of_answer }
+decode_rules = record { asks = AsksToDecode; is_faulty = IsFaultyToDecode; answers = IsLineAnswer; line_of = line_of_answer }
 
 -- the text is the one before with the line of the request's answer at its end
 abbrev pub AddsAnswer : Request → (old new : List ℕ) → Type 0
@@ -120,5 +120,5 @@ AnswersLine = AddsLineFor decode_rules
 -- the text is the one before with the line of the answer to what these fields ask for behind a first field of this kind at its end
 pub record AnswersBehind (kind : RequestKind) (others : List (List ℕ)) (old new : List ℕ) : Type 0 where
   pub request : Request
-  pub asks : AsksBehind kind others request
+  pub asks : AsksToDecodeBehind kind others request
   pub adds : AddsAnswer request old new

@@ -57,19 +57,19 @@ MayHave SgtinKind count = count ≡ 1
 MayHave UriKind count = count ≡ 1
 
 -- the fields behind the first: their number is right, and none is empty
-abbrev pub HasShape : RequestKind → List (List ℕ) → Type 0
-HasShape kind others = MayHave kind (length others) × All (λ field. field ≢ []) others
+abbrev pub HasDecodeShape : RequestKind → List (List ℕ) → Type 0
+HasDecodeShape kind others = MayHave kind (length others) × All (λ field. field ≢ []) others
 
 -- what the first field of a request's line says
-abbrev pub request_kind : Request → RequestKind
-request_kind (Stream code trext levels) = StreamKind code
-request_kind (Samples threshold per_level samples) = SamplesKind
-request_kind (Reply expect bits) = ReplyKind
-request_kind (Heard code trext expect levels) = HeardKind
-request_kind (Pie intervals) = PieKind
-request_kind (Command bits) = CommandKind
-request_kind (Sgtin words) = SgtinKind
-request_kind (Uri text) = UriKind
+abbrev pub decode_request_kind : Request → RequestKind
+decode_request_kind (Stream code trext levels) = StreamKind code
+decode_request_kind (Samples threshold per_level samples) = SamplesKind
+decode_request_kind (Reply expect bits) = ReplyKind
+decode_request_kind (Heard code trext expect levels) = HeardKind
+decode_request_kind (Pie intervals) = PieKind
+decode_request_kind (Command bits) = CommandKind
+decode_request_kind (Sgtin words) = SgtinKind
+decode_request_kind (Uri text) = UriKind
 
 -- The fields behind the first spell the request. Sample bytes are hexadecimal digits of either case; all else has one
 -- spelling.
@@ -85,41 +85,41 @@ AreSpelled (Sgtin words) others = others ≡ hex_words words ∷ []
 AreSpelled (Uri text) others = others ≡ text ∷ []
 
 -- the limits on the numbers and lists of a line
-abbrev pub IsWithinLimits : Request → Type 0
-IsWithinLimits (Stream code trext levels) = length levels ≤ most_levels
-IsWithinLimits (Samples threshold per_level samples) =
+abbrev pub IsWithinDecodeLimits : Request → Type 0
+IsWithinDecodeLimits (Stream code trext levels) = length levels ≤ most_levels
+IsWithinDecodeLimits (Samples threshold per_level samples) =
     (threshold ≤ 255) × (1 ≤ per_level) × (per_level ≤ 64) × (1 ≤ length samples) × (length samples ≤ most_samples)
-IsWithinLimits (Reply expect bits) = IsExpect expect × (length bits ≤ most_wire_bits)
-IsWithinLimits (Heard code trext expect levels) = IsExpect expect × (length levels ≤ most_levels)
-IsWithinLimits (Pie intervals) = (1 ≤ length intervals) × (length intervals ≤ most_intervals) × All (λ interval. interval ≤ longest_interval) intervals
-IsWithinLimits (Command bits) = length bits ≤ most_wire_bits
-IsWithinLimits (Sgtin words) = (1 ≤ length words) × (length words ≤ 31) × All (λ word. word < 2 ^ 16) words
-IsWithinLimits (Uri text) = text ≢ []
+IsWithinDecodeLimits (Reply expect bits) = IsExpect expect × (length bits ≤ most_wire_bits)
+IsWithinDecodeLimits (Heard code trext expect levels) = IsExpect expect × (length levels ≤ most_levels)
+IsWithinDecodeLimits (Pie intervals) = (1 ≤ length intervals) × (length intervals ≤ most_intervals) × All (λ interval. interval ≤ longest_interval) intervals
+IsWithinDecodeLimits (Command bits) = length bits ≤ most_wire_bits
+IsWithinDecodeLimits (Sgtin words) = (1 ≤ length words) × (length words ≤ 31) × All (λ word. word < 2 ^ 16) words
+IsWithinDecodeLimits (Uri text) = text ≢ []
 
 -- behind a first field of this kind, these fields ask for this
-pub record AsksBehind (kind : RequestKind) (others : List (List ℕ)) (request : Request) : Type 0 where
-  pub same_kind : kind ≡ request_kind request
+pub record AsksToDecodeBehind (kind : RequestKind) (others : List (List ℕ)) (request : Request) : Type 0 where
+  pub same_kind : kind ≡ decode_request_kind request
   pub spelling : AreSpelled request others
-  pub limits : IsWithinLimits request
+  pub limits : IsWithinDecodeLimits request
 
 -- the line asks for this
-pub record AsksForRequest (line : List ℕ) (request : Request) : Type 0 where
+pub record AsksToDecode (line : List ℕ) (request : Request) : Type 0 where
   pub kind : RequestKind
   pub others : List (List ℕ)
   pub fields : fields_of line ≡ request_word kind ∷ others
-  pub asks : AsksBehind kind others request
+  pub asks : AsksToDecodeBehind kind others request
 
 -- the first reason for which the fields behind the first ask for nothing
-abbrev pub AreFaulty : RequestKind → List (List ℕ) → FaultReason → Type 0
+abbrev pub AreFaultyToDecode : RequestKind → List (List ℕ) → FaultReason → Type 0
 -- their number is wrong, or one is empty
-AreFaulty kind others Shape = ¬ HasShape kind others
+AreFaultyToDecode kind others Shape = ¬ HasDecodeShape kind others
 -- they are there, and one of them isn't of its form, range or length: they ask for nothing
-AreFaulty kind others Number = HasShape kind others × ((request : Request) → ¬ AsksBehind kind others request)
-AreFaulty kind others reason = ⊥
+AreFaultyToDecode kind others Number = HasDecodeShape kind others × ((request : Request) → ¬ AsksToDecodeBehind kind others request)
+AreFaultyToDecode kind others reason = ⊥
 
 -- the first reason for which the fields of a line that has its line feed ask for nothing
-abbrev pub IsFaultyRequest : List (List ℕ) → FaultReason → Type 0
+abbrev pub IsFaultyToDecode : List (List ℕ) → FaultReason → Type 0
 -- the first field is none that a line may begin with
-IsFaultyRequest fields Word = (kind : RequestKind) (others : List (List ℕ)) → fields ≢ request_word kind ∷ others
-IsFaultyRequest fields reason =
-    (kind : RequestKind) × (others : List (List ℕ)) × (fields ≡ request_word kind ∷ others) × AreFaulty kind others reason
+IsFaultyToDecode fields Word = (kind : RequestKind) (others : List (List ℕ)) → fields ≢ request_word kind ∷ others
+IsFaultyToDecode fields reason =
+    (kind : RequestKind) × (others : List (List ℕ)) × (fields ≡ request_word kind ∷ others) × AreFaultyToDecode kind others reason

@@ -3,7 +3,7 @@ ghost use Rattle.std.specs.Prelude.{◌≡◌, ◌≢◌, ◌≤◌, length, IfO
 ghost use Rattle.std.specs.String.{string_bytes};
 ghost use Rattle.decode_lines.specs.Answer.{AddsAnswer, AnswersBehind, AnswersLine};
 ghost use Rattle.text_fields.specs.Lines.{fields_of};
-ghost use Rattle.decode_lines.specs.Request.{AreFaulty, IsFaultyRequest, IsWithinLimits, most_intervals, most_levels};
+ghost use Rattle.decode_lines.specs.Request.{AreFaultyToDecode, IsFaultyToDecode, IsWithinDecodeLimits, most_intervals, most_levels};
 ghost use Rattle.decode_lines.specs.declared.request.Request.{Request};
 ghost use Rattle.decode_lines.specs.declared.request.RequestKind.{RequestKind};
 ghost use Rattle.epc_sgtin.specs.SgtinValue.{SgtinValue};
@@ -61,7 +61,7 @@ impl Workspace {
             (λ answered. OnOk answered
             (AnswersLine line.now (string_bytes text.old) (string_bytes text.new))) }
         ensures refused { IfOk result
-            (λ answered. IfErr answered (IsFaultyRequest (fields_of line.now))) }
+            (λ answered. IfErr answered (IsFaultyToDecode (fields_of line.now))) }
     {
         match kind_of_line(line) {
             None => Ok(Err(FaultReason::Word)),
@@ -82,7 +82,7 @@ impl Workspace {
             (AnswersBehind RequestKind.Pie others.entry (string_bytes text.old)
             (string_bytes text.new))) }
         ensures refused { IfOk result
-            (λ answered. IfErr answered (AreFaulty RequestKind.Pie others.entry)) }
+            (λ answered. IfErr answered (AreFaultyToDecode RequestKind.Pie others.entry)) }
     {
         if let Err(reason) = read_intervals(others, &mut self.intervals) {
             return Ok(Err(reason));
@@ -107,7 +107,8 @@ impl Workspace {
             (AnswersBehind (RequestKind.Stream code) others.entry (string_bytes text.old)
             (string_bytes text.new))) }
         ensures refused { IfOk result
-            (λ answered. IfErr answered (AreFaulty (RequestKind.Stream code) others.entry)) }
+            (λ answered. IfErr answered (AreFaultyToDecode
+            (RequestKind.Stream code) others.entry)) }
     {
         match read_stream(others.again(), &mut self.rooms.levels) {
             Some(trext) => {
@@ -129,7 +130,8 @@ impl Workspace {
         ensures ok { IfOk result
             (λ answered. OnOk answered
             (AnswersBehind kind others.entry (string_bytes text.old) (string_bytes text.new))) }
-        ensures refused { IfOk result (λ answered. IfErr answered (AreFaulty kind others.entry)) }
+        ensures refused { IfOk result (λ answered. IfErr answered
+            (AreFaultyToDecode kind others.entry)) }
     {
         let request = match request_of(kind, others) {
             Ok(request) => request,
@@ -174,7 +176,7 @@ impl Rooms {
 
     /// Adds the answer to a request at the end of the text, as a line.
     fn answer(&mut self, request: &Request, text: &mut String) -> Result<(), OutOfMemory>
-        requires limits { IsWithinLimits request.now }
+        requires limits { IsWithinDecodeLimits request.now }
         ensures { OnOk result
             (AddsAnswer request.now (string_bytes text.old) (string_bytes text.new)) }
     {
@@ -230,7 +232,7 @@ impl Rooms {
         samples: &HexBytes,
         text: &mut String,
     ) -> Result<(), OutOfMemory>
-        requires { IsWithinLimits (Request.Samples threshold per_level samples.now) }
+        requires { IsWithinDecodeLimits (Request.Samples threshold per_level samples.now) }
         ensures { OnOk result
             (AddsAnswer (Request.Samples threshold per_level samples.now) (string_bytes text.old)
             (string_bytes text.new)) }
@@ -247,7 +249,7 @@ impl Rooms {
         bits: &Digits,
         text: &mut String,
     ) -> Result<(), OutOfMemory>
-        requires { IsWithinLimits (Request.Reply expect.now bits.now) }
+        requires { IsWithinDecodeLimits (Request.Reply expect.now bits.now) }
         ensures { OnOk result
             (AddsAnswer (Request.Reply expect.now bits.now) (string_bytes text.old)
             (string_bytes text.new)) }
@@ -266,7 +268,7 @@ impl Rooms {
         levels: &Digits,
         text: &mut String,
     ) -> Result<(), OutOfMemory>
-        requires { IsWithinLimits (Request.Heard code trext expect.now levels.now) }
+        requires { IsWithinDecodeLimits (Request.Heard code trext expect.now levels.now) }
         ensures { OnOk result
             (AddsAnswer (Request.Heard code trext expect.now levels.now) (string_bytes text.old)
             (string_bytes text.new)) }
@@ -285,7 +287,7 @@ impl Rooms {
 
     /// Adds the frame that intervals are, or why they are none.
     fn answer_frame(&mut self, intervals: &Numbers, text: &mut String) -> Result<(), OutOfMemory>
-        requires { IsWithinLimits (Request.Pie intervals.now) }
+        requires { IsWithinDecodeLimits (Request.Pie intervals.now) }
         ensures { OnOk result
             (AddsAnswer (Request.Pie intervals.now) (string_bytes text.old)
             (string_bytes text.new)) }
@@ -296,7 +298,7 @@ impl Rooms {
 
     /// Adds the command that bits are, or why they are none.
     fn answer_command(&mut self, bits: &Digits, text: &mut String) -> Result<(), OutOfMemory>
-        requires { IsWithinLimits (Request.Command bits.now) }
+        requires { IsWithinDecodeLimits (Request.Command bits.now) }
         ensures { OnOk result
             (AddsAnswer (Request.Command bits.now) (string_bytes text.old)
             (string_bytes text.new)) }

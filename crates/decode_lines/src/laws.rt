@@ -4,9 +4,9 @@ ghost use Rattle.decode_lines.specs.declared.request.Request.{Request};
 ghost use Rattle.checked_lines.specs.declared.fault.FaultyLine.{FaultyLine};
 ghost use Rattle.checked_lines.specs.declared.fault.FaultReason.{FaultReason};
 ghost use Rattle.text_fields.specs.Lines.{fields_of};
-ghost use Rattle.decode_lines.specs.Request.{AsksForRequest, IsFaultyRequest, IsWithinLimits};
+ghost use Rattle.decode_lines.specs.Request.{AsksToDecode, IsFaultyToDecode, IsWithinDecodeLimits};
 ghost use Rattle.decode_lines.specs.Answer.{Answer, IsLineAnswer};
-ghost use Rattle.decode_lines.specs.DecodeLines.{Decodes, IsFaultText, IsFirstFault, IsGrammatical};
+ghost use Rattle.decode_lines.specs.DecodeLines.{Decodes, IsDecodeFaultText, IsFirstDecodeFault, AskForDecoding};
 
 use crate::request::{RequestKind, kind_of_line, request_of};
 use command_grammar::one_outcome;
@@ -21,8 +21,8 @@ use text_fields::split_line;
 pub fn decode_lines_have_one_text()
     ensures answers { (bytes one other : List ℕ) → Decodes bytes one → Decodes bytes other
         → one ≡ other }
-    ensures fault_line { (bytes one other : List ℕ) → IsFaultText bytes one
-        → IsFaultText bytes other → one ≡ other }
+    ensures fault_line { (bytes one other : List ℕ) → IsDecodeFaultText bytes one
+        → IsDecodeFaultText bytes other → one ≡ other }
 {
     // The bits of a command line have one outcome, and so have words and URIs.
     one_outcome();
@@ -32,13 +32,14 @@ pub fn decode_lines_have_one_text()
 
 /// Where each line asks for something there is no faulty line.
 pub fn decode_lines_are_not_faulty()
-    ensures { (bytes : List ℕ) (fault : FaultyLine) → IsGrammatical bytes → IsFirstFault bytes fault
+    ensures { (bytes : List ℕ) (fault : FaultyLine) → AskForDecoding bytes
+        → IsFirstDecodeFault bytes fault
         → ⊥ }
 {}
 
 /// Each request within its limits has an answer.
 pub fn requests_have_an_answer()
-    ensures { (request : Request) → IsWithinLimits request → (answer : Answer)
+    ensures { (request : Request) → IsWithinDecodeLimits request → (answer : Answer)
         × IsLineAnswer request answer }
 {
     code_laws();
@@ -54,8 +55,8 @@ pub fn requests_have_an_answer()
 
 /// A line asks for something, or is faulty.
 fn lines_ask_or_are_faulty(line: &[u8])
-    ensures { ((request : Request) × AsksForRequest line.now request)
-        ⊎ ((reason : FaultReason) × IsFaultyRequest (fields_of line.now) reason) }
+    ensures { ((request : Request) × AsksToDecode line.now request)
+        ⊎ ((reason : FaultReason) × IsFaultyToDecode (fields_of line.now) reason) }
 {
     // The intervals of a frame are numbers, or are refused.
     numbers_or_refused();
@@ -70,7 +71,7 @@ fn lines_ask_or_are_faulty(line: &[u8])
 
 /// An input has a defined text: the answers to its lines, or its fault line.
 pub fn decode_lines_have_a_text(input: &[u8])
-    ensures { (text : List ℕ) × (Decodes input.now text ⊎ IsFaultText input.now text) }
+    ensures { (text : List ℕ) × (Decodes input.now text ⊎ IsDecodeFaultText input.now text) }
 {
     requests_have_an_answer();
     if let Some((line, behind)) = split_line(input) {

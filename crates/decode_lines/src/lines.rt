@@ -4,8 +4,8 @@ ghost use Rattle.std.specs.String.{string_bytes};
 ghost use Rattle.text_fields.specs.Lines.{fields_of};
 ghost use Rattle.decode_lines.specs.Answer.{AnswersLine};
 ghost use Rattle.decode_lines.specs.Answered.{AnsweredSoFar};
-ghost use Rattle.decode_lines.specs.DecodeLines.{Decodes, IsFirstFault};
-ghost use Rattle.decode_lines.specs.Request.{IsFaultyRequest};
+ghost use Rattle.decode_lines.specs.DecodeLines.{Decodes, IsFirstDecodeFault};
+ghost use Rattle.decode_lines.specs.Request.{IsFaultyToDecode};
 
 use crate::answer::Workspace;
 use bit_strings::OutOfMemory;
@@ -80,7 +80,7 @@ impl Answering {
             (string_bytes self.new.text))) }
         ensures refused { IfOk result
             (λ answered. IfErr answered
-            (IsFaultyRequest (fields_of (self.old.part.items ++ end.now)))) }
+            (IsFaultyToDecode (fields_of (self.old.part.items ++ end.now)))) }
         ensures none { OnOk result (self.new.part.items ≡ []) }
         ensures number { self.new.number ≡ self.old.number }
         ensures fault { self.new.fault ≡ self.old.fault }
@@ -103,7 +103,7 @@ impl Answering {
         ensures refused { IfErr result
             (λ fault. (input : List ℕ)
             → AnsweredSoFar self.fault input self.part.items (string_bytes self.text) self.number
-            → IsFirstFault input fault) }
+            → IsFirstDecodeFault input fault) }
     {
         let Answering {
             workspace: _,

@@ -1,7 +1,7 @@
 //! A decode line, read.
 ghost use Rattle.std.specs.Prelude.{◌≡◌, ◌≢◌, ◌≤◌, ℕ, List, ◌∷◌, IfOk, IfErr, IfSome, IfNone, IsOk};
 ghost use Rattle.text_fields.specs.Lines.{fields_of};
-ghost use Rattle.decode_lines.specs.Request.{request_word, NamesNoCode, AsksBehind, AreFaulty, most_intervals};
+ghost use Rattle.decode_lines.specs.Request.{request_word, NamesNoCode, AsksToDecodeBehind, AreFaultyToDecode, most_intervals};
 
 use crate::raw_field::RawField;
 use bit_strings::Code;
@@ -148,8 +148,8 @@ pub fn kind_of_line(line: &[u8]) -> Option<(RequestKind, Fields<'_>)>
 /// intervals of a line that begins with `pie` are read by [`read_intervals`], into a list.
 pub fn request_of<'a>(kind: RequestKind, others: Fields<'a>) -> Result<Request<'a>, FaultReason>
     requires { kind ≢ RequestKind.Pie }
-    ensures ok { IfOk result (AsksBehind kind others.entry) }
-    ensures refused { IfErr result (AreFaulty kind others.entry) }
+    ensures ok { IfOk result (AsksToDecodeBehind kind others.entry) }
+    ensures refused { IfErr result (AreFaultyToDecode kind others.entry) }
 {
     match kind {
         RequestKind::Stream(code) => stream_of(code, others),
@@ -167,8 +167,9 @@ pub fn request_of<'a>(kind: RequestKind, others: Fields<'a>) -> Result<Request<'
 /// the first reason for which the line asks for nothing.
 pub fn read_intervals(others: Fields, out: &mut Intervals) -> Result<(), FaultReason>
     requires { most_intervals ≤ out.old.capacity }
-    ensures ok { IsOk result → AsksBehind RequestKind.Pie others.entry (Request.Pie out.new.items) }
-    ensures refused { IfErr result (AreFaulty RequestKind.Pie others.entry) }
+    ensures ok { IsOk result → AsksToDecodeBehind RequestKind.Pie others.entry
+        (Request.Pie out.new.items) }
+    ensures refused { IfErr result (AreFaultyToDecode RequestKind.Pie others.entry) }
     ensures capacity { out.new.capacity ≡ out.old.capacity }
 {
     match read_numbers(others, MOST_INTERVALS, MOST_NANOSECONDS, out) {
@@ -180,8 +181,8 @@ pub fn read_intervals(others: Fields, out: &mut Intervals) -> Result<(), FaultRe
 
 /// The request of a line that begins with a code's name, by its other fields.
 fn stream_of<'a>(code: Code, others: Fields<'a>) -> Result<Request<'a>, FaultReason>
-    ensures ok { IfOk result (AsksBehind (RequestKind.Stream code) others.entry) }
-    ensures refused { IfErr result (AreFaulty (RequestKind.Stream code) others.entry) }
+    ensures ok { IfOk result (AsksToDecodeBehind (RequestKind.Stream code) others.entry) }
+    ensures refused { IfErr result (AreFaultyToDecode (RequestKind.Stream code) others.entry) }
 {
     let Some((trext, levels)) = two_fields(others) else {
         return Err(FaultReason::Shape);
@@ -201,8 +202,8 @@ fn stream_of<'a>(code: Code, others: Fields<'a>) -> Result<Request<'a>, FaultRea
 
 /// The request of a line that begins with `samples`, by its other fields.
 fn samples_of<'a>(others: Fields<'a>) -> Result<Request<'a>, FaultReason>
-    ensures ok { IfOk result (AsksBehind RequestKind.Samples others.entry) }
-    ensures refused { IfErr result (AreFaulty RequestKind.Samples others.entry) }
+    ensures ok { IfOk result (AsksToDecodeBehind RequestKind.Samples others.entry) }
+    ensures refused { IfErr result (AreFaultyToDecode RequestKind.Samples others.entry) }
 {
     let Some((threshold, per_level, samples)) = three_fields(others) else {
         return Err(FaultReason::Shape);
@@ -228,8 +229,8 @@ fn samples_of<'a>(others: Fields<'a>) -> Result<Request<'a>, FaultReason>
 
 /// The request of a line that begins with `reply`, by its other fields.
 fn reply_of<'a>(others: Fields<'a>) -> Result<Request<'a>, FaultReason>
-    ensures ok { IfOk result (AsksBehind RequestKind.Reply others.entry) }
-    ensures refused { IfErr result (AreFaulty RequestKind.Reply others.entry) }
+    ensures ok { IfOk result (AsksToDecodeBehind RequestKind.Reply others.entry) }
+    ensures refused { IfErr result (AreFaultyToDecode RequestKind.Reply others.entry) }
 {
     let Some((expect, bits)) = two_fields(others) else {
         return Err(FaultReason::Shape);
@@ -245,8 +246,8 @@ fn reply_of<'a>(others: Fields<'a>) -> Result<Request<'a>, FaultReason>
 
 /// The request of a line that begins with `heard`, by its other fields.
 fn heard_of<'a>(others: Fields<'a>) -> Result<Request<'a>, FaultReason>
-    ensures ok { IfOk result (AsksBehind RequestKind.Heard others.entry) }
-    ensures refused { IfErr result (AreFaulty RequestKind.Heard others.entry) }
+    ensures ok { IfOk result (AsksToDecodeBehind RequestKind.Heard others.entry) }
+    ensures refused { IfErr result (AreFaultyToDecode RequestKind.Heard others.entry) }
 {
     let Some((code, trext, expect, levels)) = four_fields(others) else {
         return Err(FaultReason::Shape);
@@ -267,8 +268,8 @@ fn heard_of<'a>(others: Fields<'a>) -> Result<Request<'a>, FaultReason>
 
 /// The request of a line that begins with `command`, by its other field.
 fn command_of<'a>(others: Fields<'a>) -> Result<Request<'a>, FaultReason>
-    ensures ok { IfOk result (AsksBehind RequestKind.Command others.entry) }
-    ensures refused { IfErr result (AreFaulty RequestKind.Command others.entry) }
+    ensures ok { IfOk result (AsksToDecodeBehind RequestKind.Command others.entry) }
+    ensures refused { IfErr result (AreFaultyToDecode RequestKind.Command others.entry) }
 {
     let Some(bits) = one_field(others) else {
         return Err(FaultReason::Shape);
@@ -281,8 +282,8 @@ fn command_of<'a>(others: Fields<'a>) -> Result<Request<'a>, FaultReason>
 
 /// The request of a line that begins with `sgtin`, by its other field.
 fn sgtin_of<'a>(others: Fields<'a>) -> Result<Request<'a>, FaultReason>
-    ensures ok { IfOk result (AsksBehind RequestKind.Sgtin others.entry) }
-    ensures refused { IfErr result (AreFaulty RequestKind.Sgtin others.entry) }
+    ensures ok { IfOk result (AsksToDecodeBehind RequestKind.Sgtin others.entry) }
+    ensures refused { IfErr result (AreFaultyToDecode RequestKind.Sgtin others.entry) }
 {
     let Some(words) = one_field(others) else {
         return Err(FaultReason::Shape);
@@ -298,8 +299,8 @@ fn sgtin_of<'a>(others: Fields<'a>) -> Result<Request<'a>, FaultReason>
 
 /// The request of a line that begins with `uri`, by its other field.
 fn uri_of<'a>(others: Fields<'a>) -> Result<Request<'a>, FaultReason>
-    ensures ok { IfOk result (AsksBehind RequestKind.Uri others.entry) }
-    ensures refused { IfErr result (AreFaulty RequestKind.Uri others.entry) }
+    ensures ok { IfOk result (AsksToDecodeBehind RequestKind.Uri others.entry) }
+    ensures refused { IfErr result (AreFaultyToDecode RequestKind.Uri others.entry) }
 {
     match one_field(others) {
         Some(text) => Ok(Request::Uri {

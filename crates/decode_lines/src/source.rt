@@ -2,7 +2,7 @@
 ghost use Rattle.std.specs.Prelude.{◌≡◌, ◌<◌, ◌≤◌, ◌+◌, ◌^◌, ℕ, List, length, IfOk, IfErr, OnOk, IsErrOf, vec_len};
 ghost use Rattle.air_io.specs.Flow.{AtEnd, FaultsRose, TakesBytes};
 ghost use Rattle.air_io.specs.ReadEnds.{UnlessFault, most_read};
-ghost use Rattle.decode_lines.specs.DecodeLines.{Decodes, IsFirstFault};
+ghost use Rattle.decode_lines.specs.DecodeLines.{Decodes, IsFirstDecodeFault};
 ghost use Rattle.std.specs.String.{string_bytes};
 
 use crate::lines::Answering;
@@ -39,7 +39,7 @@ pub fn answer_source<I: Source>(
         (λ answered. (input : List ℕ) × TakesBytes (I.left source.old) (I.left source.new) input
         × (length input ≤ limit) × AtEnd (I.left source.new)
         × IfOk answered (λ text. Decodes input (string_bytes text))
-        × IfErr answered (IsFirstFault input)) }
+        × IfErr answered (IsFirstDecodeFault input)) }
     ensures too_long { IsErrOf result ReadEnd.TooLong
         → ((bytes : List ℕ) × TakesBytes (I.left source.old) (I.left source.new) bytes
         × (length bytes ≡ limit + 1)) }

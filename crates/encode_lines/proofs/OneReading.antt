@@ -25,7 +25,7 @@ use Rattle.checked_lines.specs.declared.fault.FaultReason.TheVariants.{Word, Sha
 use Rattle.checked_lines.specs.laws.OneLine.{TellLines}
 use Rattle.encode_lines.proofs.Shapes.{command_shape, reply_shape, shaped}
 use Rattle.encode_lines.specs.EncodeLines.{encode_rules}
-use Rattle.encode_lines.specs.Request.{lead_word, kind_word, request_kind, request_fields, IsWithinLimits, AsksBehind, AsksForRequest, NamesNone, HasShape, AreFaulty, AreFaultyBehind, IsFaultyRequest}
+use Rattle.encode_lines.specs.Request.{lead_word, kind_word, encode_request_kind, request_fields, IsWithinEncodeLimits, AsksToEncodeBehind, AsksToEncode, NamesNone, HasEncodeShape, AreFaultyToEncode, HasFaultyFieldsToEncode, IsFaultyToEncode}
 use Rattle.encode_lines.specs.declared.request.LineKind.{LineKind}
 use Rattle.encode_lines.specs.declared.request.LineKind.TheVariants.{Stream as StreamKind, Pie as PieKind, Command as CommandKind, Reply as ReplyKind, Heard as HeardKind}
 use Rattle.encode_lines.specs.declared.request.Request.{Request}
@@ -72,8 +72,8 @@ lead_told Preamble FrameSync same = cc
 lead_told FrameSync Preamble same = cc
 
 -- the fields behind the first spell one request of a kind
-same_behind : (one other : Request) (others : List (List ℕ)) → request_kind one ≡ request_kind other → others ≡ request_fields one → others ≡ request_fields other
-    → IsWithinLimits one → IsWithinLimits other → one ≡ other
+same_behind : (one other : Request) (others : List (List ℕ)) → encode_request_kind one ≡ encode_request_kind other → others ≡ request_fields one → others ≡ request_fields other
+    → IsWithinEncodeLimits one → IsWithinEncodeLimits other → one ≡ other
 same_behind (Stream code trext bits) (Stream code' trext' bits') others kinds spelled spelled' within within' =
     let fields : (binary_digit trext ∷ []) ∷ binary bits ∷ [] ≡ (binary_digit trext' ∷ []) ∷ binary bits' ∷ [] = sym spelled ∙ spelled' in
     let e : trext ≡ trext' = digit_told trext trext' (cc) in
@@ -108,7 +108,7 @@ same_behind (Heard code trext expect reply) (Heard code' trext' expect' reply') 
 same_behind one other others kinds spelled spelled' within within' = cc
 
 -- a line asks for one thing
-same_request : (line : List ℕ) (one other : Request) → AsksForRequest line one → AsksForRequest line other → one ≡ other
+same_request : (line : List ℕ) (one other : Request) → AsksToEncode line one → AsksToEncode line other → one ≡ other
 same_request line one other left right =
     let read = one_reading left.kind right.kind left.others right.others (sym left.fields ∙ right.fields) in
     same_behind one other left.others (sym left.asks.same_kind ∙ read.0 ∙ right.asks.same_kind)
@@ -122,7 +122,7 @@ number_filled : (n : ℕ) → n ≤ 999999 → Filled (decimal n)
 number_filled n few = (IsFieldText-decimal n (omega arith)).filled
 
 -- the fields of a request have the shape that its kind wants
-request_shape : (request : Request) (others : List (List ℕ)) → others ≡ request_fields request → IsWithinLimits request → HasShape (request_kind request) others
+request_shape : (request : Request) (others : List (List ℕ)) → others ≡ request_fields request → IsWithinEncodeLimits request → HasEncodeShape (encode_request_kind request) others
 request_shape (Stream code trext bits) others spelling limits =
     rw spelling (one_more 1 (binary_digit trext ∷ []) (binary bits ∷ []) (bit_is trext).filled (one_more 0 (binary bits) [] (IsFieldText-binary bits).filled none_filled))
 request_shape (Pie tari rtcal trcal pw lead bits) others spelling limits =
@@ -148,7 +148,7 @@ request_shape (Heard code trext expect reply) others spelling limits =
     )
 
 -- fields of the right shape have the name of something where one has to stand
-shaped_named : (kind : LineKind) (others : List (List ℕ)) → HasShape kind others → ¬ NamesNone kind others
+shaped_named : (kind : LineKind) (others : List (List ℕ)) → HasEncodeShape kind others → ¬ NamesNone kind others
 shaped_named (StreamKind code) others shape none = none
 shaped_named PieKind others shape none = none
 shaped_named CommandKind others shape none = shaped commands others shape none
@@ -156,27 +156,27 @@ shaped_named ReplyKind others shape none = shaped replies (drop 1 others) shape.
 shaped_named HeardKind others shape none = shaped replies (drop 3 others) shape.1 none
 
 -- fields that ask for something are not faulty
-asked_not_faulty : (request : Request) (kind : LineKind) (others : List (List ℕ)) (reason : FaultReason) → AsksBehind kind others request → AreFaulty kind others reason → ⊥
+asked_not_faulty : (request : Request) (kind : LineKind) (others : List (List ℕ)) (reason : FaultReason) → AsksToEncodeBehind kind others request → AreFaultyToEncode kind others reason → ⊥
 asked_not_faulty request kind others Number asks faulty = faulty.1 request asks
 asked_not_faulty request kind others Word asks faulty =
-    shaped_named kind others (subst (λ k. HasShape k others) (sym asks.same_kind) (request_shape request others asks.spelling asks.limits)) faulty
+    shaped_named kind others (subst (λ k. HasEncodeShape k others) (sym asks.same_kind) (request_shape request others asks.spelling asks.limits)) faulty
 asked_not_faulty request kind others Shape asks faulty =
-    faulty.1 (subst (λ k. HasShape k others) (sym asks.same_kind) (request_shape request others asks.spelling asks.limits))
+    faulty.1 (subst (λ k. HasEncodeShape k others) (sym asks.same_kind) (request_shape request others asks.spelling asks.limits))
 asked_not_faulty request kind others reason asks faulty = faulty
 
 -- ... behind another reading of the first field
-behind_not_faulty : (line : List ℕ) (request : Request) (reason : FaultReason) → AsksForRequest line request → AreFaultyBehind (fields_of line) reason → ⊥
+behind_not_faulty : (line : List ℕ) (request : Request) (reason : FaultReason) → AsksToEncode line request → HasFaultyFieldsToEncode (fields_of line) reason → ⊥
 behind_not_faulty line request reason asks faulty =
     let read = one_reading asks.kind faulty.kind asks.others faulty.others (sym asks.fields ∙ faulty.first) in
-    asked_not_faulty request faulty.kind faulty.others reason (subst (λ k. AsksBehind k faulty.others request) read.0 (subst (λ o. AsksBehind asks.kind o request) read.1 asks.asks)) faulty.faulty
+    asked_not_faulty request faulty.kind faulty.others reason (subst (λ k. AsksToEncodeBehind k faulty.others request) read.0 (subst (λ o. AsksToEncodeBehind asks.kind o request) read.1 asks.asks)) faulty.faulty
 
-pub not_faulty : (line : List ℕ) (request : Request) (reason : FaultReason) → AsksForRequest line request → IsFaultyRequest (fields_of line) reason → ⊥
+pub not_faulty : (line : List ℕ) (request : Request) (reason : FaultReason) → AsksToEncode line request → IsFaultyToEncode (fields_of line) reason → ⊥
 not_faulty line request Word asks (inl none) = none asks.kind asks.others asks.fields
 not_faulty line request Word asks (inr faulty) = behind_not_faulty line request Word asks faulty
 not_faulty line request reason asks faulty = behind_not_faulty line request reason asks faulty
 
 -- the fields behind the first are faulty for one reason
-same_fault : (kind : LineKind) (others : List (List ℕ)) (one other : FaultReason) → AreFaulty kind others one → AreFaulty kind others other → one ≡ other
+same_fault : (kind : LineKind) (others : List (List ℕ)) (one other : FaultReason) → AreFaultyToEncode kind others one → AreFaultyToEncode kind others other → one ≡ other
 same_fault kind others Word Word left right = refl
 same_fault kind others Word Shape left right = absurd (right.0 left)
 same_fault kind others Word Number left right = absurd (shaped_named kind others right.0 left)
@@ -191,12 +191,12 @@ same_fault kind others Shape other left right = absurd right
 same_fault kind others Number other left right = absurd right
 same_fault kind others one other left right = absurd left
 
-same_fault_behind : (fields : List (List ℕ)) (one other : FaultReason) → AreFaultyBehind fields one → AreFaultyBehind fields other → one ≡ other
+same_fault_behind : (fields : List (List ℕ)) (one other : FaultReason) → HasFaultyFieldsToEncode fields one → HasFaultyFieldsToEncode fields other → one ≡ other
 same_fault_behind fields one other left right =
     let read = one_reading left.kind right.kind left.others right.others (sym left.first ∙ right.first) in
-    same_fault right.kind right.others one other (subst (λ k. AreFaulty k right.others one) read.0 (subst (λ o. AreFaulty left.kind o one) read.1 left.faulty)) right.faulty
+    same_fault right.kind right.others one other (subst (λ k. AreFaultyToEncode k right.others one) read.0 (subst (λ o. AreFaultyToEncode left.kind o one) read.1 left.faulty)) right.faulty
 
-same_reason : (fields : List (List ℕ)) (one other : FaultReason) → IsFaultyRequest fields one → IsFaultyRequest fields other → one ≡ other
+same_reason : (fields : List (List ℕ)) (one other : FaultReason) → IsFaultyToEncode fields one → IsFaultyToEncode fields other → one ≡ other
 same_reason fields Word Word left right = refl
 same_reason fields Word other (inl none) right = absurd (none right.kind right.others right.first)
 same_reason fields Word other (inr faulty) right = same_fault_behind fields Word other faulty right

@@ -12,7 +12,7 @@ use Rattle.reply_grammar.specs.declared.expected.Expect.{Expect}
 use Rattle.reply_grammar.specs.declared.expected.Reply.{Reply as OneReply}
 use Rattle.checked_lines.specs.declared.fault.FaultReason.{FaultReason}
 use Rattle.checked_lines.specs.declared.fault.FaultReason.TheVariants.{Word, Shape, Number}
-use Rattle.encode_lines.specs.Request.{AsksBehind, AreFaulty, IsFaultyReplyBehind}
+use Rattle.encode_lines.specs.Request.{AsksToEncodeBehind, AreFaultyToEncode, IsFaultyReplyBehind}
 use Rattle.encode_lines.specs.declared.request.LineKind.TheVariants.{Pie as PieKind, Heard as HeardKind}
 use Rattle.encode_lines.specs.declared.request.Request.{Request}
 use Rattle.encode_lines.specs.declared.request.Request.TheVariants.{Stream, Pie, Command, Reply, Heard}
@@ -34,7 +34,7 @@ ThreeFilled a b c = (a ≢ []) × (b ≢ []) × (c ≢ [])
 -- a line `heard` asks for the stream of its reply alone
 no_heard : (a b c : List ℕ) (tail : List (List ℕ))
     → ((code : Code) (trext : Bool) (expect : Expect) (reply : OneReply) → a ≡ code_word code → b ≡ binary_digit trext ∷ [] → IsExpect expect → c ≡ expect_word expect → ¬ IsReplyText tail reply)
-    → (request : Request) → ¬ AsksBehind HeardKind (a ∷ b ∷ c ∷ tail) request
+    → (request : Request) → ¬ AsksToEncodeBehind HeardKind (a ∷ b ∷ c ∷ tail) request
 no_heard a b c tail none (Heard code trext expect reply) asks =
     let spelled : a ∷ b ∷ c ∷ tail ≡ code_word code ∷ (binary_digit trext ∷ []) ∷ expect_word expect ∷ reply_fields reply = asks.spelling in
     let first : a ≡ code_word code = cc in
@@ -52,7 +52,7 @@ front_filled a b c are =
     let others = All-tail Filled a (b ∷ c ∷ []) are.filled in
     (All-head Filled a (b ∷ c ∷ []) are.filled, All-head Filled b (c ∷ []) others, All-head Filled c [] (All-tail Filled b (c ∷ []) others))
 
-faulty_heard : (a b c : List ℕ) (tail : List (List ℕ)) (reason : FaultReason) → IsFaultyReplyBehind (ThreeFilled a b c) tail reason → AreFaulty HeardKind (a ∷ b ∷ c ∷ tail) reason
+faulty_heard : (a b c : List ℕ) (tail : List (List ℕ)) (reason : FaultReason) → IsFaultyReplyBehind (ThreeFilled a b c) tail reason → AreFaultyToEncode HeardKind (a ∷ b ∷ c ∷ tail) reason
 faulty_heard a b c tail Word faulty = faulty
 faulty_heard a b c tail Shape faulty = (faulty.0, λ has. faulty.1 (front_filled a b c has.0, has.1))
 faulty_heard a b c tail Number faulty =
@@ -62,7 +62,7 @@ faulty_heard a b c tail reason faulty = faulty
 -- a reply stands behind three fields of which one spells nothing
 pub heard_unnamed : (a b c : List ℕ) (tail : List (List ℕ)) (reply : OneReply) → ThreeFilled a b c → IsReplyText tail reply
     → ((code : Code) (trext : Bool) (expect : Expect) → a ≡ code_word code → b ≡ binary_digit trext ∷ [] → IsExpect expect → c ≡ expect_word expect → ⊥)
-    → AreFaulty HeardKind (a ∷ b ∷ c ∷ tail) Number
+    → AreFaultyToEncode HeardKind (a ∷ b ∷ c ∷ tail) Number
 heard_unnamed a b c tail reply filled is none = (
   (
     three_filled a b c filled.0 filled.1 filled.2,
@@ -72,9 +72,9 @@ heard_unnamed a b c tail reply filled is none = (
 )
 
 pub heard_faulty : (others : List (List ℕ)) (a b c : List ℕ) (tail : List (List ℕ)) (reason : FaultReason) → others ≡ a ∷ b ∷ c ∷ tail → IsFaultyReplyBehind (ThreeFilled a b c) tail reason
-    → AreFaulty HeardKind others reason
+    → AreFaultyToEncode HeardKind others reason
 heard_faulty others a b c tail reason first faulty = rw first (faulty_heard a b c tail reason faulty)
 
 -- fewer or more than six fields, or an empty one
-pub six_missing : (others : List (List ℕ)) → ((a b c d e f : List ℕ) → others ≡ a ∷ b ∷ c ∷ d ∷ e ∷ f ∷ [] → a ≢ [] → b ≢ [] → c ≢ [] → d ≢ [] → e ≢ [] → f ≢ [] → ⊥) → AreFaulty PieKind others Shape
+pub six_missing : (others : List (List ℕ)) → ((a b c d e f : List ℕ) → others ≡ a ∷ b ∷ c ∷ d ∷ e ∷ f ∷ [] → a ≢ [] → b ≢ [] → c ≢ [] → d ≢ [] → e ≢ [] → f ≢ [] → ⊥) → AreFaultyToEncode PieKind others Shape
 six_missing others wanting = (λ (nothing : ⊥). nothing, λ filled. have_6 others filled wanting)

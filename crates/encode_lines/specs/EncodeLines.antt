@@ -5,10 +5,10 @@ use Rattle.pie_line.specs.Link.{LinkValue}
 use Rattle.pie_line.specs.Pie.{wave_of}
 use Rattle.pie_line.specs.declared.frame.Lead.{Lead}
 use Rattle.text_fields.specs.Lines.{line_feed, line_with}
-use Rattle.checked_lines.specs.LineRules.{LineRules, AskForSome, Answers, IsFirstFault as IsFirstFaultBy, IsFaultText as IsFaultTextBy}
+use Rattle.checked_lines.specs.LineRules.{LineRules, AskForSome, Answers, IsFirstFaultyLine, IsFaultyLineText}
 use Rattle.checked_lines.specs.Answered.{AddsLine, AddsLineFor}
 use Rattle.checked_lines.specs.declared.fault.FaultyLine.{FaultyLine}
-use Rattle.encode_lines.specs.Request.{AsksForRequest, IsFaultyRequest}
+use Rattle.encode_lines.specs.Request.{AsksToEncode, IsFaultyToEncode}
 use Rattle.encode_lines.specs.Written.{AreWritten}
 use Rattle.encode_lines.specs.declared.request.Request.{Request}
 
@@ -18,23 +18,23 @@ written_line fields = line_with fields ++ line_feed ∷ []
 
 -- what is said of one encode line
 abbrev pub encode_rules : LineRules Request (List (List ℕ))
-encode_rules = record { asks = AsksForRequest; is_faulty = IsFaultyRequest; answers = AreWritten; line_of = written_line }
+encode_rules = record { asks = AsksToEncode; is_faulty = IsFaultyToEncode; answers = AreWritten; line_of = written_line }
 
 -- the bytes ask for something, line by line
-abbrev pub IsGrammatical : List ℕ → Type 0
-IsGrammatical = AskForSome encode_rules
+abbrev pub AskForEncoding : List ℕ → Type 0
+AskForEncoding = AskForSome encode_rules
 
 -- the text is the encoded lines of the bytes
 abbrev pub Encodes : (bytes text : List ℕ) → Type 0
 Encodes = Answers encode_rules
 
 -- the first faulty line of the bytes, counted from 1, with its first reason
-abbrev pub IsFirstFault : (bytes : List ℕ) → FaultyLine → Type 0
-IsFirstFault = IsFirstFaultBy encode_rules
+abbrev pub IsFirstEncodeFault : (bytes : List ℕ) → FaultyLine → Type 0
+IsFirstEncodeFault = IsFirstFaultyLine encode_rules
 
 -- the text is the fault line of the bytes
-abbrev pub IsFaultText : (bytes text : List ℕ) → Type 0
-IsFaultText = IsFaultTextBy encode_rules
+abbrev pub IsEncodeFaultText : (bytes text : List ℕ) → Type 0
+IsEncodeFaultText = IsFaultyLineText encode_rules
 
 -- the text is the one before with the line for the request at its end
 abbrev pub AddsWritten : Request → (old new : List ℕ) → Type 0

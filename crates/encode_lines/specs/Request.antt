@@ -50,12 +50,12 @@ kind_word ReplyKind = codes "reply"
 kind_word HeardKind = codes "heard"
 
 -- what the first field of a request's line says
-abbrev pub request_kind : Request → LineKind
-request_kind (Stream code trext bits) = StreamKind code
-request_kind (Pie tari rtcal trcal pw lead bits) = PieKind
-request_kind (Command command) = CommandKind
-request_kind (Reply expect reply) = ReplyKind
-request_kind (Heard code trext expect reply) = HeardKind
+abbrev pub encode_request_kind : Request → LineKind
+encode_request_kind (Stream code trext bits) = StreamKind code
+encode_request_kind (Pie tari rtcal trcal pw lead bits) = PieKind
+encode_request_kind (Command command) = CommandKind
+encode_request_kind (Reply expect reply) = ReplyKind
+encode_request_kind (Heard code trext expect reply) = HeardKind
 
 -- the one spelling of a request, behind the first field
 abbrev pub request_fields : Request → List (List ℕ)
@@ -66,26 +66,26 @@ request_fields (Reply expect reply) = expect_word expect ∷ reply_fields reply
 request_fields (Heard code trext expect reply) = code_word code ∷ (binary_digit trext ∷ []) ∷ expect_word expect ∷ reply_fields reply
 
 -- the limits on the numbers and lists of a line: a stream has the bits of the longest reply at most
-abbrev pub IsWithinLimits : Request → Type 0
-IsWithinLimits (Stream code trext bits) = length bits ≤ longest_reply
-IsWithinLimits (Pie tari rtcal trcal pw lead bits) =
+abbrev pub IsWithinEncodeLimits : Request → Type 0
+IsWithinEncodeLimits (Stream code trext bits) = length bits ≤ longest_reply
+IsWithinEncodeLimits (Pie tari rtcal trcal pw lead bits) =
     (tari ≤ longest_duration) × (rtcal ≤ longest_duration) × (trcal ≤ longest_duration) × (pw ≤ longest_duration) × (length bits ≤ most_frame_bits)
-IsWithinLimits (Command command) = IsLegalCommand command
-IsWithinLimits (Reply expect reply) = IsExpect expect × IsReplyForm reply
-IsWithinLimits (Heard code trext expect reply) = IsExpect expect × IsReplyForm reply
+IsWithinEncodeLimits (Command command) = IsLegalCommand command
+IsWithinEncodeLimits (Reply expect reply) = IsExpect expect × IsReplyForm reply
+IsWithinEncodeLimits (Heard code trext expect reply) = IsExpect expect × IsReplyForm reply
 
 -- behind a first field of this kind, these fields ask for this
-pub record AsksBehind (kind : LineKind) (others : List (List ℕ)) (request : Request) : Type 0 where
-  pub same_kind : kind ≡ request_kind request
+pub record AsksToEncodeBehind (kind : LineKind) (others : List (List ℕ)) (request : Request) : Type 0 where
+  pub same_kind : kind ≡ encode_request_kind request
   pub spelling : others ≡ request_fields request
-  pub limits : IsWithinLimits request
+  pub limits : IsWithinEncodeLimits request
 
 -- the line asks for this
-pub record AsksForRequest (line : List ℕ) (request : Request) : Type 0 where
+pub record AsksToEncode (line : List ℕ) (request : Request) : Type 0 where
   pub kind : LineKind
   pub others : List (List ℕ)
   pub fields : fields_of line ≡ kind_word kind ∷ others
-  pub asks : AsksBehind kind others request
+  pub asks : AsksToEncodeBehind kind others request
 
 -- the field in which the name of a command or of a reply has to stand is there, and has none
 abbrev pub NamesNone : LineKind → List (List ℕ) → Type 0
@@ -96,20 +96,20 @@ NamesNone ReplyKind others = NameNothing replies (drop 1 others)
 NamesNone HeardKind others = NameNothing replies (drop 3 others)
 
 -- the number of the fields behind the first is right, and none of them is empty
-abbrev pub HasShape : LineKind → List (List ℕ) → Type 0
-HasShape (StreamKind code) others = AreFilled 2 others
-HasShape PieKind others = AreFilled 6 others
-HasShape CommandKind others = HaveShape commands others
-HasShape ReplyKind others = AreFilled 1 (take 1 others) × HaveShape replies (drop 1 others)
-HasShape HeardKind others = AreFilled 3 (take 3 others) × HaveShape replies (drop 3 others)
+abbrev pub HasEncodeShape : LineKind → List (List ℕ) → Type 0
+HasEncodeShape (StreamKind code) others = AreFilled 2 others
+HasEncodeShape PieKind others = AreFilled 6 others
+HasEncodeShape CommandKind others = HaveShape commands others
+HasEncodeShape ReplyKind others = AreFilled 1 (take 1 others) × HaveShape replies (drop 1 others)
+HasEncodeShape HeardKind others = AreFilled 3 (take 3 others) × HaveShape replies (drop 3 others)
 
 -- the first reason for which the fields behind the first ask for nothing
-abbrev pub AreFaulty : LineKind → List (List ℕ) → FaultReason → Type 0
-AreFaulty kind others Word = NamesNone kind others
-AreFaulty kind others Shape = (¬ NamesNone kind others) × (¬ HasShape kind others)
+abbrev pub AreFaultyToEncode : LineKind → List (List ℕ) → FaultReason → Type 0
+AreFaultyToEncode kind others Word = NamesNone kind others
+AreFaultyToEncode kind others Shape = (¬ NamesNone kind others) × (¬ HasEncodeShape kind others)
 -- they are there, and one of them isn't of its form, range or length: they ask for nothing
-AreFaulty kind others Number = HasShape kind others × ((request : Request) → ¬ AsksBehind kind others request)
-AreFaulty kind others reason = ⊥
+AreFaultyToEncode kind others Number = HasEncodeShape kind others × ((request : Request) → ¬ AsksToEncodeBehind kind others request)
+AreFaultyToEncode kind others reason = ⊥
 
 -- the first reason for which the fields of a reply are faulty behind others, of which it is said whether none is empty
 abbrev pub IsFaultyReplyBehind : Type 0 → List (List ℕ) → FaultReason → Type 0
@@ -119,14 +119,14 @@ IsFaultyReplyBehind filled fields Number = filled × HaveShape replies fields ×
 IsFaultyReplyBehind filled fields reason = ⊥
 
 -- behind a first field that a line may begin with, the others are faulty for this reason
-pub record AreFaultyBehind (fields : List (List ℕ)) (reason : FaultReason) : Type 0 where
+pub record HasFaultyFieldsToEncode (fields : List (List ℕ)) (reason : FaultReason) : Type 0 where
   pub kind : LineKind
   pub others : List (List ℕ)
   pub first : fields ≡ kind_word kind ∷ others
-  pub faulty : AreFaulty kind others reason
+  pub faulty : AreFaultyToEncode kind others reason
 
 -- the first reason for which the fields of a line that has its line feed ask for nothing
-abbrev pub IsFaultyRequest : List (List ℕ) → FaultReason → Type 0
+abbrev pub IsFaultyToEncode : List (List ℕ) → FaultReason → Type 0
 -- ... or the first field is none that a line may begin with
-IsFaultyRequest fields Word = ((kind : LineKind) (others : List (List ℕ)) → fields ≢ kind_word kind ∷ others) ⊎ AreFaultyBehind fields Word
-IsFaultyRequest fields reason = AreFaultyBehind fields reason
+IsFaultyToEncode fields Word = ((kind : LineKind) (others : List (List ℕ)) → fields ≢ kind_word kind ∷ others) ⊎ HasFaultyFieldsToEncode fields Word
+IsFaultyToEncode fields reason = HasFaultyFieldsToEncode fields reason

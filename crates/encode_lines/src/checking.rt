@@ -1,6 +1,6 @@
 //! Whether each line of an input asks for something.
 ghost use Rattle.std.specs.Prelude.{◌≡◌, ◌<◌, ◌+◌, ◌^◌, length, IsOk, IfErr};
-ghost use Rattle.encode_lines.specs.EncodeLines.{IsGrammatical, IsFirstFault};
+ghost use Rattle.encode_lines.specs.EncodeLines.{AskForEncoding, IsFirstEncodeFault};
 
 use crate::request::request_of;
 use checked_lines::{FaultReason, FaultyLine};
@@ -13,8 +13,8 @@ use text_fields::split_line;
 /// The first faulty line, with the first reason that applies to it.
 pub fn check_lines(input: &[u8]) -> Result<(), FaultyLine>
     requires { length input.now + 1 < 2 ^ 32 }
-    ensures ok { IsOk result → IsGrammatical input.now }
-    ensures refused { IfErr result (IsFirstFault input.now) }
+    ensures ok { IsOk result → AskForEncoding input.now }
+    ensures refused { IfErr result (IsFirstEncodeFault input.now) }
 {
     let mut rest = input;
     let mut number = 1;

@@ -6,7 +6,7 @@ ghost use Rattle.line_codes.specs.Codes.{table_of};
 ghost use Rattle.reply_grammar.specs.Table.{handle_of, longest_reply};
 ghost use Rattle.reply_text.specs.ReplyText.{IsReplyForm};
 ghost use Rattle.encode_lines.specs.EncodeLines.{AddsWave, AddsWritten, EncodesLine};
-ghost use Rattle.encode_lines.specs.Request.{AsksForRequest, IsWithinLimits, longest_levels, most_frame_bits, most_frame_intervals};
+ghost use Rattle.encode_lines.specs.Request.{AsksToEncode, IsWithinEncodeLimits, longest_levels, most_frame_bits, most_frame_intervals};
 ghost use Rattle.encode_lines.specs.Written.{IsAllowedReply};
 ghost use Rattle.encode_lines.specs.declared.request.Request.{Request};
 
@@ -63,7 +63,7 @@ impl Encoder {
     /// Adds what is written for a line at the end of the text, as a line. The line is given without its line feed, and asks
     /// for something.
     pub fn encode_line(&mut self, line: &[u8], text: &mut String) -> Result<(), OutOfMemory>
-        requires { (request : Request) × AsksForRequest line.now request }
+        requires { (request : Request) × AsksToEncode line.now request }
         ensures { OnOk result
             (EncodesLine line.now (string_bytes text.old) (string_bytes text.new)) }
     {
@@ -75,7 +75,7 @@ impl Encoder {
 
     /// Adds what is written for a request at the end of the text, as a line.
     fn encode(&mut self, request: &Request, text: &mut String) -> Result<(), OutOfMemory>
-        requires { IsWithinLimits request.now }
+        requires { IsWithinEncodeLimits request.now }
         ensures { OnOk result
             (AddsWritten request.now (string_bytes text.old) (string_bytes text.new)) }
     {

@@ -3,7 +3,7 @@ ghost use Rattle.std.specs.Prelude.{◌≡◌, ◌⊎◌, ℕ, List};
 ghost use Rattle.checked_lines.specs.declared.fault.FaultyLine.{FaultyLine};
 ghost use Rattle.checked_lines.specs.laws.OneLine.{AsksOrIsFaulty};
 ghost use Rattle.encode_lines.specs.declared.request.Request.{Request};
-ghost use Rattle.encode_lines.specs.EncodeLines.{Encodes, IsFaultText, IsFirstFault, IsGrammatical, encode_rules};
+ghost use Rattle.encode_lines.specs.EncodeLines.{Encodes, IsEncodeFaultText, IsFirstEncodeFault, AskForEncoding, encode_rules};
 ghost use Rattle.encode_lines.specs.Written.{AreWritten};
 
 use crate::request::request_of;
@@ -13,13 +13,14 @@ use text_fields::split_line;
 pub fn encode_lines_have_one_text()
     ensures written { (bytes one other : List ℕ) → Encodes bytes one → Encodes bytes other
         → one ≡ other }
-    ensures fault_line { (bytes one other : List ℕ) → IsFaultText bytes one
-        → IsFaultText bytes other → one ≡ other }
+    ensures fault_line { (bytes one other : List ℕ) → IsEncodeFaultText bytes one
+        → IsEncodeFaultText bytes other → one ≡ other }
 {}
 
 /// Where each line asks for something there is no faulty line.
 pub fn encode_lines_are_not_faulty()
-    ensures { (bytes : List ℕ) (fault : FaultyLine) → IsGrammatical bytes → IsFirstFault bytes fault
+    ensures { (bytes : List ℕ) (fault : FaultyLine) → AskForEncoding bytes
+        → IsFirstEncodeFault bytes fault
         → ⊥ }
 {}
 
@@ -37,7 +38,7 @@ fn lines_ask_or_are_faulty(line: &[u8])
 
 /// An input has a defined text: the lines for its lines, or its fault line.
 pub fn encode_lines_have_a_text(input: &[u8])
-    ensures { (text : List ℕ) × (Encodes input.now text ⊎ IsFaultText input.now text) }
+    ensures { (text : List ℕ) × (Encodes input.now text ⊎ IsEncodeFaultText input.now text) }
 {
     requests_have_a_line();
     if let Some((line, behind)) = split_line(input) {

@@ -39,7 +39,8 @@ pub(crate) fn push_wave(
     intervals: &Intervals,
     kept: &mut KeptIntervals,
 ) -> Result<(), OutOfMemory>
-    ensures { OnOk result (string_bytes text.new ≡ string_bytes text.old ++ written_line (codes "pie" ∷ map decimal intervals.now.items)) }
+    ensures { OnOk result (string_bytes text.new ≡ string_bytes text.old
+        ++ written_line (codes "pie" ∷ map decimal intervals.now.items)) }
 {
     text.push_str("pie")?;
     kept.push_next(text, intervals.as_slice())?;
@@ -61,7 +62,8 @@ pub(crate) fn push_link_refusal(text: &mut String, refusal: LinkRefusal) -> Resu
 
 /// Writes the line of a command's bits: `command BITS`.
 pub(crate) fn push_command_bits(text: &mut String, bits: &Bits) -> Result<(), OutOfMemory>
-    ensures { OnOk result (string_bytes text.new ≡ string_bytes text.old ++ written_line (codes "command" ∷ binary bits.now.items ∷ [])) }
+    ensures { OnOk result (string_bytes text.new ≡ string_bytes text.old
+        ++ written_line (codes "command" ∷ binary bits.now.items ∷ [])) }
 {
     text.push_str("command")?;
     push_next_bits(text, bits.as_slice())?;
@@ -74,7 +76,8 @@ pub(crate) fn push_reply_bits(
     expect: &Expect,
     bits: &Bits,
 ) -> Result<(), OutOfMemory>
-    ensures { OnOk result (string_bytes text.new ≡ string_bytes text.old ++ written_line (codes "reply" ∷ expect_word expect.now ∷ binary bits.now.items ∷ [])) }
+    ensures { OnOk result (string_bytes text.new ≡ string_bytes text.old
+        ++ written_line (codes "reply" ∷ expect_word expect.now ∷ binary bits.now.items ∷ [])) }
 {
     text.push_str("reply")?;
     push_next_expect(text, expect)?;
@@ -91,7 +94,8 @@ pub(crate) fn push_heard(
     levels: &Levels,
 ) -> Result<(), OutOfMemory>
     ensures { OnOk result (string_bytes text.new ≡ string_bytes text.old
-        ++ written_line (codes "heard" ∷ code_word code ∷ (binary_digit trext ∷ []) ∷ expect_word expect.now ∷ binary levels.now.items ∷ [])) }
+        ++ written_line (codes "heard" ∷ code_word code ∷ (binary_digit trext ∷ [])
+        ∷ expect_word expect.now ∷ binary levels.now.items ∷ [])) }
 {
     text.push_str("heard")?;
     push_next_name(text, name_of(code))?;
@@ -103,7 +107,8 @@ pub(crate) fn push_heard(
 
 /// Writes the line of a reply that is refused.
 pub(crate) fn push_reply_refusal(text: &mut String) -> Result<(), OutOfMemory>
-    ensures { OnOk result (string_bytes text.new ≡ string_bytes text.old ++ written_line (refused_fields (codes "reply"))) }
+    ensures { OnOk result (string_bytes text.new ≡ string_bytes text.old
+        ++ written_line (refused_fields (codes "reply"))) }
 {
     text.push_str("refused reply\n")
 }

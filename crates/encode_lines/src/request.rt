@@ -3,7 +3,7 @@ ghost use Rattle.std.specs.Prelude.{◌≡◌, ◌≢◌, ◌↔◌, ℕ, List, 
 ghost use Rattle.text_fields.specs.Lines.{fields_of};
 ghost use Rattle.pie_line.specs.declared.frame.Lead.{Lead};
 ghost use Rattle.reply_text.specs.ReplyText.{IsReplyText};
-ghost use Rattle.encode_lines.specs.Request.{lead_word, kind_word, AsksBehind, AsksForRequest, AreFaulty, IsFaultyRequest, IsFaultyReplyBehind};
+ghost use Rattle.encode_lines.specs.Request.{lead_word, kind_word, AsksToEncodeBehind, AsksToEncode, AreFaultyToEncode, IsFaultyToEncode, IsFaultyReplyBehind};
 
 use bit_strings::Code;
 use checked_lines::{FaultReason, heard_as};
@@ -104,8 +104,8 @@ fn kind_of(word: &[u8]) -> Option<LineKind>
 
 /// What a line asks for, or the first reason for which it asks for nothing. The line is given without its line feed.
 pub(crate) fn request_of(line: &[u8]) -> Result<Request<'_>, FaultReason>
-    ensures ok { IfOk result (AsksForRequest line.now) }
-    ensures refused { IfErr result (IsFaultyRequest (fields_of line.now)) }
+    ensures ok { IfOk result (AsksToEncode line.now) }
+    ensures refused { IfErr result (IsFaultyToEncode (fields_of line.now)) }
 {
     let mut fields = Fields::new(line);
     let Some(word) = fields.next() else {
@@ -119,8 +119,8 @@ pub(crate) fn request_of(line: &[u8]) -> Result<Request<'_>, FaultReason>
 
 /// What a line of this kind asks for, by its other fields, or the first reason for which it asks for nothing.
 fn request_behind<'a>(kind: LineKind, others: Fields<'a>) -> Result<Request<'a>, FaultReason>
-    ensures ok { IfOk result (AsksBehind kind others.entry) }
-    ensures refused { IfErr result (AreFaulty kind others.entry) }
+    ensures ok { IfOk result (AsksToEncodeBehind kind others.entry) }
+    ensures refused { IfErr result (AreFaultyToEncode kind others.entry) }
 {
     match kind {
         LineKind::Stream(code) => stream_of(code, others),
@@ -133,8 +133,8 @@ fn request_behind<'a>(kind: LineKind, others: Fields<'a>) -> Result<Request<'a>,
 
 /// The request of a line that begins with a code's name, by its other fields.
 fn stream_of<'a>(code: Code, others: Fields<'a>) -> Result<Request<'a>, FaultReason>
-    ensures ok { IfOk result (AsksBehind (LineKind.Stream code) others.entry) }
-    ensures refused { IfErr result (AreFaulty (LineKind.Stream code) others.entry) }
+    ensures ok { IfOk result (AsksToEncodeBehind (LineKind.Stream code) others.entry) }
+    ensures refused { IfErr result (AreFaultyToEncode (LineKind.Stream code) others.entry) }
 {
     let Some((trext, bits)) = two_fields(others) else {
         return Err(FaultReason::Shape);
@@ -150,8 +150,8 @@ fn stream_of<'a>(code: Code, others: Fields<'a>) -> Result<Request<'a>, FaultRea
 
 /// The request of a line that begins with `pie`, by its other fields.
 fn pie_of<'a>(others: Fields<'a>) -> Result<Request<'a>, FaultReason>
-    ensures ok { IfOk result (AsksBehind LineKind.Pie others.entry) }
-    ensures refused { IfErr result (AreFaulty LineKind.Pie others.entry) }
+    ensures ok { IfOk result (AsksToEncodeBehind LineKind.Pie others.entry) }
+    ensures refused { IfErr result (AreFaultyToEncode LineKind.Pie others.entry) }
 {
     let Some((tari, rtcal, trcal, pw, lead, bits)) = six_fields(others) else {
         return Err(FaultReason::Shape);
@@ -186,8 +186,8 @@ fn pie_of<'a>(others: Fields<'a>) -> Result<Request<'a>, FaultReason>
 
 /// The request of a line that begins with `command`, by its other fields.
 fn command_of<'a>(others: Fields<'a>) -> Result<Request<'a>, FaultReason>
-    ensures ok { IfOk result (AsksBehind LineKind.Command others.entry) }
-    ensures refused { IfErr result (AreFaulty LineKind.Command others.entry) }
+    ensures ok { IfOk result (AsksToEncodeBehind LineKind.Command others.entry) }
+    ensures refused { IfErr result (AreFaultyToEncode LineKind.Command others.entry) }
 {
     match read_command(others) {
         Ok(command) => Ok(Request::Command { command }),
@@ -215,8 +215,8 @@ fn reply_behind(filled: bool, others: Fields) -> Result<Reply, FaultReason>
 
 /// The request of a line that begins with `reply`, by its other fields.
 fn reply_of<'a>(mut others: Fields<'a>) -> Result<Request<'a>, FaultReason>
-    ensures ok { IfOk result (AsksBehind LineKind.Reply others.entry) }
-    ensures refused { IfErr result (AreFaulty LineKind.Reply others.entry) }
+    ensures ok { IfOk result (AsksToEncodeBehind LineKind.Reply others.entry) }
+    ensures refused { IfErr result (AreFaultyToEncode LineKind.Reply others.entry) }
 {
     let Some(expect) = others.next() else {
         return Err(FaultReason::Shape);
@@ -230,8 +230,8 @@ fn reply_of<'a>(mut others: Fields<'a>) -> Result<Request<'a>, FaultReason>
 
 /// The request of a line that begins with `heard`, by its other fields.
 fn heard_of<'a>(mut others: Fields<'a>) -> Result<Request<'a>, FaultReason>
-    ensures ok { IfOk result (AsksBehind LineKind.Heard others.entry) }
-    ensures refused { IfErr result (AreFaulty LineKind.Heard others.entry) }
+    ensures ok { IfOk result (AsksToEncodeBehind LineKind.Heard others.entry) }
+    ensures refused { IfErr result (AreFaultyToEncode LineKind.Heard others.entry) }
 {
     let Some((code, trext, expect)) = next_three(&mut others) else {
         return Err(FaultReason::Shape);

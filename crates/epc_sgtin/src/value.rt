@@ -68,11 +68,23 @@ impl Sgtin {
     ) -> Result<Sgtin, SgtinRefusal>
         ensures sgtin { IfOk result
             (λ sgtin. sgtin
-            ≡ record { filter = filter; digits = digits; company = company; item = item; serial = serial }) }
+            ≡ record {
+              filter = filter;
+              digits = digits;
+              company = company;
+              item = item;
+              serial = serial;
+            }) }
         ensures legal { IfOk result IsLegalSgtin }
         ensures refused { IfErr result
             (λ refusal. IsFirstWrong refusal
-            (record { filter = filter; digits = digits; company = company; item = item; serial = serial })) }
+            (record {
+              filter = filter;
+              digits = digits;
+              company = company;
+              item = item;
+              serial = serial;
+            })) }
     {
         if filter > 7 {
             return Err(SgtinRefusal::Filter);

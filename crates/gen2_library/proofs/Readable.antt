@@ -11,7 +11,7 @@ use Rattle.gen2_library.specs.Called.{HasUnreadableWord}
 use Rattle.line_objects.specs.declared.rows.LineSet.TheVariants as sets
 use Rattle.report_lines.specs.declared.mode.Mode.TheVariants.{Plain, Trace, Json, Exchanges, Vcd}
 use Rattle.text_fields.specs.Lines.{fields_of}
-use Rattle.top_call.specs.Form.{AskFor, IsForm, words_of}
+use Rattle.top_call.specs.Form.{SpellForm, IsForm, words_of}
 use Rattle.top_call.specs.declared.forms.Form.{Form}
 use Rattle.top_call.specs.declared.forms.Form.TheVariants.{Decode, Encode, Run, Upgrade, Portals, Names, Probe, Judge, Audit, Objects, Gen, Help, Version}
 
@@ -64,7 +64,7 @@ words-readable (Gen seed tags) is =
     (one-readable (decimal tags) (decimal-readable tags (omega (arith, is.1)))))
 
 -- so none of them is unreadable, nor is one of words that are
-pub readable : (form : Form) (text : List ℕ) → AskFor (fields_of text) form → HasUnreadableWord text → ⊥
+pub readable : (form : Form) (text : List ℕ) → SpellForm (fields_of text) form → HasUnreadableWord text → ⊥
 readable form text asks has =
     has.2 (All-contains IsUtf8 (words_of form) has.0 (words-readable form asks.legal) (subst (λ words. Contains words has.0) asks.spelled has.1))
 

@@ -8,7 +8,7 @@ ghost use Rattle.gen2_library.specs.Called.{HasUnreadableWord, input_of, Gives, 
 ghost use Rattle.report_lines.specs.declared.mode.Mode.{Mode};
 ghost use Rattle.text_fields.specs.Lines.{fields_of};
 ghost use Rattle.program_texts.specs.Texts.{version_number};
-ghost use Rattle.top_call.specs.Form.{AskFor, SpellSomeForm};
+ghost use Rattle.top_call.specs.Form.{SpellForm, SpellSomeForm};
 ghost use Rattle.top_call.specs.Job.{Defines};
 ghost use Rattle.top_call.specs.Jobs.{job_of};
 ghost use Rattle.top_call.specs.Outcome.{input_limit};
@@ -44,15 +44,16 @@ pub extern "C" fn gen2run_over_memory(
     written: &mut usize,
 ) -> u32
     // 0: the text that the form of the words has to write for the input was written whole, and keeps its promises.
-    ensures done { (form : Form) → AskFor (fields_of words.now) form → result ≡ 0
+    ensures done { (form : Form) → SpellForm (fields_of words.now) form → result ≡ 0
         → Gives ((job_of form).writes (input_of (job_of form) input.now)) output.new written.new }
-    ensures promises { (form : Form) → AskFor (fields_of words.now) form → result ≡ 0
+    ensures promises { (form : Form) → SpellForm (fields_of words.now) form → result ≡ 0
         → Gives ((job_of form).promises (input_of (job_of form) input.now)) output.new written.new }
-    ensures headline { (mode : Mode) → AskFor (fields_of words.now) (Form.Run mode) → result ≡ 0
+    ensures headline { (mode : Mode) → SpellForm (fields_of words.now) (Form.Run mode) → result ≡ 0
         → Gives (SaysHeadline mode input.now) output.new written.new }
-    ensures inventory { ((mode : Mode) → AskFor (fields_of words.now) (Form.Run mode) → result ≡ 0
+    ensures inventory { ((mode : Mode) → SpellForm (fields_of words.now) (Form.Run mode)
+        → result ≡ 0
         → Gives (SaysInventory mode input.now) output.new written.new)
-        × ((seed tags : ℕ) → AskFor (fields_of words.now) (Form.Gen seed tags) → result ≡ 0
+        × ((seed tags : ℕ) → SpellForm (fields_of words.now) (Form.Gen seed tags) → result ≡ 0
         → Gives (CountsEveryTag seed tags) output.new written.new) }
     // 2: the words have no form, and nothing was written.
     ensures bad_words { result ≡ 2 → (SpellSomeForm (fields_of words.now) → ⊥) × (written.new ≡ 0) }
@@ -60,17 +61,18 @@ pub extern "C" fn gen2run_over_memory(
     ensures formless { (SpellSomeForm (fields_of words.now) → ⊥) → ((result ≡ 2) ⊎ (result ≡ 8))
         × (written.new ≡ 0) }
     // Under a form without an input, as `gen` is, no status comes that speaks of an input.
-    ensures unread { (form : Form) → AskFor (fields_of words.now) form → (job_of form).input ≡ false
+    ensures unread { (form : Form) → SpellForm (fields_of words.now) form
+        → (job_of form).input ≡ false
         → (result ≢ 3) × (result ≢ 6) }
     // 3: the fault line of the input was written whole.
-    ensures bad_input { (form : Form) → AskFor (fields_of words.now) form → result ≡ 3
+    ensures bad_input { (form : Form) → SpellForm (fields_of words.now) form → result ≡ 3
         → Gives ((job_of form).refuses (input_of (job_of form) input.now)) output.new written.new }
     // 5: the output is full, and the defined text goes on. It or 7 comes wherever the defined text of an input within the limit is
     // longer than the output.
-    ensures no_room { (form : Form) → AskFor (fields_of words.now) form → result ≡ 5
+    ensures no_room { (form : Form) → SpellForm (fields_of words.now) form → result ≡ 5
         → Overflows (Defines (job_of form) (input_of (job_of form) input.now)) output.new
         written.new }
-    ensures longer { (form : Form) → AskFor (fields_of words.now) form
+    ensures longer { (form : Form) → SpellForm (fields_of words.now) form
         → length (input_of (job_of form) input.now) ≤ input_limit
         → (text : List ℕ) → Defines (job_of form) (input_of (job_of form) input.now) text
         → length output.old < length text → (result ≡ 5) ⊎ (result ≡ 7) }
@@ -78,7 +80,7 @@ pub extern "C" fn gen2run_over_memory(
     ensures too_long { result ≡ 6 → (input_limit < length input.now) × (written.new ≡ 0) }
     // 7: memory ran out, and a front of the defined text was written, maybe none of it. It comes only where the words have a form
     // and the input is not too long for it. This is the one answer that is free: no clause ties it to a request of memory that failed.
-    ensures out_of_memory { (form : Form) → AskFor (fields_of words.now) form → result ≡ 7
+    ensures out_of_memory { (form : Form) → SpellForm (fields_of words.now) form → result ≡ 7
         → (written.new ≡ 0)
         ⊎ GivesFront (Defines (job_of form) (input_of (job_of form) input.now)) output.new
         written.new }
@@ -88,17 +90,17 @@ pub extern "C" fn gen2run_over_memory(
     // No other status comes, and no read fails.
     ensures statuses { (result ≤ 8) × (result ≢ 1) × (result ≢ 4) }
     // Input within the limit that the form's grammar allows gives the whole text, unless there is no room or no memory.
-    ensures complete { (form : Form) → AskFor (fields_of words.now) form
+    ensures complete { (form : Form) → SpellForm (fields_of words.now) form
         → length (input_of (job_of form) input.now) ≤ input_limit
         → (job_of form).allows (input_of (job_of form) input.now) → (result ≡ 0) ⊎ (result ≡ 5)
         ⊎ (result ≡ 7) }
     // Input within the limit that it refuses gives the whole fault line, under the same condition.
-    ensures refused { (form : Form) → AskFor (fields_of words.now) form
+    ensures refused { (form : Form) → SpellForm (fields_of words.now) form
         → length (input_of (job_of form) input.now) ≤ input_limit
         → (text : List ℕ) → (job_of form).refuses (input_of (job_of form) input.now) text
         → (result ≡ 3) ⊎ (result ≡ 5) ⊎ (result ≡ 7) }
     // Input over the limit is told as such, and nothing is written.
-    ensures passes_limit { (form : Form) → AskFor (fields_of words.now) form
+    ensures passes_limit { (form : Form) → SpellForm (fields_of words.now) form
         → (job_of form).input ≡ true
         → input_limit < length input.now → (result ≡ 6) × (written.new ≡ 0) }
     // What stands behind that in the output stays.

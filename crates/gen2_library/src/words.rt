@@ -3,7 +3,7 @@ ghost use Rattle.std.specs.Prelude.{◌≡◌, [], ◌∷◌, ◌++◌, All, IfO
 ghost use Rattle.std.specs.Str.{IsUtf8};
 ghost use Rattle.gen2_library.specs.Called.{HasUnreadableWord};
 ghost use Rattle.text_fields.specs.Lines.{fields_of};
-ghost use Rattle.top_call.specs.Form.{texts, AskFor};
+ghost use Rattle.top_call.specs.Form.{texts, SpellForm};
 ghost use Rattle.top_call.specs.declared.forms.Form.{Form};
 
 use std::alloc::{AllocError, Global};
@@ -27,8 +27,8 @@ pub fn has_unreadable_word(text: &[u8]) -> bool
 
 /// The form of the words of a text; none exactly where they are the spelling of no form. It takes no memory.
 pub fn form_in(text: &[u8]) -> Option<Form>
-    ensures found { IfSome result (AskFor (fields_of text.now)) }
-    ensures only { (form : Form) → AskFor (fields_of text.now) form → result ≡ Some form }
+    ensures found { IfSome result (SpellForm (fields_of text.now)) }
+    ensures only { (form : Form) → SpellForm (fields_of text.now) form → result ≡ Some form }
 {
     let mut fields = Fields::new(text);
     let word = fields.next()?;

@@ -7,16 +7,16 @@ use Rattle.text_fields.specs.Lines.{fields_of, lines_of}
 use Rattle.judge_lines.specs.Judged.{IsNoTagFor, IsRefusedFor}
 use Rattle.judge_lines.specs.declared.judging.Refusal.{Refusal}
 use Rattle.judge_lines.specs.declared.judging.Refusal.TheVariants.{Line, OutOfMemory}
-use Rattle.judge_lines.specs.LogText.{IsFaultyTag, IsFirstFault, begun, log_rules, logged, start, log_version_line, with_word, within}
+use Rattle.judge_lines.specs.LogText.{IsFaultyTag, IsFirstLogFault, begun, log_rules, logged, start, log_version_line, with_word, within}
 use Rattle.judge_lines.specs.Reading.{HasReadLog}
 use Rattle.checked_lines.specs.declared.fault.FaultReason.{FaultReason}
 use Rattle.checked_lines.specs.declared.fault.FaultReason.TheVariants.{End, Version}
 
 -- a line is missing
-pub first_wanted : (bytes : List ℕ) → lines_of bytes ≡ bytes ∷ [] → IsFirstFault bytes 1 End
+pub first_wanted : (bytes : List ℕ) → lines_of bytes ≡ bytes ∷ [] → IsFirstLogFault bytes 1 End
 first_wanted bytes last = unended_read log_rules start 1 (lines_of bytes) start 1 bytes (none_read log_rules start 1 (lines_of bytes)) last (λ none may. may)
 
-pub first_faulty : (bytes line behind : List ℕ) → lines_of bytes ≡ line ∷ lines_of behind → line ≢ log_version_line → IsFirstFault bytes 1 Version
+pub first_faulty : (bytes line behind : List ℕ) → lines_of bytes ≡ line ∷ lines_of behind → line ≢ log_version_line → IsFirstLogFault bytes 1 Version
 first_faulty bytes line behind cut other =
     fault_read log_rules start 1 (lines_of bytes) start 1 (lines_of bytes) (record { line = line; rest = behind; cut = cut }) Version (none_read log_rules start 1 (lines_of bytes)) (refl, other)
 
@@ -24,11 +24,11 @@ pub version_read : (bytes line behind : List ℕ) → lines_of bytes ≡ line �
 version_read bytes line behind cut is =
     one_read log_rules start 1 (lines_of bytes) start 1 (lines_of bytes) (record { line = line; rest = behind; cut = cut }) begun (none_read log_rules start 1 (lines_of bytes)) (is, refl)
 
-pub second_wanted : (bytes rest : List ℕ) → HasReadTo log_rules start 1 (lines_of bytes) begun 2 (lines_of rest) → lines_of rest ≡ rest ∷ [] → IsFirstFault bytes 2 End
+pub second_wanted : (bytes rest : List ℕ) → HasReadTo log_rules start 1 (lines_of bytes) begun 2 (lines_of rest) → lines_of rest ≡ rest ∷ [] → IsFirstLogFault bytes 2 End
 second_wanted bytes rest so_far last = unended_read log_rules start 1 (lines_of bytes) begun 2 rest so_far last (λ none may. may)
 
 pub second_faulty : (bytes rest line behind : List ℕ) (fault : FaultReason) → HasReadTo log_rules start 1 (lines_of bytes) begun 2 (lines_of rest) → lines_of rest ≡ line ∷ lines_of behind
-    → IsFaultyTag (fields_of line) fault → IsFirstFault bytes 2 fault
+    → IsFaultyTag (fields_of line) fault → IsFirstLogFault bytes 2 fault
 second_faulty bytes rest line behind fault so_far cut faulty =
     fault_read log_rules start 1 (lines_of bytes) begun 2 (lines_of rest) (record { line = line; rest = behind; cut = cut }) fault so_far faulty
 
@@ -42,5 +42,5 @@ tag_read bytes rest line behind tag so_far cut spells =
 pub no_tag : (bytes rest line behind : List ℕ) (refusal : Refusal) → HasReadTo log_rules start 1 (lines_of bytes) begun 2 (lines_of rest) → lines_of rest ≡ line ∷ lines_of behind
     → IsNoTagFor (fields_of line) refusal → IsRefusedFor bytes refusal
 no_tag bytes rest line behind (Line fault) so_far cut told =
-    subst (λ (number : ℕ). IsFirstFault bytes number fault.reason) (sym told.0) (second_faulty bytes rest line behind fault.reason so_far cut told.1)
+    subst (λ (number : ℕ). IsFirstLogFault bytes number fault.reason) (sym told.0) (second_faulty bytes rest line behind fault.reason so_far cut told.1)
 no_tag bytes rest line behind OutOfMemory so_far cut told = tt

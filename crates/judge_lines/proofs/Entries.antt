@@ -11,7 +11,7 @@ use Rattle.probe_lines.specs.Said.{Stimulus, StimulusEffect, Does}
 use Rattle.probe_lines.specs.Said as said
 use Rattle.text_fields.specs.Lines.{fields_of, lines_of}
 use Rattle.judge_lines.specs.SeenLine.{BeginsAsAnswer, SpellSeen}
-use Rattle.judge_lines.specs.LogText.{GoesTo, IsFaultyNext, IsFaultySeen, IsFirstFault, IsLogText, LogStanding, asked, behind_effect, ended, log_rules, start, within}
+use Rattle.judge_lines.specs.LogText.{LogGoesTo, IsFaultyNext, IsFaultySeen, IsFirstLogFault, IsLogText, LogStanding, asked, behind_effect, ended, log_rules, start, within}
 use Rattle.judge_lines.specs.Reading.{HasReadLog}
 use Rattle.checked_lines.specs.declared.fault.FaultReason.{FaultReason}
 use Rattle.checked_lines.specs.declared.fault.FaultReason.TheVariants.{End, Extra}
@@ -26,7 +26,7 @@ exchange_pushed log heard seen = lines_pushed log (Exchange heard seen)
 
 -- a line that leads on
 read_on : (bytes : List ℕ) (from to : LogStanding) (number : ℕ) (rest line behind : List ℕ) → HasReadTo log_rules start 1 (lines_of bytes) from number (lines_of rest)
-    → lines_of rest ≡ line ∷ lines_of behind → GoesTo from line to → HasReadTo log_rules start 1 (lines_of bytes) to (number + 1) (lines_of behind)
+    → lines_of rest ≡ line ∷ lines_of behind → LogGoesTo from line to → HasReadTo log_rules start 1 (lines_of bytes) to (number + 1) (lines_of behind)
 read_on bytes from to number rest line behind so_far cut goes =
     one_read log_rules start 1 (lines_of bytes) from number (lines_of rest) (record { line = line; rest = behind; cut = cut }) to so_far goes
 
@@ -48,13 +48,13 @@ answer_read bytes tag log heard seen count rest line behind counted so_far cut b
 
 pub answer_faulty : (bytes : List ℕ) (tag : LoggedTag) (log : List LogEntry) (heard : Option Command) (count : ℕ) (rest line behind : List ℕ) (fault : FaultReason)
     → lines_in log + 1 ≡ count → HasReadTo log_rules start 1 (lines_of bytes) (asked tag log heard) (3 + count) (lines_of rest) → lines_of rest ≡ line ∷ lines_of behind
-    → IsFaultySeen count (fields_of line) fault → IsFirstFault bytes (3 + count) fault
+    → IsFaultySeen count (fields_of line) fault → IsFirstLogFault bytes (3 + count) fault
 answer_faulty bytes tag log heard count rest line behind fault counted so_far cut faulty =
     fault_read log_rules start 1 (lines_of bytes) (asked tag log heard) (3 + count) (lines_of rest) (record { line = line; rest = behind; cut = cut }) fault so_far
     (subst (λ (count : ℕ). IsFaultySeen count (fields_of line) fault) (sym counted) faulty)
 
 pub answer_missing : (bytes : List ℕ) (tag : LoggedTag) (log : List LogEntry) (heard : Option Command) (count : ℕ) (rest : List ℕ)
-    → HasReadTo log_rules start 1 (lines_of bytes) (asked tag log heard) (3 + count) (lines_of rest) → lines_of rest ≡ rest ∷ [] → IsFirstFault bytes (3 + count) End
+    → HasReadTo log_rules start 1 (lines_of bytes) (asked tag log heard) (3 + count) (lines_of rest) → lines_of rest ≡ rest ∷ [] → IsFirstLogFault bytes (3 + count) End
 answer_missing bytes tag log heard count rest so_far last =
     unended_read log_rules start 1 (lines_of bytes) (asked tag log heard) (3 + count) rest so_far last (λ none may. may)
 
@@ -64,19 +64,19 @@ pub end_read : (bytes : List ℕ) (tag : LoggedTag) (log : List LogEntry) (numbe
 end_read bytes tag log number rest so_far none = all_read log_rules start 1 (lines_of bytes) (ended tag log) number rest so_far none tt
 
 pub end_passed : (bytes : List ℕ) (tag : LoggedTag) (log : List LogEntry) (number : ℕ) (rest : List ℕ) → HasReadTo log_rules start 1 (lines_of bytes) (ended tag log) number (lines_of rest)
-    → rest ≢ [] → IsFirstFault bytes number Extra
+    → rest ≢ [] → IsFirstLogFault bytes number Extra
 end_passed bytes tag log number rest so_far some = extra_read log_rules start 1 (lines_of bytes) (ended tag log) number rest so_far (λ line. refl) some
 
 -- a line where no answer is awaited
 pub next_faulty : (bytes : List ℕ) (tag : LoggedTag) (log : List LogEntry) (count : ℕ) (rest line behind : List ℕ) (fault : FaultReason) → lines_in log ≡ count
-    → HasReadLog bytes tag log (lines_of rest) → lines_of rest ≡ line ∷ lines_of behind → IsFaultyNext count (fields_of line) fault → IsFirstFault bytes (3 + count) fault
+    → HasReadLog bytes tag log (lines_of rest) → lines_of rest ≡ line ∷ lines_of behind → IsFaultyNext count (fields_of line) fault → IsFirstLogFault bytes (3 + count) fault
 next_faulty bytes tag log count rest line behind fault counted so_far cut faulty =
     fault_read log_rules start 1 (lines_of bytes) (within tag log) (3 + count) (lines_of rest) (record { line = line; rest = behind; cut = cut }) fault
     (renumbered bytes (within tag log) (3 + lines_in log) (3 + count) (lines_of rest) (omega (arith, counted)) so_far)
     (subst (λ (count : ℕ). IsFaultyNext count (fields_of line) fault) (sym counted) faulty)
 
 pub next_missing : (bytes : List ℕ) (tag : LoggedTag) (log : List LogEntry) (count : ℕ) (rest : List ℕ) → lines_in log ≡ count → HasReadLog bytes tag log (lines_of rest)
-    → lines_of rest ≡ rest ∷ [] → IsFirstFault bytes (3 + count) End
+    → lines_of rest ≡ rest ∷ [] → IsFirstLogFault bytes (3 + count) End
 next_missing bytes tag log count rest counted so_far last =
     unended_read log_rules start 1 (lines_of bytes) (within tag log) (3 + count) rest
     (renumbered bytes (within tag log) (3 + lines_in log) (3 + count) (lines_of rest) (omega (arith, counted)) so_far) last (λ none may. may)

@@ -4,7 +4,7 @@ use Rattle.std.specs.Prelude.{Option, Some, None}
 use Rattle.checked_lines.specs.TextRules.{HasOutcomeFrom, Whole}
 use Rattle.log_verdicts.specs.Log.{LogEntry, LoggedTag, Seen}
 use Rattle.log_verdicts.specs.Log as entries
-use Rattle.log_verdicts.specs.laws.Logs.{IsLegalEntry, IsLegalHeard, IsLegalLog, number_in, number_of_reply}
+use Rattle.log_verdicts.specs.laws.Logs.{IsLegalEntry, IsLegalHeard, IsLegalLog, number_seen, number_of_reply}
 use Rattle.probe_lines.specs.Answers.{HasEffect}
 use Rattle.probe_lines.specs.ProbeLine.{IsProbeLine}
 use Rattle.probe_lines.specs.Said.{ProbeLine, Stimulus, StimulusEffect, Does}
@@ -14,7 +14,7 @@ use Rattle.reply_grammar.specs.declared.expected.Reply.TheVariants.{Rn16, Handle
 use Rattle.reply_text.specs.ReplyText.{IsReplyForm}
 use Rattle.text_fields.specs.Lines.{lines_of}
 use Rattle.judge_lines.specs.SeenLine.{IsSeen}
-use Rattle.judge_lines.specs.LogText.{GoesTo, IsLogText, LogLeadsTo, LogStanding, asked, begun, behind_effect, ended, log_rules, start, within}
+use Rattle.judge_lines.specs.LogText.{LogGoesTo, IsLogText, LogLeadsTo, LogStanding, asked, begun, behind_effect, ended, log_rules, start, within}
 
 -- an entry more
 legal_pushed : (log : List LogEntry) (entry : LogEntry) → IsLegalLog log → IsLegalEntry entry → IsLegalLog (log ++ entry ∷ [])
@@ -40,7 +40,7 @@ reply_small (Rn16 number) is = is
 reply_small (Handle number) is = is
 reply_small reply is = omega arith
 
-seen_small : (seen : Option Seen) → IsSeen seen → number_in seen < 2 ^ 16
+seen_small : (seen : Option Seen) → IsSeen seen → number_seen seen < 2 ^ 16
 seen_small None is = omega arith
 seen_small (Some seen) is = reply_small seen.reply is
 
@@ -62,7 +62,7 @@ lead_legal tag log said.End to are is leads = subst IsLegalStanding (sym leads) 
 lead_legal tag log (said.Does stimulus) to are is leads =
     subst IsLegalStanding (sym leads.leads) (behind_legal tag log leads.effect are (effect_legal stimulus leads.effect is leads.has))
 
-goes_legal : (from to : LogStanding) (line : List ℕ) → IsLegalStanding from → GoesTo from line to → IsLegalStanding to
+goes_legal : (from to : LogStanding) (line : List ℕ) → IsLegalStanding from → LogGoesTo from line to → IsLegalStanding to
 goes_legal start to line are goes = subst IsLegalStanding (sym goes.1) tt
 goes_legal begun to line are goes = subst IsLegalStanding (sym goes.leads) tt
 goes_legal (within tag log) to line are goes = lead_legal tag log goes.says to are goes.spells.is goes.leads

@@ -7,7 +7,7 @@ use Rattle.command_grammar.specs.declared.commands.Command.{Command}
 use Rattle.log_verdicts.specs.Log.{LogEntry, LoggedTag, Seen, Exchange, lines_in}
 use Rattle.probe_lines.specs.Answers.{HasEffect}
 use Rattle.probe_lines.specs.ProbeLine.{SpellsProbeLine}
-use Rattle.probe_lines.specs.ProbeText.{IsTooMuch}
+use Rattle.probe_lines.specs.ProbeText.{IsStimulusTooMuch}
 use Rattle.probe_lines.specs.Said.{ProbeLine, Stimulus, StimulusEffect, Does}
 use Rattle.probe_lines.specs.Said as said
 use Rattle.probe_lines.specs.laws.LineLaws.{ProbeLineLaws, TagLineLaws}
@@ -17,7 +17,7 @@ use Rattle.text_fields.specs.declared.fields_fault.FieldsFault.{FieldsFault}
 use Rattle.text_fields.specs.declared.fields_fault.FieldsFault.TheVariants as reasons
 use Rattle.text_fields.proofs.NamedFieldLaws.{same_behind}
 use Rattle.judge_lines.specs.SeenLine.{AreFaultySeen, BeginsAsAnswer, SpellSeen, answer_word}
-use Rattle.judge_lines.specs.LogText.{GoesTo, HasUnknownWord, IsFaultyAsAnswer, IsFaultyAsOther, IsFaultyLogLine, IsFaultyNext, IsFaultySeen, LogLeadsTo, LogStanding, TellsNextEntry, TellsSeen, TellsLoggedTag, asked, begun, behind_effect, ended, log_rules, logged, start, with_word, within}
+use Rattle.judge_lines.specs.LogText.{LogGoesTo, HasUnknownWord, IsFaultyAsAnswer, IsFaultyAsOther, IsFaultyLogLine, IsFaultyNext, IsFaultySeen, LogLeadsTo, LogStanding, TellsNextEntry, TellsSeen, TellsLoggedTag, asked, begun, behind_effect, ended, log_rules, logged, start, with_word, within}
 use Rattle.checked_lines.specs.declared.fault.FaultReason.{FaultReason}
 use Rattle.checked_lines.specs.declared.fault.FaultReason.TheVariants.{End, Word, Order, Limit, Shape, Number}
 use Rattle.judge_lines.specs.laws.SeenLaws.{SeenLaws}
@@ -62,7 +62,7 @@ one_tag known line one other tells tells' =
     let same = known.tags.told (with_word (fields_of line)) tells.tag tells'.tag tells.spells tells'.spells in
     tells.leads ∙ ap (λ (tag : TagSpec). within (logged tag) []) same ∙ sym tells'.leads
 
-one_standing : Known → (from one other : LogStanding) (line : List ℕ) → GoesTo from line one → GoesTo from line other → one ≡ other
+one_standing : Known → (from one other : LogStanding) (line : List ℕ) → LogGoesTo from line one → LogGoesTo from line other → one ≡ other
 one_standing known start one other line goes goes' = goes.1 ∙ sym goes'.1
 one_standing known begun one other line goes goes' = one_tag known line one other goes goes'
 one_standing known (within tag log) one other line goes goes' = one_next known tag log (fields_of line) one other goes goes'
@@ -145,7 +145,7 @@ one_reason known (ended tag log) line one other a b = a ∙ sym b
 
 -- a line that says something has room
 has_room : (tag : LoggedTag) (log : List LogEntry) (fields : List (List ℕ)) (says : ProbeLine) (to : LogStanding) → SpellsProbeLine fields says → LogLeadsTo tag log says to
-    → IsTooMuch (lines_in log) fields → ⊥
+    → IsStimulusTooMuch (lines_in log) fields → ⊥
 has_room tag log fields said.End to spells leads many = many.needs (record { others = []; first = spells.spelling })
 has_room tag log fields (said.Does stimulus) to spells leads many = let room = leads.room in let full = many.full in omega arith
 
@@ -169,7 +169,7 @@ seen_not_faulty known tag log heard fields to Shape tells faulty = answer_not_fa
 seen_not_faulty known tag log heard fields to Number tells faulty = answer_not_faulty known.seen fields tells.begins tells.seen reasons.Number tells.spells faulty.1
 seen_not_faulty known tag log heard fields to fault tells faulty = absurd faulty
 
-not_faulty : Known → (from to : LogStanding) (line : List ℕ) (fault : FaultReason) → GoesTo from line to → IsFaultyLogLine from line fault → ⊥
+not_faulty : Known → (from to : LogStanding) (line : List ℕ) (fault : FaultReason) → LogGoesTo from line to → IsFaultyLogLine from line fault → ⊥
 not_faulty known start to line fault goes faulty = faulty.1 goes.0
 not_faulty known begun to line fault goes faulty = known.tags.not_faulty (with_word (fields_of line)) goes.tag fault goes.spells faulty
 not_faulty known (within tag log) to line fault goes faulty = next_not_faulty known tag log (fields_of line) to fault goes faulty

@@ -3,7 +3,7 @@ use Rattle.std.proofs.Common.{◌≡◌, ◌⊎◌, ◌<◌, ◌≤◌, ◌+◌,
 use Rattle.std.specs.Prelude.{Option}
 use Rattle.std.specs.List.{AllZip}
 use Rattle.std.proofs.lemmas.Bool.{cases_lt}
-use Rattle.checked_lines.specs.TextRules.{Faulty, HasOutcome, HasOutcomeFrom, Outcome, Whole}
+use Rattle.checked_lines.specs.TextRules.{Faulty, HasOutcome, HasOutcomeFrom, TextOutcome, Whole}
 use Rattle.checked_lines.specs.laws.OneOutcome.{AreComplete, LeadsOrIsFaulty, some_outcome}
 use Rattle.checked_lines.specs.declared.fault.FaultReason.{FaultReason}
 use Rattle.checked_lines.specs.declared.fault.FaultReason.TheVariants.{Extra, Version, Word, Order, Limit, Shape, Number}
@@ -12,7 +12,7 @@ use Rattle.log_verdicts.specs.Log.{LogEntry, LoggedTag, lines_in}
 use Rattle.probe_lines.specs.Answers.{HasEffect}
 use Rattle.probe_lines.specs.LineFaults.{BeginsWithWord}
 use Rattle.probe_lines.specs.ProbeLine.{SpellsProbeLine, line_word}
-use Rattle.probe_lines.specs.ProbeText.{IsTooMuch, most_stimuli}
+use Rattle.probe_lines.specs.ProbeText.{IsStimulusTooMuch, most_stimuli}
 use Rattle.probe_lines.specs.Said.{Stimulus, StimulusEffect, Does}
 use Rattle.probe_lines.specs.Said as said
 use Rattle.probe_lines.specs.declared.line.LineWord.TheVariants as words
@@ -21,7 +21,7 @@ use Rattle.text_fields.specs.Lines.{fields_of, lines_of}
 use Rattle.text_fields.specs.declared.fields_fault.FieldsFault.TheVariants as reasons
 use Rattle.judge_lines.proofs.LinesDecided.{SaysOrIsFaulty, TellsOrIsFaulty, TellsTagOrIsFaulty, head_same, says_or_is_faulty, tag_or_faulty, tells_or_is_faulty}
 use Rattle.judge_lines.proofs.LogLaws.{Known, answer_known, no_unknown_answer, no_unknown_other, other_known}
-use Rattle.judge_lines.specs.LogText.{IsFaultyNext, IsFaultySeen, IsFirstFault, IsLogText, LogMayEnd, LogStanding, TellsNextEntry, TellsSeen, asked, begun, behind_effect, ended, log_rules, logged, start, log_version_line, with_word, within}
+use Rattle.judge_lines.specs.LogText.{IsFaultyNext, IsFaultySeen, IsFirstLogFault, IsLogText, LogMayEnd, LogStanding, TellsNextEntry, TellsSeen, asked, begun, behind_effect, ended, log_rules, logged, start, log_version_line, with_word, within}
 use Rattle.judge_lines.specs.SeenLine.{BeginsAsAnswer, answer_word}
 
 -- what the laws of single lines say, and that what is done to a tag has an effect
@@ -48,7 +48,7 @@ end_decided (first ∷ others) = elim (text_decided first (line_word words.End))
   | inr other ↦ inr (λ begins. other (head_same first (line_word words.End) others begins.others begins.first))
 ]
 
-too_much_decided : (count : ℕ) (fields : List (List ℕ)) → Decided (IsTooMuch count fields)
+too_much_decided : (count : ℕ) (fields : List (List ℕ)) → Decided (IsStimulusTooMuch count fields)
 too_much_decided count fields = elim (cases_lt count most_stimuli) [
   | inl room ↦ inr (λ many. let full = many.full in absurd (omega arith))
   | inr full ↦ elim (end_decided fields) [ inl ends ↦ inr (λ many. many.needs ends) | inr needs ↦ inl (record { full = full; needs = needs }) ]
@@ -140,7 +140,7 @@ does_next more tag log fields stimulus other spells (inr full) = inr (
 )
 
 next_or_faulty : MoreKnown → (tag : LoggedTag) (log : List LogEntry) (fields : List (List ℕ)) → (¬ BeginsAsAnswer fields) → SaysOrIsFaulty fields
-    → Decided (IsTooMuch (lines_in log) fields) → NextOrIsFaulty tag log fields
+    → Decided (IsStimulusTooMuch (lines_in log) fields) → NextOrIsFaulty tag log fields
 next_or_faulty more tag log fields other (inl (said.End, spells)) many = inl (ended tag log, record { other = other; says = said.End; spells = spells; leads = refl })
 next_or_faulty more tag log fields other (inl (said.Does stimulus, spells)) many =
     does_next more tag log fields stimulus other spells (cases_lt (lines_in log) most_stimuli)
@@ -189,9 +189,9 @@ whole_ends from number (line ∷ next ∷ lines) to (inr more) = whole_ends more
 -- what bytes do or are
 abbrev pub AreLogOrFaulty : List ℕ → Type 0
 AreLogOrFaulty bytes =
-    ((tag : LoggedTag) × (log : List LogEntry) × IsLogText bytes tag log) ⊎ ((number : ℕ) × (fault : FaultReason) × IsFirstFault bytes number fault)
+    ((tag : LoggedTag) × (log : List LogEntry) × IsLogText bytes tag log) ⊎ ((number : ℕ) × (fault : FaultReason) × IsFirstLogFault bytes number fault)
 
-outcome_told : (bytes : List ℕ) (outcome : Outcome LogStanding FaultReason) → HasOutcome log_rules bytes outcome → AreLogOrFaulty bytes
+outcome_told : (bytes : List ℕ) (outcome : TextOutcome LogStanding FaultReason) → HasOutcome log_rules bytes outcome → AreLogOrFaulty bytes
 outcome_told bytes (Whole (ended tag log)) is = inl (tag, log, is)
 outcome_told bytes (Whole standing) is = absurd (whole_ends start 1 (lines_of bytes) standing is)
 outcome_told bytes (Faulty number fault) is = inr (number, fault, is)

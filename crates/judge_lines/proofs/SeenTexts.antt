@@ -2,7 +2,7 @@
 use Rattle.std.proofs.Common.{rules, ◌≡◌, ℕ, Bool, true, false, List, [], ◌∷◌, ap, ap₂, get_or, arith, refl, sym, ◌∙◌, subst, inl, inr}
 use Rattle.std.specs.Prelude.{Option, Some, None}
 use Rattle.log_verdicts.specs.Log.{Seen}
-use Rattle.probe_lines.specs.Answers.{preamble_word}
+use Rattle.probe_lines.specs.Answers.{answer_preamble_word}
 use Rattle.reply_grammar.specs.declared.expected.Reply.{Reply}
 use Rattle.reply_text.specs.ReplyText.{IsFaultyReply, IsReplyForm, IsReplyText, reply_fields}
 use Rattle.tag_machine.specs.declared.any_tag.Answered.{Answered}
@@ -33,7 +33,7 @@ abbrev marked : Bool → Answered
 marked true = Extended
 marked false = Plain
 
-mark_is : (extended : Bool) → preamble_word extended ≡ seen_mark_word (marked extended)
+mark_is : (extended : Bool) → answer_preamble_word extended ≡ seen_mark_word (marked extended)
 mark_is true = refl
 mark_is false = refl
 
@@ -47,10 +47,10 @@ marked_or_silent true same = cc
 marked_or_silent false same = cc
 
 -- two preambles are told apart, and from none
-preamble_told : (one other : Bool) → preamble_word one ≡ preamble_word other → one ≡ other
+preamble_told : (one other : Bool) → answer_preamble_word one ≡ answer_preamble_word other → one ≡ other
 preamble_told one other same = marked_told one other (mark_told (marked one) (marked other) (sym (mark_is one) ∙ same ∙ mark_is other))
 
-preamble_or_hyphen : (extended : Bool) → preamble_word extended ≡ seen_mark_word Silent → ⊥
+preamble_or_hyphen : (extended : Bool) → answer_preamble_word extended ≡ seen_mark_word Silent → ⊥
 preamble_or_hyphen extended same = marked_or_silent extended (mark_told (marked extended) Silent (sym (mark_is extended) ∙ same))
 
 same_seen : (one other : Seen) → one.reply ≡ other.reply → one.extended ≡ other.extended → one ≡ other
@@ -59,11 +59,11 @@ same_seen one other replies preambles = ap₂ (λ (reply : Reply) (extended : Bo
 fields_told : Known → (one other : Option Seen) → SpellSeen (seen_fields other) one → SpellSeen (seen_fields other) other → one ≡ other
 fields_told known None None spells spells' = refl
 fields_told known None (Some seen) spells spells' =
-    absurd (preamble_or_hyphen seen.extended (same_behind (preamble_word seen.extended) (seen_mark_word Silent) (reply_fields seen.reply) [] spells.spelling).0)
+    absurd (preamble_or_hyphen seen.extended (same_behind (answer_preamble_word seen.extended) (seen_mark_word Silent) (reply_fields seen.reply) [] spells.spelling).0)
 fields_told known (Some seen) None spells spells' =
-    absurd (preamble_or_hyphen seen.extended (sym (same_behind (seen_mark_word Silent) (preamble_word seen.extended) [] (reply_fields seen.reply) spells.spelling).0))
+    absurd (preamble_or_hyphen seen.extended (sym (same_behind (seen_mark_word Silent) (answer_preamble_word seen.extended) [] (reply_fields seen.reply) spells.spelling).0))
 fields_told known (Some one) (Some other) spells spells' =
-    let same = same_behind (preamble_word other.extended) (preamble_word one.extended) (reply_fields other.reply) (reply_fields one.reply) spells.spelling in
+    let same = same_behind (answer_preamble_word other.extended) (answer_preamble_word one.extended) (reply_fields other.reply) (reply_fields one.reply) spells.spelling in
     let replies : one.reply ≡ other.reply = known.told (reply_fields other.reply) one.reply other.reply
     (record { in_range = spells.is; spelling = same.1 }) (record { in_range = spells'.is; spelling = refl }) in
     ap Some (same_seen one other replies (sym (preamble_told other.extended one.extended same.0)))
@@ -81,7 +81,7 @@ none_not_faulty Plain behind fault same rest faulty = let marks = mark_told Sile
 none_not_faulty Extended behind fault same rest faulty = let marks = mark_told Silent Extended same in cc
 
 some_not_faulty : Known → (seen : Seen) (mark : Answered) (behind : List (List ℕ)) (fault : FieldsFault) → IsReplyForm seen.reply
-    → preamble_word seen.extended ≡ seen_mark_word mark → reply_fields seen.reply ≡ behind → AreFaultyBehindMark mark behind fault → ⊥
+    → answer_preamble_word seen.extended ≡ seen_mark_word mark → reply_fields seen.reply ≡ behind → AreFaultyBehindMark mark behind fault → ⊥
 some_not_faulty known seen Silent behind fault is same rest faulty = preamble_or_hyphen seen.extended same
 some_not_faulty known seen Plain behind fault is same rest faulty = known.not_faulty behind seen.reply fault (record { in_range = is; spelling = sym rest }) faulty
 some_not_faulty known seen Extended behind fault is same rest faulty = known.not_faulty behind seen.reply fault (record { in_range = is; spelling = sym rest }) faulty
@@ -91,7 +91,7 @@ marked_not_faulty known None others fault spells faulty =
     let same = same_behind (seen_mark_word Silent) (seen_mark_word faulty.mark) [] faulty.behind (sym spells.spelling ∙ faulty.marked) in
     none_not_faulty faulty.mark faulty.behind fault same.0 same.1 faulty.faulty
 marked_not_faulty known (Some seen) others fault spells faulty =
-    let same = same_behind (preamble_word seen.extended) (seen_mark_word faulty.mark) (reply_fields seen.reply) faulty.behind (sym spells.spelling ∙ faulty.marked) in
+    let same = same_behind (answer_preamble_word seen.extended) (seen_mark_word faulty.mark) (reply_fields seen.reply) faulty.behind (sym spells.spelling ∙ faulty.marked) in
     some_not_faulty known seen faulty.mark faulty.behind fault spells.is same.0 same.1 faulty.faulty
 
 -- it has a mark

@@ -2,7 +2,7 @@
 use Rattle.std.specs.Prelude.{◌≡◌, ℕ, List}
 use Rattle.log_verdicts.specs.Log.{LogEntry, LoggedTag}
 use Rattle.log_verdicts.specs.Verdicts.{IsVerdict, Verdict}
-use Rattle.judge_lines.specs.LogText.{IsFaultyTag, IsFirstFault, IsLogText}
+use Rattle.judge_lines.specs.LogText.{IsFaultyTag, IsFirstLogFault, IsLogText}
 use Rattle.judge_lines.specs.declared.judging.Refusal.{Refusal}
 use Rattle.judge_lines.specs.declared.judging.Refusal.TheVariants.{Line, OutOfMemory}
 
@@ -15,7 +15,7 @@ pub record IsJudged (bytes : List ℕ) (verdict : Verdict) : Type 0 where
 
 -- the bytes have this first faulty line, or there was no memory
 abbrev pub IsRefusedFor : List ℕ → Refusal → Type 0
-IsRefusedFor bytes (Line fault) = IsFirstFault bytes fault.line fault.reason
+IsRefusedFor bytes (Line fault) = IsFirstLogFault bytes fault.line fault.reason
 IsRefusedFor bytes OutOfMemory = Unit {0}
 
 -- the second line, of these fields, says no tag; or there was no memory

@@ -1,13 +1,13 @@
 -- Profile: the text of a log of one tag, by its rules: where it stands behind some of its lines says which tag and which log they tell.
 use Rattle.std.specs.Prelude.{◌≡◌, ◌≢◌, ◌⊎◌, ℕ, ◌+◌, ◌<◌, ◌≤◌, List, [], ◌∷◌, ◌++◌, codes, Option, Some, None}
-use Rattle.checked_lines.specs.TextRules.{TextRules, IsFirstFault as HasFirstFault, IsText}
+use Rattle.checked_lines.specs.TextRules.{TextRules, IsFirstFault, IsText}
 use Rattle.command_grammar.specs.declared.commands.Command.{Command}
 use Rattle.log_verdicts.specs.Log.{LogEntry, LoggedTag, Seen, lines_in}
 use Rattle.log_verdicts.specs.Log as entries
 use Rattle.probe_lines.specs.Answers.{HasEffect}
 use Rattle.probe_lines.specs.LineFaults.{IsFaultyProbeLine}
 use Rattle.probe_lines.specs.ProbeLine.{SpellsProbeLine, SpellsTag}
-use Rattle.probe_lines.specs.ProbeText.{IsFaultyTagLine, IsTooMuch, most_stimuli}
+use Rattle.probe_lines.specs.ProbeText.{IsFaultyTagLine, IsStimulusTooMuch, most_stimuli}
 use Rattle.probe_lines.specs.Said.{ProbeLine, Stimulus, StimulusEffect}
 use Rattle.probe_lines.specs.Said as said
 use Rattle.scenario_lines.specs.declared.tag.TagSpec.{TagSpec}
@@ -83,12 +83,12 @@ pub record TellsSeen (tag : LoggedTag) (log : List LogEntry) (heard : Option Com
   pub leads : to ≡ within tag (log ++ entries.Exchange heard seen ∷ [])
 
 -- the line may stand here, and leads there
-abbrev pub GoesTo : LogStanding → List ℕ → LogStanding → Type 0
-GoesTo start line to = (line ≡ log_version_line) × (to ≡ begun)
-GoesTo begun line to = TellsLoggedTag line to
-GoesTo (within tag log) line to = TellsNextEntry tag log (fields_of line) to
-GoesTo (asked tag log heard) line to = TellsSeen tag log heard (fields_of line) to
-GoesTo (ended tag log) line to = ⊥
+abbrev pub LogGoesTo : LogStanding → List ℕ → LogStanding → Type 0
+LogGoesTo start line to = (line ≡ log_version_line) × (to ≡ begun)
+LogGoesTo begun line to = TellsLoggedTag line to
+LogGoesTo (within tag log) line to = TellsNextEntry tag log (fields_of line) to
+LogGoesTo (asked tag log heard) line to = TellsSeen tag log heard (fields_of line) to
+LogGoesTo (ended tag log) line to = ⊥
 
 -- the first reason for which a line says no tag
 abbrev pub IsFaultyTag : List (List ℕ) → FaultReason → Type 0
@@ -112,9 +112,9 @@ HasUnknownWord fields = IsFaultyAsAnswer fields reasons.Word ⊎ IsFaultyAsOther
 abbrev pub IsFaultyNext : ℕ → List (List ℕ) → FaultReason → Type 0
 IsFaultyNext count fields Word = HasUnknownWord fields
 IsFaultyNext count fields Order = (¬ HasUnknownWord fields) × BeginsAsAnswer fields
-IsFaultyNext count fields Limit = (¬ HasUnknownWord fields) × (¬ BeginsAsAnswer fields) × IsTooMuch count fields
-IsFaultyNext count fields Shape = (¬ IsTooMuch count fields) × IsFaultyAsOther fields reasons.Shape
-IsFaultyNext count fields Number = (¬ IsTooMuch count fields) × IsFaultyAsOther fields reasons.Number
+IsFaultyNext count fields Limit = (¬ HasUnknownWord fields) × (¬ BeginsAsAnswer fields) × IsStimulusTooMuch count fields
+IsFaultyNext count fields Shape = (¬ IsStimulusTooMuch count fields) × IsFaultyAsOther fields reasons.Shape
+IsFaultyNext count fields Number = (¬ IsStimulusTooMuch count fields) × IsFaultyAsOther fields reasons.Number
 IsFaultyNext count fields fault = ⊥
 
 -- ... where an answer is awaited
@@ -145,12 +145,12 @@ unended_log_reason (ended tag log) = Extra
 unended_log_reason standing = End
 
 abbrev pub log_rules : TextRules LogStanding FaultReason
-log_rules = record { start = start; leads = GoesTo; is_faulty = IsFaultyLogLine; may_end = LogMayEnd; unended = unended_log_reason }
+log_rules = record { start = start; leads = LogGoesTo; is_faulty = IsFaultyLogLine; may_end = LogMayEnd; unended = unended_log_reason }
 
 -- the bytes are the text of this log of this tag
 abbrev pub IsLogText : List ℕ → LoggedTag → List LogEntry → Type 0
 IsLogText bytes tag log = IsText log_rules bytes (ended tag log)
 
 -- the first faulty line of the bytes, counted from 1, with its first reason
-abbrev pub IsFirstFault : List ℕ → ℕ → FaultReason → Type 0
-IsFirstFault bytes line fault = HasFirstFault log_rules bytes line fault
+abbrev pub IsFirstLogFault : List ℕ → ℕ → FaultReason → Type 0
+IsFirstLogFault bytes line fault = IsFirstFault log_rules bytes line fault

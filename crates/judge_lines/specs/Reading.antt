@@ -10,7 +10,7 @@ use Rattle.text_fields.specs.Lines.{lines_of}
 use Rattle.judge_lines.specs.declared.entry.SaidEntry.{SaidEntry}
 use Rattle.judge_lines.specs.declared.entry.SaidEntry.TheVariants as said
 use Rattle.checked_lines.specs.declared.fault.FaultyLine.{FaultyLine}
-use Rattle.judge_lines.specs.LogText.{IsFirstFault, IsLogText, log_rules, start, within}
+use Rattle.judge_lines.specs.LogText.{IsFirstLogFault, IsLogText, log_rules, start, within}
 
 -- The lines that are read say this log of this tag, and these are left.
 abbrev pub HasReadLog : List ℕ → LoggedTag → List LogEntry → List (List ℕ) → Type 0
@@ -42,4 +42,4 @@ HasHeardEntry tag log (Some entry) judge = HasHeard tag (log ++ entry ∷ []) ju
 
 -- the fault is the first of the bytes
 abbrev pub IsFaultOf : List ℕ → FaultyLine → Type 0
-IsFaultOf bytes fault = IsFirstFault bytes fault.line fault.reason
+IsFaultOf bytes fault = IsFirstLogFault bytes fault.line fault.reason

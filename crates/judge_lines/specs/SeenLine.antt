@@ -1,7 +1,7 @@
 -- Profile: the lines of a log that say what the tag was seen to answer, the one spelling of each, and why a line is none.
 use Rattle.std.specs.Prelude.{◌≡◌, ◌≢◌, ◌⊎◌, ℕ, List, [], ◌∷◌, codes, IfSome, Option, Some, None}
 use Rattle.log_verdicts.specs.Log.{Seen}
-use Rattle.probe_lines.specs.Answers.{preamble_word}
+use Rattle.probe_lines.specs.Answers.{answer_preamble_word}
 use Rattle.reply_text.specs.ReplyText.{IsFaultyReply, IsReplyForm, reply_fields}
 use Rattle.tag_machine.specs.declared.any_tag.Answered.{Answered}
 use Rattle.tag_machine.specs.declared.any_tag.Answered.TheVariants.{Silent, Plain, Extended}
@@ -21,7 +21,7 @@ seen_mark_word Extended = codes "extended"
 -- the fields behind the first
 abbrev pub seen_fields : Option Seen → List (List ℕ)
 seen_fields None = seen_mark_word Silent ∷ []
-seen_fields (Some seen) = preamble_word seen.extended ∷ reply_fields seen.reply
+seen_fields (Some seen) = answer_preamble_word seen.extended ∷ reply_fields seen.reply
 
 -- The numbers of a reply are in the ranges of their fields. An EPC may have another length than its PC says.
 abbrev pub IsSeen : Option Seen → Type 0

@@ -6,7 +6,7 @@ ghost use Rattle.log_verdicts.specs.Verdicts.{Verdict};
 ghost use Rattle.checked_lines.specs.declared.fault.FaultReason.{FaultReason};
 ghost use Rattle.judge_lines.specs.Judged.{IsJudged};
 ghost use Rattle.judge_lines.specs.laws.SeenLaws.{SeenLaws};
-ghost use Rattle.judge_lines.specs.LogText.{IsFirstFault, IsLogText};
+ghost use Rattle.judge_lines.specs.LogText.{IsFirstLogFault, IsLogText};
 
 use log_verdicts::logs_have_one_verdict;
 use probe_lines::{line_laws, stimuli_have_one_effect};
@@ -35,7 +35,7 @@ pub fn logs_are_told_apart()
 /// The text of a log has no faulty line.
 pub fn log_texts_are_not_faulty()
     ensures { (bytes : List ℕ) (tag : LoggedTag) (log : List LogEntry) (number : ℕ)
-        (fault : FaultReason) → IsLogText bytes tag log → IsFirstFault bytes number fault → ⊥ }
+        (fault : FaultReason) → IsLogText bytes tag log → IsFirstLogFault bytes number fault → ⊥ }
 {
     line_laws();
     stimuli_have_one_effect();
@@ -45,7 +45,7 @@ pub fn log_texts_are_not_faulty()
 /// A text has at most one first faulty line, which has one first reason.
 pub fn log_texts_have_one_fault()
     ensures { (bytes : List ℕ) (one other : ℕ) (fault reason : FaultReason)
-        → IsFirstFault bytes one fault → IsFirstFault bytes other reason
+        → IsFirstLogFault bytes one fault → IsFirstLogFault bytes other reason
         → (one ≡ other) × (fault ≡ reason) }
 {
     line_laws();
@@ -57,7 +57,7 @@ pub fn log_texts_have_one_fault()
 pub fn texts_are_logs_or_faulty()
     ensures { (bytes : List ℕ)
         → ((tag : LoggedTag) × (log : List LogEntry) × IsLogText bytes tag log)
-        ⊎ ((number : ℕ) × (fault : FaultReason) × IsFirstFault bytes number fault) }
+        ⊎ ((number : ℕ) × (fault : FaultReason) × IsFirstLogFault bytes number fault) }
 {
     line_laws();
     stimuli_have_one_effect();

@@ -29,5 +29,6 @@ pub fn texts_have_objects()
 /// A field that spells a number of 64 bits is told as this number, and any other text but a hyphen as this text.
 pub fn fields_are_told()
     ensures numbers { (number : ℕ) → number < 2 ^ 64 → number_in (decimal number) ≡ Some number }
-    ensures texts { (text : List ℕ) → IsUtf8 text → text ≢ codes "-" → text_value text ≡ string text }
+    ensures texts { (text : List ℕ) → IsUtf8 text → text ≢ codes "-"
+        → text_value text ≡ string text }
 {}

@@ -9,7 +9,7 @@ use Rattle.tag_machine.specs.Draws.{enter, slot_of_draw}
 use Rattle.log_verdicts.specs.Log.{Seen}
 use Rattle.log_verdicts.specs.Explaining.{seen_of}
 use Rattle.log_verdicts.specs.Verdicts.{Nothing, AnyRn16, NothingOrAnyRn16}
-use Rattle.log_verdicts.specs.laws.Logs.{number_in}
+use Rattle.log_verdicts.specs.laws.Logs.{number_seen}
 use Rattle.log_verdicts.specs.laws.Kinds.{Kind, Settled, Enters, Replies, Gives, outcome_from, reworded, KeepsSmallQ}
 use Rattle.log_verdicts.specs.laws.Known.{Known, is_enters, slot_word, waits, want_of_answer, want_of_kind}
 use Rattle.log_verdicts.proofs.Guesses.{enters_later, enters_now, full_slot, later_by, now_by, not_zero, slot_below_power, zero_slot}
@@ -23,10 +23,10 @@ use Rattle.log_judge.proofs.Tests.{so_not, some_or_none}
 -- the words that are prepared, by what may be drawn
 abbrev pub first_guessed : Draws → Option Seen → ℕ
 first_guessed (draws.Slot session) seen = slot_word seen
-first_guessed it seen = number_in seen
+first_guessed it seen = number_seen seen
 
 abbrev pub guess_of : Draws → Option Seen → List ℕ
-guess_of drawn seen = first_guessed drawn seen ∷ number_in seen ∷ []
+guess_of drawn seen = first_guessed drawn seen ∷ number_seen seen ∷ []
 
 pub same_words : (drawn : Draws) (seen : Seen) → words_given drawn (Some seen) ≡ guess_of drawn (Some seen)
 same_words (draws.Slot session) seen = refl
@@ -144,7 +144,7 @@ entered_spoken own q number body =
     ap (λ (o : Outcome). waits o.tag.state) (now_by (0 ∷ number ∷ []) 0 1 0 0 number own q body refl (zero_slot q) refl refl refl)
 
 pub spoken_kind : (drawn : Draws) (kind : Kind) (seen : Seen) → Fits drawn kind → (is_enters kind && waits (mine_of drawn kind (Some seen)).tag.state) ≡ false
-spoken_kind (draws.Slot session) (Enters own q body) seen fits = entered_spoken own q (number_in (Some seen)) body
+spoken_kind (draws.Slot session) (Enters own q body) seen fits = entered_spoken own q (number_seen (Some seen)) body
 spoken_kind drawn (Enters own q body) seen fits = absurd fits
 spoken_kind drawn kind seen fits = refl
 

@@ -14,7 +14,7 @@ use Rattle.tag_machine.specs.declared.numbers.StateNumbers.{StateNumbers}
 use Rattle.log_verdicts.specs.Log.{Seen, Exchange}
 use Rattle.log_verdicts.specs.Explaining.{ByTables, outcome_of_heard, seen_of}
 use Rattle.log_verdicts.specs.laws.Logs.{IsLegalHeard}
-use Rattle.log_verdicts.specs.laws.Kinds.{Kind, Settled, Enters, Replies, Move, Stays, Leaves, Counts, outcome_from, reworded, count_kind, kind_at, kind_of, move_of, HasSmallQ, KeepsSmallQ}
+use Rattle.log_verdicts.specs.laws.Kinds.{Kind, Settled, Enters, Replies, ArbitrateMove, Stays, Leaves, Counts, outcome_from, reworded, count_kind, kind_at, kind_of, move_of, HasSmallQ, KeepsSmallQ}
 use Rattle.log_verdicts.specs.laws.Known.{Known, any_behind, draws_slot, guessed, is_enters, prepared, waits, want_of, want_of_move}
 use Rattle.log_verdicts.proofs.KindsOfSteps.{of_kind, of_move}
 use Rattle.log_verdicts.proofs.Guesses.{not_zero}
@@ -48,7 +48,7 @@ abbrev pub next_by : Command → TagValue → Option ℕ → Option Seen → Kno
 next_by command tag most seen = record { tag = (prepared_by command tag most seen).tag; any = any_by command tag most seen }
 
 -- the slot counter falls from 1 alone
-abbrev pub CountsFromOneOf : ℕ → Move → Type 0
+abbrev pub CountsFromOneOf : ℕ → ArbitrateMove → Type 0
 CountsFromOneOf m (Counts session) = m ≡ 1
 CountsFromOneOf m move = Unit {0}
 
@@ -126,10 +126,10 @@ module _ (command : Command) (legal : IsLegalHeard (Some command)) where
     abbrev tag_in : TagValue
     tag_in = record { state = ArbitrateState session q 1; body = body }
 
-    abbrev move : Move
+    abbrev move : ArbitrateMove
     move = move_of (Some command) session q (reworded [] 0 body)
 
-    abbrev kind_in : Move → ℕ → Kind
+    abbrev kind_in : ArbitrateMove → ℕ → Kind
     kind_in it slot = kind_at it session q (reworded [] 0 body) slot
 
     mine_in : (seen : Option Seen) → heard_by command tag_in seen ≡ mine_of drawn (kind_in move 1) seen
@@ -149,7 +149,7 @@ module _ (command : Command) (legal : IsLegalHeard (Some command)) where
     good_in : IsGoodMove (draws_slot (Some command)) move
     good_in = good_move (Some command) session q (reworded [] 0 body) legal in_range
 
-    abbrev CountsFromOne : Move → Type 0
+    abbrev CountsFromOne : ArbitrateMove → Type 0
     CountsFromOne it = CountsFromOneOf m it
 
     leaves_silent : (it : Kind) → Fits drawn it → IsGoodKind (draws_slot (Some command)) it → StandsIn drawn (Some m) true (mine_of drawn it None) (its_of drawn it None)
@@ -163,7 +163,7 @@ module _ (command : Command) (legal : IsLegalHeard (Some command)) where
         by it fit = absurd fit
     leaves_silent it fit good = absurd good.so
 
-    silent_in : (it : Move) → ((slot : ℕ) → Fits drawn (kind_in it slot)) → IsGoodMove (draws_slot (Some command)) it → CountsFromOne it
+    silent_in : (it : ArbitrateMove) → ((slot : ℕ) → Fits drawn (kind_in it slot)) → IsGoodMove (draws_slot (Some command)) it → CountsFromOne it
         → StandsIn drawn (Some m) true (mine_of drawn (kind_in it 1) None) (its_of drawn (kind_in it m) None)
     silent_in Stays fit good from = record {
       answers = refl;
@@ -188,7 +188,7 @@ module _ (command : Command) (legal : IsLegalHeard (Some command)) where
     same_in seen =
         ap (λ (ws : List ℕ). step command (ArbitrateState session q 1) (reworded ws 0 body)) (guessed_are command (Some seen) ∙ sym (same_words drawn seen))
 
-    spoken_in : (it : Move) (seen answer : Seen) → Fits drawn (kind_in it 1) → IsGoodMove (draws_slot (Some command)) it → seen_of (mine_of drawn (kind_in it 1) (Some seen)).answer ≡ Some answer
+    spoken_in : (it : ArbitrateMove) (seen answer : Seen) → Fits drawn (kind_in it 1) → IsGoodMove (draws_slot (Some command)) it → seen_of (mine_of drawn (kind_in it 1) (Some seen)).answer ≡ Some answer
         → waits (mine_of drawn (kind_in it 1) (Some seen)).tag.state ≡ false
     spoken_in Stays seen answer fit good answered = absurd (none_or_some answered)
     spoken_in (Leaves (Settled outcome)) seen answer fit good answered = good.so.0
@@ -196,7 +196,7 @@ module _ (command : Command) (legal : IsLegalHeard (Some command)) where
     spoken_in (Leaves it) seen answer fit good answered = absurd good.so
     spoken_in (Counts other) seen answer fit good answered = refl
 
-    want_in : (it : Move) (seen : Option Seen) → Fits drawn (kind_in it 1) → IsGoodMove (draws_slot (Some command)) it
+    want_in : (it : ArbitrateMove) (seen : Option Seen) → Fits drawn (kind_in it 1) → IsGoodMove (draws_slot (Some command)) it
         → want_of_move it m ≡ want_behind drawn (seen_of (mine_of drawn (kind_in it 1) seen).answer) (mine_of drawn (kind_in it 1) seen).tag.state (Some m)
     want_in Stays seen fit good = kind_want (words_given drawn seen) 0 (Some m) drawn (kind_in Stays 1) fit tt
     want_in (Leaves it) seen fit good = kind_want (words_given drawn seen) 0 (Some m) drawn it fit (at it good.so)

@@ -8,7 +8,7 @@ use Rattle.tag_machine.specs.declared.numbers.StateNumbers.{StateNumbers}
 use Rattle.tag_machine.specs.declared.numbers.StateNumbers.TheVariants as numbers
 use Rattle.log_verdicts.specs.Log.{Seen}
 use Rattle.log_verdicts.specs.Verdicts.{Want, Nothing, AnyRn16, AnyHandle, NothingOrAnyRn16}
-use Rattle.log_verdicts.specs.laws.Logs.{number_in}
+use Rattle.log_verdicts.specs.laws.Logs.{number_seen}
 use Rattle.log_verdicts.specs.laws.Known.{want_of_answer}
 use Rattle.log_judge.specs.declared.draws.Draws.{Draws}
 use Rattle.log_judge.specs.declared.draws.Draws.TheVariants as draws
@@ -36,13 +36,13 @@ first_slot (Some seen) = 0
 
 abbrev pub first_word : Draws → Option Seen → ℕ
 first_word (draws.Slot session) seen = first_slot seen
-first_word (draws.Turn session) seen = number_in seen
-first_word draws.Number seen = number_in seen
-first_word draws.Nothing seen = number_in seen
+first_word (draws.Turn session) seen = number_seen seen
+first_word draws.Number seen = number_seen seen
+first_word draws.Nothing seen = number_seen seen
 
 -- the words that a tag is given to draw, by what it was seen to answer
 abbrev pub words_given : Draws → Option Seen → List ℕ
-words_given drawn seen = first_word drawn seen ∷ number_in seen ∷ []
+words_given drawn seen = first_word drawn seen ∷ number_seen seen ∷ []
 
 -- A tag in arbitrate drew its slot at a command of this session, where it is in a round of that session. One that went back has slot 0.
 abbrev pub has_drawn : (session own slot : ℕ) → Bool

@@ -1,7 +1,7 @@
 //! What a tag sends in answer.
 ghost use Rattle.std.specs.Prelude.{◌≡◌, ◌<◌, ◌^◌, ◌↔◌, IsTrue, None, is_some};
 ghost use Rattle.log_verdicts.specs.Explaining.{IsOtherError};
-ghost use Rattle.log_verdicts.specs.laws.Logs.{number_in, number_of_reply};
+ghost use Rattle.log_verdicts.specs.laws.Logs.{number_seen, number_of_reply};
 ghost use Rattle.log_judge.specs.Answers.{code_in, code_of_reply, seen_in};
 
 use reply_grammar::Reply;
@@ -53,8 +53,8 @@ impl Answer {
 
     /// The number of an RN16 or of a handle, and 0 of other answers.
     pub(crate) fn number(&self) -> u16
-        ensures value { result ≡ number_in (seen_in self.now) }
-        ensures small { number_in (seen_in self.now) < 2 ^ 16 }
+        ensures value { result ≡ number_seen (seen_in self.now) }
+        ensures small { number_seen (seen_in self.now) < 2 ^ 16 }
     {
         match self.answered {
             Answered::Silent => 0,

@@ -21,7 +21,7 @@ use Rattle.tag_memory.specs.Access.{banks_after_erase, banks_after_write}
 use Rattle.tag_machine.specs.Access.{block_erase_outcome, block_write_outcome, lock_outcome, read_outcome, write_outcome, held_state, first_level, new_held, req_rn}
 use Rattle.log_verdicts.specs.Explaining.{outcome_of_heard}
 use Rattle.log_verdicts.specs.laws.Logs.{IsLegalHeard}
-use Rattle.log_verdicts.specs.laws.Kinds.{Kind, Settled, Enters, Gives, outcome_from, reworded, take_kind, query_kind, count_kind, rep_kind, adjust_kind, first_held, number_kind, kind_of, Move, Stays, Leaves, Counts, kind_at, move_of, HasSmallQ, KeepsSmallQ}
+use Rattle.log_verdicts.specs.laws.Kinds.{Kind, Settled, Enters, Gives, outcome_from, reworded, take_kind, query_kind, count_kind, rep_kind, adjust_kind, first_held, number_kind, kind_of, ArbitrateMove, Stays, Leaves, Counts, kind_at, move_of, HasSmallQ, KeepsSmallQ}
 use Rattle.log_verdicts.proofs.Settling.{Settles, accessed, after_ack, after_half, after_nak, after_select, locked, memory_done, read_done, turn_ended, written}
 
 -- an outcome is what a kind says of these words, and the kind keeps Q in its range
@@ -140,7 +140,7 @@ module _ (words : List ℕ) (place : ℕ) where
       (λ level held. memory_done words place level held body (banks_after_erase body.memory body.locks level bank pointer count)))
 
 -- what a command does to a tag in arbitrate, by its slot counter
-moved : (test : Bool) (session q slot : ℕ) (body : BodyValue) (one other : Move) → (if test then kind_at one session q body slot else kind_at other session q body slot) ≡ kind_at (if test then one else other) session q body slot
+moved : (test : Bool) (session q slot : ℕ) (body : BodyValue) (one other : ArbitrateMove) → (if test then kind_at one session q body slot else kind_at other session q body slot) ≡ kind_at (if test then one else other) session q body slot
 moved true session q slot body one other = refl
 moved false session q slot body one other = refl
 

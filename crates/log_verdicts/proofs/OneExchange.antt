@@ -7,8 +7,8 @@ use Rattle.tag_machine.specs.Answers.{Outcome, silent}
 use Rattle.tag_machine.specs.Inventory.{slot_below}
 use Rattle.log_verdicts.specs.Log.{Seen}
 use Rattle.log_verdicts.specs.Explaining.{seen_answer_to, outcome_of_heard, seen_of}
-use Rattle.log_verdicts.specs.laws.Logs.{IsLegalHeard, number_in}
-use Rattle.log_verdicts.specs.laws.Kinds.{Kind, Settled, Enters, Replies, Gives, outcome_from, reworded, count_kind, kind_of, Move, Stays, Leaves, Counts, kind_at, move_of, HasSmallQ}
+use Rattle.log_verdicts.specs.laws.Logs.{IsLegalHeard, number_seen}
+use Rattle.log_verdicts.specs.laws.Kinds.{Kind, Settled, Enters, Replies, Gives, outcome_from, reworded, count_kind, kind_of, ArbitrateMove, Stays, Leaves, Counts, kind_at, move_of, HasSmallQ}
 use Rattle.log_verdicts.specs.laws.Known.{Known, Covers, CoversState, draws_slot, guessed, is_enters, any_behind, placed, prepared, waits}
 use Rattle.log_verdicts.specs.laws.Standing.{IsValid}
 use Rattle.log_verdicts.proofs.Guesses.{not_zero}
@@ -31,12 +31,12 @@ slot_seen None most = most
 slot_seen (Some seen) most = 1
 
 module _ (draws : Bool) (session q most : ℕ) (body : BodyValue) where
-  abbrev MineAt : Move → Option Seen → Outcome
+  abbrev MineAt : ArbitrateMove → Option Seen → Outcome
   MineAt move seen = outcome_from (kind_at move session q body (slot_seen seen most)) (guess draws seen) 0
 
   -- of a tag whose slot counter is any from 1 on
   module _ (words : List ℕ) (place : ℕ) (inside : place < length words) (slot : ℕ) (least : 1 ≤ slot) (within : slot ≤ most) where
-    abbrev GoalAt : Move → Option Seen → Type 0
+    abbrev GoalAt : ArbitrateMove → Option Seen → Type 0
     GoalAt move seen = StandsFor (true && waits (MineAt move seen).tag.state) words seen (MineAt move seen) (outcome_from (kind_at move session q body slot) words place)
 
     leaves_so : (kind : Kind) (seen : Option Seen) → IsGoodKind draws kind → seen_of (outcome_from kind words place).answer ≡ seen → GoalAt (Leaves kind) seen
@@ -86,7 +86,7 @@ module _ (draws : Bool) (session q most : ℕ) (body : BodyValue) where
         = moved_over true words None (ap (λ (k : Kind). outcome_from k (guess draws None) 0) mine) (ap (λ (k : Kind). outcome_from k words place) its) here in
         subst (λ (it : Option Seen). GoalAt (Counts other) it) told whole
 
-    pub stands_at : (move : Move) (seen : Option Seen) → IsGoodMove draws move → seen_of (outcome_from (kind_at move session q body slot) words place).answer ≡ seen → GoalAt move seen
+    pub stands_at : (move : ArbitrateMove) (seen : Option Seen) → IsGoodMove draws move → seen_of (outcome_from (kind_at move session q body slot) words place).answer ≡ seen → GoalAt move seen
     stands_at Stays seen good given = stays_so seen given
     stands_at (Leaves kind) seen good given = leaves_so kind seen good given
     stands_at (Counts other) seen good given =
@@ -96,7 +96,7 @@ module _ (draws : Bool) (session q most : ℕ) (body : BodyValue) where
         ]
 
   -- What the guessed words lead to comes of some words, with some slot.
-  pub record ComesAt (move : Move) (seen : Option Seen) (state : StateValue) : Type 0 where
+  pub record ComesAt (move : ArbitrateMove) (seen : Option Seen) (state : StateValue) : Type 0 where
     pub slot : ℕ
     pub least : 1 ≤ slot
     pub within : slot ≤ most
@@ -105,10 +105,10 @@ module _ (draws : Bool) (session q most : ℕ) (body : BodyValue) where
     pub same : (words : List ℕ) (place : ℕ) → reworded words place (MineAt move seen).tag.body ≡ reworded words place after
 
   module _ (some : 1 ≤ most) (small : q ≤ 15) (state : StateValue) where
-    abbrev Meant : Move → Option Seen → Type 0
+    abbrev Meant : ArbitrateMove → Option Seen → Type 0
     Meant move seen' = CoversState (true && waits (MineAt move seen').tag.state) (MineAt move seen').tag.state state
 
-    leaves_comes : (kind : Kind) (seen : Option Seen) → number_in seen < 2 ^ 16 → IsGoodKind draws kind → seen_of (MineAt (Leaves kind) seen).answer ≡ seen → Meant (Leaves kind) seen → ComesAt (Leaves kind) seen state
+    leaves_comes : (kind : Kind) (seen : Option Seen) → number_seen seen < 2 ^ 16 → IsGoodKind draws kind → seen_of (MineAt (Leaves kind) seen).answer ≡ seen → Meant (Leaves kind) seen → ComesAt (Leaves kind) seen state
     leaves_comes (Settled outcome) seen in_range good given covers = record {
       slot = most;
       least = some;
@@ -143,7 +143,7 @@ module _ (draws : Bool) (session q most : ℕ) (body : BodyValue) where
     no_answer : {it : Seen} → Some it ≡ None → ⊥
     no_answer same = absurd (cc)
 
-    counts_comes : (other : ℕ) (seen : Option Seen) → number_in seen < 2 ^ 16 → draws ≡ false → seen_of (MineAt (Counts other) seen).answer ≡ seen → Meant (Counts other) seen → ComesAt (Counts other) seen state
+    counts_comes : (other : ℕ) (seen : Option Seen) → number_seen seen < 2 ^ 16 → draws ≡ false → seen_of (MineAt (Counts other) seen).answer ≡ seen → Meant (Counts other) seen → ComesAt (Counts other) seen state
     counts_comes other (Some seen) in_range slot_drawn given covers = record {
       slot = 1;
       least = omega arith;
@@ -173,7 +173,7 @@ module _ (draws : Bool) (session q most : ℕ) (body : BodyValue) where
               }
         ]
 
-    pub comes_at : (move : Move) (seen : Option Seen) → number_in seen < 2 ^ 16 → IsGoodMove draws move → seen_of (MineAt move seen).answer ≡ seen → Meant move seen → ComesAt move seen state
+    pub comes_at : (move : ArbitrateMove) (seen : Option Seen) → number_seen seen < 2 ^ 16 → IsGoodMove draws move → seen_of (MineAt move seen).answer ≡ seen → Meant move seen → ComesAt move seen state
     comes_at Stays seen in_range good given covers =
         subst (λ (it : Option Seen). Meant Stays it → ComesAt Stays it state) given stays_comes covers
     comes_at (Leaves kind) seen in_range good given covers = leaves_comes kind seen in_range good given covers
@@ -280,7 +280,7 @@ module _ (heard : Option Command) (legal : IsLegalHeard heard) (seen : Option Se
         ∙ ap (λ (b : BodyValue). let it : TagValue = record { state = state; body = b } in it) (sym (same (used ++ (comes.drawn ++ future)) (length used + length comes.drawn)));
   }
 
-  arrives_closed : (known : StateValue) (body : BodyValue) (state : StateValue) → HasSmallQ known → number_in seen < 2 ^ 16 → seen_of (mine_of (known_as false known body) heard seen).answer ≡ seen
+  arrives_closed : (known : StateValue) (body : BodyValue) (state : StateValue) → HasSmallQ known → number_seen seen < 2 ^ 16 → seen_of (mine_of (known_as false known body) heard seen).answer ≡ seen
       → MeantBehind false known body state → Arrives (known_as false known body) state
   arrives_closed known body state small in_range given covers =
       let kind = kind_of heard known body in
@@ -291,7 +291,7 @@ module _ (heard : Option Command) (legal : IsLegalHeard heard) (seen : Option Se
       (subst (λ (o : Outcome). CoversState (is_enters kind && waits o.tag.state) o.tag.state state) mine.is covers))
       (λ words place. ap (λ (o : Outcome). reworded words place o.tag.body) mine.is ∙ body_kept kind (guessed heard seen) 0 words place)
 
-  arrives_open : (session q most : ℕ) (body : BodyValue) (state : StateValue) → q ≤ 15 → 1 ≤ most → number_in seen < 2 ^ 16
+  arrives_open : (session q most : ℕ) (body : BodyValue) (state : StateValue) → q ≤ 15 → 1 ≤ most → number_seen seen < 2 ^ 16
       → seen_of (mine_of (known_as true (ArbitrateState session q most) body) heard seen).answer ≡ seen
       → MeantBehind true (ArbitrateState session q most) body state → Arrives (known_as true (ArbitrateState session q most) body) state
   arrives_open session q most body state small some in_range given covers =
@@ -305,7 +305,7 @@ module _ (heard : Option Command) (legal : IsLegalHeard heard) (seen : Option Se
       (λ words place. its_at session q comes.slot body words place small) comes.comes
       (λ words place. ap (λ (o : Outcome). reworded words place o.tag.body) mine ∙ comes.same words place)
 
-  arrives_so : (any : Bool) (known : StateValue) (body : BodyValue) (state : StateValue) → HasSmallQ known → CoversState any known known → number_in seen < 2 ^ 16
+  arrives_so : (any : Bool) (known : StateValue) (body : BodyValue) (state : StateValue) → HasSmallQ known → CoversState any known known → number_seen seen < 2 ^ 16
       → seen_of (mine_of (known_as any known body) heard seen).answer ≡ seen → MeantBehind any known body state → Arrives (known_as any known body) state
   arrives_so false known body state small itself in_range given covers = arrives_closed known body state small in_range given covers
   arrives_so true known body state small itself in_range given covers =
@@ -319,6 +319,6 @@ module _ (heard : Option Command) (legal : IsLegalHeard heard) (seen : Option Se
       subst (λ (it : StateValue). Arrives (known_as true it body) state) (sym is)
       (arrives_open itself.session itself.q itself.most body state small_q (omega (arith, least, within)) in_range with_known meant)
 
-  pub arrives : (known : Known) (state : StateValue) → IsValid known → number_in seen < 2 ^ 16 → seen_of (mine_of known heard seen).answer ≡ seen
+  pub arrives : (known : Known) (state : StateValue) → IsValid known → number_seen seen < 2 ^ 16 → seen_of (mine_of known heard seen).answer ≡ seen
       → CoversState (any_behind known heard (mine_of known heard seen).tag.state) (mine_of known heard seen).tag.state state → Arrives known state
   arrives known state valid in_range given covers = arrives_so known.any known.tag.state known.tag.body state valid.small valid.itself in_range given covers

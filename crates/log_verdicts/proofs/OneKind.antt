@@ -10,7 +10,7 @@ use Rattle.tag_machine.specs.Answers.{Outcome, silent, plain_answer}
 use Rattle.tag_machine.specs.Draws.{place_behind, body_after_draw, slot_of_draw, begin_reply, enter}
 use Rattle.log_verdicts.specs.Log.{Seen}
 use Rattle.log_verdicts.specs.Explaining.{seen_of}
-use Rattle.log_verdicts.specs.laws.Logs.{number_in}
+use Rattle.log_verdicts.specs.laws.Logs.{number_seen}
 use Rattle.log_verdicts.specs.laws.Kinds.{Kind, Settled, Enters, Replies, Gives, outcome_from, reworded, KeepsSmallQ}
 use Rattle.log_verdicts.specs.laws.Known.{CoversState, IsWithin, is_enters, slot_word, waits}
 use Rattle.log_verdicts.proofs.Guesses.{some_power, full_slot, slot_below_power, enters_now, enters_later, zero_slot, behind_inside, drawn_next, place_next, drawn_at, place_at, begins_by, now_by, later_by}
@@ -38,7 +38,7 @@ moved_over any words seen {mine' = mine'} {its = its} of_mine of_its stands =
 
 -- the words that are guessed
 abbrev pub guess : Bool → Option Seen → List ℕ
-guess draws seen = (if draws then slot_word seen else number_in seen) ∷ number_in seen ∷ []
+guess draws seen = (if draws then slot_word seen else number_seen seen) ∷ number_seen seen ∷ []
 
 module _ (draws : Bool) (words : List ℕ) (place : ℕ) (inside : place < length words) where
   abbrev Goal : Kind → Option Seen → Type 0
@@ -278,15 +278,15 @@ module _ (draws : Bool) where
   }
 
   -- Whatever the words that were guessed lead to comes of some words.
-  entering_comes : (session q : ℕ) (body : BodyValue) (seen : Option Seen) (state : StateValue) → draws ≡ true → q ≤ 15 → number_in seen < 2 ^ 16
+  entering_comes : (session q : ℕ) (body : BodyValue) (seen : Option Seen) (state : StateValue) → draws ≡ true → q ≤ 15 → number_seen seen < 2 ^ 16
       → seen_of (Mine (Enters session q body) seen).answer ≡ seen
       → CoversState (true && waits (Mine (Enters session q body) seen).tag.state) (Mine (Enters session q body) seen).tag.state state
       → ComesBy (Enters session q body) seen state body
   entering_comes session q body (Some seen) state slot small in_range given covers =
-      let guessed_are : guess draws (Some seen) ≡ 0 ∷ number_in (Some seen) ∷ [] = ap (λ (it : Bool). (if it then 0 else number_in (Some seen)) ∷ number_in (Some seen) ∷ []) slot in
-      let mine : Mine (Enters session q body) (Some seen) ≡ begin_reply session q (reworded (0 ∷ number_in (Some seen) ∷ []) 1 body)
-      = ap (λ (ws : List ℕ). enter session q (reworded ws 0 body)) guessed_are ∙ enters_now session q (reworded (0 ∷ number_in (Some seen) ∷ []) 0 body) (zero_slot q) in
-      at_once_comes session q (number_in (Some seen)) body (Some seen) state in_range (sym (ap (λ (o : Outcome). seen_of o.answer) mine) ∙ given)
+      let guessed_are : guess draws (Some seen) ≡ 0 ∷ number_seen (Some seen) ∷ [] = ap (λ (it : Bool). (if it then 0 else number_seen (Some seen)) ∷ number_seen (Some seen) ∷ []) slot in
+      let mine : Mine (Enters session q body) (Some seen) ≡ begin_reply session q (reworded (0 ∷ number_seen (Some seen) ∷ []) 1 body)
+      = ap (λ (ws : List ℕ). enter session q (reworded ws 0 body)) guessed_are ∙ enters_now session q (reworded (0 ∷ number_seen (Some seen) ∷ []) 0 body) (zero_slot q) in
+      at_once_comes session q (number_seen (Some seen)) body (Some seen) state in_range (sym (ap (λ (o : Outcome). seen_of o.answer) mine) ∙ given)
       (subst (λ (o : Outcome). CoversState (true && waits o.tag.state) o.tag.state state) mine covers)
   entering_comes session q body None state slot small in_range given covers =
       let full : 0xFFFF % 2 ^ q ≡ 2 ^ q - 1 = full_slot q small in
@@ -308,18 +308,18 @@ module _ (draws : Bool) where
       some_answer : {it : Seen} → Some it ≡ None → ⊥
       some_answer wrong = absurd (cc)
 
-  pub comes_by : (kind : Kind) (seen : Option Seen) (state : StateValue) → Suits draws kind → KeepsSmallQ kind → number_in seen < 2 ^ 16
+  pub comes_by : (kind : Kind) (seen : Option Seen) (state : StateValue) → Suits draws kind → KeepsSmallQ kind → number_seen seen < 2 ^ 16
       → seen_of (Mine kind seen).answer ≡ seen → CoversState (is_enters kind && waits (Mine kind seen).tag.state) (Mine kind seen).tag.state state
       → ComesBy kind seen state (body_of kind)
   comes_by (Settled outcome) seen state slot small in_range given covers = settled_comes outcome seen state given covers
   comes_by (Enters session q body) seen state slot small in_range given covers = entering_comes session q body seen state slot small in_range given covers
   comes_by (Replies session q body) seen state slot small in_range given covers =
-      let guessed_are : guess draws seen ≡ number_in seen ∷ number_in seen ∷ [] = ap (λ (it : Bool). (if it then slot_word seen else number_in seen) ∷ number_in seen ∷ []) slot in
-      let first : slice_index (guess draws seen) 0 ≡ number_in seen = ap (λ (ws : List ℕ). slice_index ws 0) guessed_are in
-      reply_comes session q (number_in seen) body seen state in_range
+      let guessed_are : guess draws seen ≡ number_seen seen ∷ number_seen seen ∷ [] = ap (λ (it : Bool). (if it then slot_word seen else number_seen seen) ∷ number_seen seen ∷ []) slot in
+      let first : slice_index (guess draws seen) 0 ≡ number_seen seen = ap (λ (ws : List ℕ). slice_index ws 0) guessed_are in
+      reply_comes session q (number_seen seen) body seen state in_range
       (ap (λ (n : ℕ). let it : Option Seen = Some (record { reply = Rn16 n; extended = false }) in it) (sym first) ∙ given) (covers ∙ ap (λ n. ReplyState session q n) first)
   comes_by (Gives of body) seen state slot small in_range given covers =
-      let guessed_are : guess draws seen ≡ number_in seen ∷ number_in seen ∷ [] = ap (λ (it : Bool). (if it then slot_word seen else number_in seen) ∷ number_in seen ∷ []) slot in
-      let first : slice_index (guess draws seen) 0 ≡ number_in seen = ap (λ (ws : List ℕ). slice_index ws 0) guessed_are in
-      number_comes of (number_in seen) body seen state in_range
+      let guessed_are : guess draws seen ≡ number_seen seen ∷ number_seen seen ∷ [] = ap (λ (it : Bool). (if it then slot_word seen else number_seen seen) ∷ number_seen seen ∷ []) slot in
+      let first : slice_index (guess draws seen) 0 ≡ number_seen seen = ap (λ (ws : List ℕ). slice_index ws 0) guessed_are in
+      number_comes of (number_seen seen) body seen state in_range
       (ap (λ (n : ℕ). let it : Option Seen = Some (record { reply = Handle n; extended = false }) in it) (sym first) ∙ given) (covers ∙ ap of first)

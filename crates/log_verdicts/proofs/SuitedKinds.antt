@@ -8,7 +8,7 @@ use Rattle.command_grammar.specs.declared.commands.Command.TheVariants as comman
 use Rattle.session_flags.specs.Flags.{matches}
 use Rattle.tag_machine.specs.TagValue.{StateValue, ReadyState, BodyValue}
 use Rattle.log_verdicts.specs.laws.Logs.{IsLegalHeard}
-use Rattle.log_verdicts.specs.laws.Kinds.{Kind, Settled, Enters, Replies, Gives, query_kind, rep_kind, adjust_kind, number_kind, kind_of, Move, Stays, Leaves, Counts, move_of, KeepsSmallQ}
+use Rattle.log_verdicts.specs.laws.Kinds.{Kind, Settled, Enters, Replies, Gives, query_kind, rep_kind, adjust_kind, number_kind, kind_of, ArbitrateMove, Stays, Leaves, Counts, move_of, KeepsSmallQ}
 use Rattle.log_verdicts.specs.laws.Known.{draws_slot, waits}
 use Rattle.log_verdicts.proofs.KindsOfSteps.{adjusted}
 use Rattle.log_verdicts.proofs.OneKind.{Suits}
@@ -48,7 +48,7 @@ pub record IsGoodKind (draws : Bool) (kind : Kind) : Type 0 where
   pub small : KeepsSmallQ kind
   pub so : LeavesSo kind
 
-abbrev pub IsGoodMove : Bool → Move → Type 0
+abbrev pub IsGoodMove : Bool → ArbitrateMove → Type 0
 IsGoodMove draws Stays = Unit {0}
 IsGoodMove draws (Leaves kind) = IsGoodKind draws kind
 IsGoodMove draws (Counts session) = draws ≡ false

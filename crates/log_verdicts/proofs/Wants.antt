@@ -12,7 +12,7 @@ use Rattle.log_verdicts.specs.Log.{AreDrawn, LogEntry, LoggedTag, Seen}
 use Rattle.log_verdicts.specs.Explaining.{Manner, seen_answer_to, seen_of}
 use Rattle.log_verdicts.specs.Verdicts.{IsRn16, IsWanted, Means, AnyRn16, NothingOrAnyRn16}
 use Rattle.log_verdicts.specs.laws.Logs.{IsLegalHeard}
-use Rattle.log_verdicts.specs.laws.Kinds.{Kind, Settled, Enters, Replies, Gives, outcome_from, reworded, count_kind, kind_of, Move, Stays, Leaves, Counts, kind_at, move_of, HasSmallQ}
+use Rattle.log_verdicts.specs.laws.Kinds.{Kind, Settled, Enters, Replies, Gives, outcome_from, reworded, count_kind, kind_of, ArbitrateMove, Stays, Leaves, Counts, kind_at, move_of, HasSmallQ}
 use Rattle.log_verdicts.specs.laws.Known.{Known, CoversState, want_at, want_of, want_of_answer, want_of_kind, want_of_move}
 use Rattle.log_verdicts.specs.laws.Standing.{StandsBehind}
 use Rattle.log_verdicts.proofs.Guesses.{slot_below_power, enters_now, enters_later, behind_inside}
@@ -91,7 +91,7 @@ module _ (words : List ℕ) (drawn : AreDrawn words) (place : ℕ) (inside : pla
             | inr w ↦ rw w.0 (inl none)
           ]
 
-  only_move : (move : Move) (session q most slot : ℕ) (body : BodyValue) → 1 ≤ slot → slot ≤ most → Means (want_of_move move most) (seen_of (outcome_from (kind_at move session q body slot) words place).answer)
+  only_move : (move : ArbitrateMove) (session q most slot : ℕ) (body : BodyValue) → 1 ≤ slot → slot ≤ most → Means (want_of_move move most) (seen_of (outcome_from (kind_at move session q body slot) words place).answer)
   only_move Stays session q most slot body least within = refl
   only_move (Leaves kind) session q most slot body least within = only_kind kind
   only_move (Counts other) session q most slot body least within = only_counts other q most slot body least within
@@ -152,7 +152,7 @@ each_kind (Enters session q body) answer means = each_entered session q body ans
 each_kind (Replies session q body) answer means = rn16_replied session q body answer means
 each_kind (Gives of body) answer means = record { state = of means.number; after = body; comes = number_comes false of means.number body answer (of means.number) means.range (sym means.is) refl }
 
-pub record AnsweredAt (move : Move) (session q most : ℕ) (body : BodyValue) (answer : Option Seen) : Type 0 where
+pub record AnsweredAt (move : ArbitrateMove) (session q most : ℕ) (body : BodyValue) (answer : Option Seen) : Type 0 where
   pub slot : ℕ
   pub least : 1 ≤ slot
   pub within : slot ≤ most
@@ -178,7 +178,7 @@ each_counts other session q most body answer some means =
     }
     by more (inr is) = at_1 is
 
-each_move : (move : Move) (session q most : ℕ) (body : BodyValue) (answer : Option Seen) → 1 ≤ most → Means (want_of_move move most) answer → AnsweredAt move session q most body answer
+each_move : (move : ArbitrateMove) (session q most : ℕ) (body : BodyValue) (answer : Option Seen) → 1 ≤ most → Means (want_of_move move most) answer → AnsweredAt move session q most body answer
 each_move Stays session q most body answer some means = record { slot = most; least = some; within = omega arith; answered = each_kind (Settled (silent (ArbitrateState session q most) body)) answer means }
 each_move (Leaves kind) session q most body answer some means = record { slot = most; least = some; within = omega arith; answered = each_kind kind answer means }
 each_move (Counts other) session q most body answer some means = each_counts other session q most body answer some means

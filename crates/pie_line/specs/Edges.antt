@@ -30,7 +30,7 @@ EdgesStandFor edges bits intervals = MatchResult edges.standing
     (λ refusal. (place : ℕ) × IsFrameRefusedAt refusal intervals place)
 
 -- the decoder was given the intervals before this place, and has read these bits from them
-pub record HasReadTo (edges : EdgesValue) (bits : List Bool) (intervals : List ℕ) (at : ℕ) : Type 0 where
+pub record EdgesHaveReadTo (edges : EdgesValue) (bits : List Bool) (intervals : List ℕ) (at : ℕ) : Type 0 where
   pub within : at ≤ length intervals
   pub stands : EdgesStandFor edges bits (take at intervals)
   pub counted : edges.count ≤ at

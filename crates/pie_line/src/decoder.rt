@@ -3,7 +3,7 @@ ghost use Rattle.std.specs.Prelude.{◌≡◌, ◌≤◌, Bool, List, [], All, I
 ghost use Rattle.pie_line.specs.Pie.{IsFrame, longest_interval};
 ghost use Rattle.pie_line.specs.declared.frame.FrameKind.{FrameKind};
 ghost use Rattle.pie_line.specs.Refusal.{RefusesFrame};
-ghost use Rattle.pie_line.specs.Edges.{HasReadTo};
+ghost use Rattle.pie_line.specs.Edges.{EdgesHaveReadTo};
 ghost use Rattle.bit_strings.specs.BitString.{most_counted};
 
 use crate::edges::{Edge, Edges};
@@ -62,11 +62,11 @@ fn decode_intervals(intervals: &[u32], out: &mut Bits) -> Result<FrameKind, PieR
 /// Gives a decoder the data symbols that stand from a place on, one by one, as most intervals are those of data symbols.
 /// Gives the place behind them.
 fn take_symbols(edges: &mut Edges, intervals: &[u32], from: usize, out: &mut Bits) -> usize
-    requires given { HasReadTo edges.old out.old.items intervals.now from }
+    requires given { EdgesHaveReadTo edges.old out.old.items intervals.now from }
     requires room { length intervals.now ≤ out.old.capacity }
     requires each { All (λ interval. interval ≤ longest_interval) intervals.now }
     requires count { length intervals.now ≤ most_counted }
-    ensures given { HasReadTo edges.new out.new.items intervals.now result }
+    ensures given { EdgesHaveReadTo edges.new out.new.items intervals.now result }
     ensures further { from ≤ result }
     ensures capacity { out.new.capacity ≡ out.old.capacity }
 {

@@ -67,7 +67,15 @@ impl Link {
         trext: bool,
     ) -> Result<Link, LinkRefusal>
         ensures link { IfOk result
-            (λ link. link ≡ record { tari = tari; rtcal = rtcal; trcal = trcal; pw = pw; dr = dr; code = code; trext = trext }) }
+            (λ link. link ≡ record {
+              tari = tari;
+              rtcal = rtcal;
+              trcal = trcal;
+              pw = pw;
+              dr = dr;
+              code = code;
+              trext = trext;
+            }) }
         ensures legal { IfOk result IsLegalLink }
         ensures refused { IfErr result (λ refusal. IsFirstBroken refusal tari rtcal trcal pw) }
     {

@@ -13,7 +13,7 @@ use Rattle.probe_lines.specs.Said.{Stimulus}
 use Rattle.probe_lines.specs.LineFaults.{IsFaultyProbeLine}
 use Rattle.probe_lines.specs.laws.LineLaws.{ProbeLineLaws}
 use Rattle.probe_lines.specs.ProbeLine.{SpellsProbeLine, SpellsTag, version_line}
-use Rattle.probe_lines.specs.ProbeText.{AreStimuli, EndProbe, IsFaultyBehind, IsFirstFaultBehind, SayStimuli, begun, ended, most_stimuli, probe_rules, start, within}
+use Rattle.probe_lines.specs.ProbeText.{AreStimuli, EndProbe, IsFaultyBehindTag, IsFirstFaultBehind, SayStimuli, begun, ended, most_stimuli, probe_rules, start, within}
 
 -- Of the lines behind that of the tag so many are read, which say what is done to it, and these are left: what is said there is the rest of
 -- what all say.
@@ -59,10 +59,10 @@ line_wanted text rest count so_far last = λ tag.
 
 -- a line is faulty
 pub line_faulty : (text rest : List ℕ) (count : ℕ) (next : NextLine (lines_of rest)) (fault : FaultReason) → HasSaid text rest count
-    → IsFaultyBehind count (fields_of next.line) fault → IsFirstFaultBehind (lines_of text) (3 + count) fault
+    → IsFaultyBehindTag count (fields_of next.line) fault → IsFirstFaultBehind (lines_of text) (3 + count) fault
 line_faulty text rest count next fault so_far faulty = λ tag.
     fault_read probe_rules (within tag []) 3 (lines_of text) (within tag so_far.said) (3 + count) (lines_of rest) next fault (so_far.read tag)
-    (subst (λ (n : ℕ). IsFaultyBehind n (fields_of next.line) fault) so_far.count_is faulty)
+    (subst (λ (n : ℕ). IsFaultyBehindTag n (fields_of next.line) fault) so_far.count_is faulty)
 
 -- the end
 end_read : (text rest : List ℕ) (count : ℕ) (next : NextLine (lines_of rest)) (tag : TagSpec) (so_far : HasSaid text rest count)

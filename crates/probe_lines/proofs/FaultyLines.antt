@@ -7,7 +7,7 @@ use Rattle.probe_lines.specs.declared.line.LineWord.TheVariants as words
 use Rattle.text_fields.specs.declared.fields_fault.FieldsFault.TheVariants as reasons
 use Rattle.probe_lines.specs.LineFaults.{AreFaultyBehind, BeginsWithWord, IsFaultyProbeLine}
 use Rattle.probe_lines.specs.laws.LineLaws.{ProbeLineLaws}
-use Rattle.probe_lines.specs.ProbeText.{IsTooMuch, most_stimuli}
+use Rattle.probe_lines.specs.ProbeText.{IsStimulusTooMuch, most_stimuli}
 use Rattle.probe_lines.specs.Said as lines
 use Rattle.probe_lines.specs.Said.{Stimulus}
 use Rattle.probe_lines.specs.ProbeLine.{SpellsProbeLine, line_word}
@@ -35,6 +35,6 @@ pub ruleset no_ends = (begins_with_bits, begins_with_event)
 
 -- what is said is known, and has no room
 pub one_too_many : ProbeLineLaws → (count : ℕ) (fields : List (List ℕ)) (stimulus : Stimulus) → SpellsProbeLine fields (lines.Does stimulus) → most_stimuli ≤ count
-    → (¬ IsFaultyProbeLine fields reasons.Word) × IsTooMuch count fields
+    → (¬ IsFaultyProbeLine fields reasons.Word) × IsStimulusTooMuch count fields
 one_too_many laws count fields stimulus spells full =
     (laws.not_faulty fields (lines.Does stimulus) reasons.Word spells, record { full = full; needs = stimulus_is_no_end fields stimulus spells })

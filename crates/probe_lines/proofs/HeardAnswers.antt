@@ -15,7 +15,7 @@ use Rattle.tag_machine.specs.declared.any_tag.Answered.TheVariants.{Silent, Plai
 use Rattle.tag_machine.specs.Answers.{Outcome, Sent, bits_sent}
 use Rattle.tag_machine.specs.declared.any_tag.Heard.{Heard}
 use Rattle.tag_machine.specs.Hearing.{GivesOutcome}
-use Rattle.probe_lines.specs.Answers.{probe_answer_line, preamble_word}
+use Rattle.probe_lines.specs.Answers.{probe_answer_line, answer_preamble_word}
 use Rattle.probe_lines.specs.Heard.{IsHeardAnswer}
 
 pub reply_heard : (answer : Option Sent) (answered : Answered) (expect : Option Expect) (bits : List Bool) → IsHeardAnswer answer answered expect bits → answered ≢ Silent
@@ -41,11 +41,11 @@ no_mark false same = cc
 -- the line of an answer that was sent
 pub answer_told : (answer : Option Sent) (extended : Bool) (expect : Option Expect) (bits : List Bool) (number : ℕ) (reply : Reply) → IsHeardAnswer answer (marked extended) expect bits
     → ((other : Reply) → IsSomeAnd expect (λ it. AnswersExpected other it bits) → reply ≡ other)
-    → line_with (codes "answer" ∷ decimal number ∷ preamble_word extended ∷ reply_line reply ∷ []) ≡ probe_answer_line number answer
+    → line_with (codes "answer" ∷ decimal number ∷ answer_preamble_word extended ∷ reply_line reply ∷ []) ≡ probe_answer_line number answer
 answer_told None extended expect bits number reply is only = absurd (no_mark extended is.mark)
 answer_told (Some sent) extended expect bits number reply is only =
-    ap (λ (r : Reply). line_with (codes "answer" ∷ decimal number ∷ preamble_word extended ∷ reply_line r ∷ [])) (only sent.reply is.bits_are)
-    ∙ ap (λ (e : Bool). line_with (codes "answer" ∷ decimal number ∷ preamble_word e ∷ reply_line sent.reply ∷ [])) (sym (same_mark extended sent.extended is.mark))
+    ap (λ (r : Reply). line_with (codes "answer" ∷ decimal number ∷ answer_preamble_word extended ∷ reply_line r ∷ [])) (only sent.reply is.bits_are)
+    ∙ ap (λ (e : Bool). line_with (codes "answer" ∷ decimal number ∷ answer_preamble_word e ∷ reply_line sent.reply ∷ [])) (sym (same_mark extended sent.extended is.mark))
 
 -- what is sent is expected
 some_expected : (expect : Option Expect) (sent : Sent) (bits : List Bool) → bits ≡ bits_sent (Some sent)

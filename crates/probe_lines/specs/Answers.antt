@@ -39,14 +39,14 @@ outcome_of_effect (Befalls event) tag = record { tag = tag_after_event event tag
 outcome_of_effect Nothing tag = silent tag.state tag.body
 
 -- a reply with the extended preamble, or with the TRext of the Query
-abbrev pub preamble_word : Bool → List ℕ
-preamble_word true = codes "extended"
-preamble_word false = codes "plain"
+abbrev pub answer_preamble_word : Bool → List ℕ
+answer_preamble_word true = codes "extended"
+answer_preamble_word false = codes "plain"
 
 -- what was answered to the line of this number
 abbrev pub probe_answer_line : ℕ → Option Sent → List ℕ
 probe_answer_line number None = line_with (codes "answer" ∷ decimal number ∷ codes "-" ∷ [])
-probe_answer_line number (Some sent) = line_with (codes "answer" ∷ decimal number ∷ preamble_word sent.extended ∷ reply_line sent.reply ∷ [])
+probe_answer_line number (Some sent) = line_with (codes "answer" ∷ decimal number ∷ answer_preamble_word sent.extended ∷ reply_line sent.reply ∷ [])
 
 -- a cover, or none
 abbrev pub cover_word : Option ℕ → List ℕ

@@ -2,7 +2,7 @@
 use Rattle.std.specs.Prelude.{◌≡◌, ◌≢◌, ℕ, ◌<◌, ◌≤◌, List, [], ◌∷◌, ◌++◌, length}
 use Rattle.text_fields.specs.Lines.{fields_of}
 use Rattle.text_fields.specs.declared.fields_fault.FieldsFault.TheVariants as reasons
-use Rattle.checked_lines.specs.TextRules.{TextRules, Faulty, Whole, HasOutcomeFrom, IsFirstFault as HasFirstFault, IsText}
+use Rattle.checked_lines.specs.TextRules.{TextRules, Faulty, Whole, HasOutcomeFrom, IsFirstFault, IsText}
 use Rattle.checked_lines.specs.declared.fault.FaultReason.{FaultReason}
 use Rattle.checked_lines.specs.declared.fault.FaultReason.TheVariants.{Extra, End, Version, Word, Limit, Shape, Number, Pc}
 use Rattle.scenario_lines.specs.declared.fault.LineFault.TheVariants as line_faults
@@ -21,18 +21,18 @@ abbrev pub most_stimuli : ℕ
 most_stimuli = 70000
 
 -- where a text stands behind some of its lines
-pub data Standing : Type 0 where
+pub data ProbeStanding : Type 0 where
   -- before the first line
-  start : Standing
+  start : ProbeStanding
   -- behind the version
-  begun : Standing
+  begun : ProbeStanding
   -- behind the line of this tag, and lines that say that this is done to it
-  within : (tag : TagSpec) (said : List Stimulus) → Standing
+  within : (tag : TagSpec) (said : List Stimulus) → ProbeStanding
   -- ... and the end
-  ended : (tag : TagSpec) (said : List Stimulus) → Standing
+  ended : (tag : TagSpec) (said : List Stimulus) → ProbeStanding
 
 -- where it stands behind a line more
-abbrev pub after : TagSpec → List Stimulus → ProbeLine → Standing
+abbrev pub after : TagSpec → List Stimulus → ProbeLine → ProbeStanding
 after tag said (lines.Does stimulus) = within tag (said ++ stimulus ∷ [])
 after tag said lines.End = ended tag said
 
@@ -42,24 +42,24 @@ HasRoom count (lines.Does stimulus) = count < most_stimuli
 HasRoom count lines.End = Unit {0}
 
 -- the line says one that may stand behind these, and leads there
-pub record GoesOn (tag : TagSpec) (said : List Stimulus) (line : List ℕ) (to : Standing) : Type 0 where
+pub record GoesOn (tag : TagSpec) (said : List Stimulus) (line : List ℕ) (to : ProbeStanding) : Type 0 where
   pub says : ProbeLine
   pub spells : SpellsProbeLine (fields_of line) says
   pub room : HasRoom (length said) says
   pub leads : to ≡ after tag said says
 
 -- the line says the tag, and leads there
-pub record TellsTag (line : List ℕ) (to : Standing) : Type 0 where
+pub record TellsTag (line : List ℕ) (to : ProbeStanding) : Type 0 where
   pub tag : TagSpec
   pub spells : SpellsTag (fields_of line) tag
   pub leads : to ≡ within tag []
 
 -- the line may stand here, and leads there
-abbrev pub GoesTo : Standing → List ℕ → Standing → Type 0
-GoesTo start line to = (line ≡ version_line) × (to ≡ begun)
-GoesTo begun line to = TellsTag line to
-GoesTo (within tag said) line to = GoesOn tag said line to
-GoesTo (ended tag said) line to = ⊥
+abbrev pub ProbeGoesTo : ProbeStanding → List ℕ → ProbeStanding → Type 0
+ProbeGoesTo start line to = (line ≡ version_line) × (to ≡ begun)
+ProbeGoesTo begun line to = TellsTag line to
+ProbeGoesTo (within tag said) line to = GoesOn tag said line to
+ProbeGoesTo (ended tag said) line to = ⊥
 
 -- the first field is the one of a tag line
 pub record BeginsAsTag (fields : List (List ℕ)) : Type 0 where
@@ -75,39 +75,39 @@ IsFaultyTagLine fields Pc = (begins : BeginsAsTag fields) × MisreadsTag begins.
 IsFaultyTagLine fields fault = ⊥
 
 -- as many lines stand before it as may, and it isn't the end
-pub record IsTooMuch (count : ℕ) (fields : List (List ℕ)) : Type 0 where
+pub record IsStimulusTooMuch (count : ℕ) (fields : List (List ℕ)) : Type 0 where
   pub full : most_stimuli ≤ count
   pub needs : ¬ BeginsWithWord fields words.End
 
 -- the first reason for which a line is faulty that stands behind the tag and so many lines
-abbrev pub IsFaultyBehind : ℕ → List (List ℕ) → FaultReason → Type 0
-IsFaultyBehind count fields Word = IsFaultyProbeLine fields reasons.Word
-IsFaultyBehind count fields Limit = (¬ IsFaultyProbeLine fields reasons.Word) × IsTooMuch count fields
-IsFaultyBehind count fields Shape = (¬ IsTooMuch count fields) × IsFaultyProbeLine fields reasons.Shape
-IsFaultyBehind count fields Number = (¬ IsTooMuch count fields) × IsFaultyProbeLine fields reasons.Number
-IsFaultyBehind count fields fault = ⊥
+abbrev pub IsFaultyBehindTag : ℕ → List (List ℕ) → FaultReason → Type 0
+IsFaultyBehindTag count fields Word = IsFaultyProbeLine fields reasons.Word
+IsFaultyBehindTag count fields Limit = (¬ IsFaultyProbeLine fields reasons.Word) × IsStimulusTooMuch count fields
+IsFaultyBehindTag count fields Shape = (¬ IsStimulusTooMuch count fields) × IsFaultyProbeLine fields reasons.Shape
+IsFaultyBehindTag count fields Number = (¬ IsStimulusTooMuch count fields) × IsFaultyProbeLine fields reasons.Number
+IsFaultyBehindTag count fields fault = ⊥
 
 -- the first reason for which a line with its line feed is faulty
-abbrev pub IsFaultyHere : Standing → List ℕ → FaultReason → Type 0
-IsFaultyHere start line fault = (fault ≡ Version) × (line ≢ version_line)
-IsFaultyHere begun line fault = IsFaultyTagLine (fields_of line) fault
-IsFaultyHere (within tag said) line fault = IsFaultyBehind (length said) (fields_of line) fault
+abbrev pub IsFaultyInProbe : ProbeStanding → List ℕ → FaultReason → Type 0
+IsFaultyInProbe start line fault = (fault ≡ Version) × (line ≢ version_line)
+IsFaultyInProbe begun line fault = IsFaultyTagLine (fields_of line) fault
+IsFaultyInProbe (within tag said) line fault = IsFaultyBehindTag (length said) (fields_of line) fault
 -- behind the end nothing may stand
-IsFaultyHere (ended tag said) line fault = fault ≡ Extra
+IsFaultyInProbe (ended tag said) line fault = fault ≡ Extra
 
 -- a text has an end
-abbrev pub MayEnd : Standing → Type 0
+abbrev pub MayEnd : ProbeStanding → Type 0
 MayEnd (ended tag said) = Unit {0}
 MayEnd standing = ⊥
 
 -- before the end a line is needed, and behind it there is none
-abbrev pub unended_reason : Standing → FaultReason
+abbrev pub unended_reason : ProbeStanding → FaultReason
 unended_reason (ended tag said) = Extra
 unended_reason standing = End
 
 -- the rules of the texts of probes
-abbrev pub probe_rules : TextRules Standing FaultReason
-probe_rules = record { start = start; leads = GoesTo; is_faulty = IsFaultyHere; may_end = MayEnd; unended = unended_reason }
+abbrev pub probe_rules : TextRules ProbeStanding FaultReason
+probe_rules = record { start = start; leads = ProbeGoesTo; is_faulty = IsFaultyInProbe; may_end = MayEnd; unended = unended_reason }
 
 -- the bytes are the text of a probe of this tag, to which this is done
 abbrev pub IsProbe : (bytes : List ℕ) → TagSpec → List Stimulus → Type 0
@@ -120,8 +120,8 @@ pub record IsProbeText (bytes : List ℕ) : Type 0 where
   pub is : IsProbe bytes tag said
 
 -- the first faulty line of the bytes, counted from 1, with its first reason
-abbrev pub IsFirstFault : List ℕ → ℕ → FaultReason → Type 0
-IsFirstFault bytes number fault = HasFirstFault probe_rules bytes number fault
+abbrev pub IsFirstProbeFault : List ℕ → ℕ → FaultReason → Type 0
+IsFirstProbeFault bytes number fault = IsFirstFault probe_rules bytes number fault
 
 -- of the lines behind that of the tag, whatever that says, the first faulty one
 abbrev pub IsFirstFaultBehind : List (List ℕ) → ℕ → FaultReason → Type 0

@@ -8,7 +8,7 @@ ghost use Rattle.tag_machine.specs.TagValue.{TagValue};
 ghost use Rattle.probe_lines.specs.Said.{Stimulus, StimulusEffect};
 ghost use Rattle.probe_lines.specs.Answers.{HasEffect, TellsEffects};
 ghost use Rattle.probe_lines.specs.laws.LineLaws.{ProbeLineLaws, TagLineLaws};
-ghost use Rattle.probe_lines.specs.ProbeText.{IsFirstFault, IsProbe};
+ghost use Rattle.probe_lines.specs.ProbeText.{IsFirstProbeFault, IsProbe};
 
 use command_grammar::spelling_laws;
 use command_text::{
@@ -61,7 +61,7 @@ pub fn probes_are_told_apart()
 /// The text of a probe has no faulty line.
 pub fn probe_texts_are_not_faulty()
     ensures { (bytes : List ℕ) (tag : TagSpec) (said : List Stimulus) (number : ℕ)
-        (fault : FaultReason) → IsProbe bytes tag said → IsFirstFault bytes number fault → ⊥ }
+        (fault : FaultReason) → IsProbe bytes tag said → IsFirstProbeFault bytes number fault → ⊥ }
 {
     line_laws();
 }
@@ -69,7 +69,7 @@ pub fn probe_texts_are_not_faulty()
 /// A text has at most one first faulty line, which has one first reason.
 pub fn probe_texts_have_one_fault()
     ensures { (bytes : List ℕ) (one other : ℕ) (fault reason : FaultReason)
-        → IsFirstFault bytes one fault → IsFirstFault bytes other reason
+        → IsFirstProbeFault bytes one fault → IsFirstProbeFault bytes other reason
         → (one ≡ other) × (fault ≡ reason) }
 {
     line_laws();

@@ -19,7 +19,8 @@ use text_fields::{push_named_number, push_next_name, push_next_number, push_next
 
 /// Writes that no answer came to the line of this number.
 pub(crate) fn push_silence(text: &mut String, number: u32) -> Result<(), OutOfMemory>
-    ensures { OnOk result (string_bytes text.new ≡ string_bytes text.old ++ (line_with (codes "answer" ∷ decimal number ∷ codes "-" ∷ []) ++ line_feed ∷ [])) }
+    ensures { OnOk result (string_bytes text.new ≡ string_bytes text.old
+        ++ (line_with (codes "answer" ∷ decimal number ∷ codes "-" ∷ []) ++ line_feed ∷ [])) }
 {
     push_named_number(text, "answer", number)?;
     text.push_str(" -\n")
@@ -33,7 +34,8 @@ fn push_sent(
     reply: &Reply,
 ) -> Result<(), OutOfMemory>
     ensures { OnOk result (string_bytes text.new ≡ string_bytes text.old
-        ++ (line_with (codes "answer" ∷ decimal number ∷ preamble.now ∷ reply_line reply.now ∷ []) ++ line_feed ∷ [])) }
+        ++ (line_with (codes "answer" ∷ decimal number ∷ preamble.now ∷ reply_line reply.now ∷ [])
+        ++ line_feed ∷ [])) }
 {
     push_named_number(text, "answer", number)?;
     push_next_name(text, preamble)?;

@@ -3,7 +3,7 @@ ghost use Rattle.std.specs.Prelude.{◌≡◌, ◌↔◌, List, IfOk, IfErr, IsT
 ghost use Rattle.scenario_lines.specs.TagForm.{IsTag};
 ghost use Rattle.probe_lines.specs.Said.{Stimulus};
 ghost use Rattle.probe_lines.specs.ProbeLine.{version_line};
-ghost use Rattle.probe_lines.specs.ProbeText.{AreStimuli, IsFirstFault, IsProbe};
+ghost use Rattle.probe_lines.specs.ProbeText.{AreStimuli, IsFirstProbeFault, IsProbe};
 
 use crate::reading::read_tag_line;
 use crate::stimuli::Stimuli;
@@ -35,7 +35,7 @@ pub fn read_probe(text: &[u8]) -> Result<Probe<'_>, FaultyLine>
         (λ probe. (said : List Stimulus) × IsProbe text.now probe.tag said
         × AreStimuli probe.stimuli said) }
     ensures tag { IfOk result (λ probe. IsTag probe.tag) }
-    ensures refused { IfErr result (λ fault. IsFirstFault text.now fault.line fault.reason) }
+    ensures refused { IfErr result (λ fault. IsFirstProbeFault text.now fault.line fault.reason) }
 {
     let Some((line, behind)) = split_line(text) else {
         return Err(FaultyLine {

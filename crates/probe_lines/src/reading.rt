@@ -7,7 +7,7 @@ ghost use Rattle.probe_lines.specs.Said.{probe_line_with};
 ghost use Rattle.probe_lines.specs.ProbeLine.{SpellsProbeLine, SpellsTag, line_word, most_line_bits};
 ghost use Rattle.scenario_lines.specs.declared.first_fields.Keyword.{Keyword};
 ghost use Rattle.scenario_lines.specs.Names.{keyword_text};
-ghost use Rattle.probe_lines.specs.ProbeText.{BeginsAsTag, HasRoom, IsFaultyBehind, IsFaultyTagLine, IsTooMuch, most_stimuli};
+ghost use Rattle.probe_lines.specs.ProbeText.{BeginsAsTag, HasRoom, IsFaultyBehindTag, IsFaultyTagLine, IsStimulusTooMuch, most_stimuli};
 
 use crate::events::read_event;
 use crate::laws::line_laws;
@@ -121,7 +121,7 @@ fn begins_with_end(line: &[u8]) -> bool
 
 /// Whether a line is one too many behind so many.
 fn is_too_much(line: &[u8], count: u32) -> bool
-    ensures yes { IsTrue result → IsTooMuch count (fields_of line.now) }
+    ensures yes { IsTrue result → IsStimulusTooMuch count (fields_of line.now) }
     ensures no { IsFalse result → (count < most_stimuli)
         ⊎ BeginsWithWord (fields_of line.now) LineWord.End }
 {
@@ -146,7 +146,7 @@ pub fn read_behind<'a>(
     ensures ok { IfOk result
         (λ said. SpellsProbeLine (fields_of line.now) (probe_line_with said command.new)
         × HasRoom count (probe_line_with said command.new)) }
-    ensures refused { IfErr result (IsFaultyBehind count (fields_of line.now)) }
+    ensures refused { IfErr result (IsFaultyBehindTag count (fields_of line.now)) }
 {
     // By these laws a line says something or is faulty for one reason.
     line_laws();

@@ -47,7 +47,14 @@ impl RoundSpec {
         limit: u32,
     ) -> Option<RoundSpec>
         ensures spec { IfSome result
-            (λ spec. spec ≡ record { sel = sel; session = session; target = target; q = q; rule = rule; limit = limit }) }
+            (λ spec. spec ≡ record {
+              sel = sel;
+              session = session;
+              target = target;
+              q = q;
+              rule = rule;
+              limit = limit;
+            }) }
         ensures legal { IfSome result IsLegalSpec }
         ensures none { IsNone result ↔ ¬ (IsLegalRule rule × IsLimit limit) }
     {

@@ -81,7 +81,8 @@ fn behind<'a>(text: &'a [u8], front: &[u8]) -> Option<&'a [u8]>
 fn count_and_handle(text: &[u8]) -> Option<(Count1, u16)>
     ensures value { IfSome result (λ it. text.now ≡ decimal it.0 ++ (codes "-" ++ hex_word it.1)) }
     ensures only { (count handle : ℕ) → 1 ≤ count → count ≤ 255 → handle < 2 ^ 16
-        → text.now ≡ decimal count ++ (codes "-" ++ hex_word handle) → result ≡ Some (count, handle) }
+        → text.now ≡ decimal count ++ (codes "-" ++ hex_word handle)
+        → result ≡ Some (count, handle) }
 {
     let (count, tail) = split_tail(text)?;
     Some((word_count(count)?, handle_behind(tail, b"-")?))

@@ -38,7 +38,8 @@ fn push_front(text: &mut String, front: &str, handle: u16) -> Result<(), OutOfMe
 
 /// Writes the field `words-N-HHHH`.
 fn push_counted(text: &mut String, count: Count1, handle: u16) -> Result<(), OutOfMemory>
-    ensures { OnOk result (string_bytes text.new ≡ string_bytes text.old ++ space ∷ (codes "words-" ++ (decimal count ++ (codes "-" ++ hex_word handle)))) }
+    ensures { OnOk result (string_bytes text.new ≡ string_bytes text.old
+        ++ space ∷ (codes "words-" ++ (decimal count ++ (codes "-" ++ hex_word handle)))) }
 {
     push_next_name(text, "words-")?;
     push_number(text, u32::from(count.get()))?;

@@ -98,7 +98,8 @@ fn push_next_given(text: &mut String, given: &Gave) -> Result<(), OutOfMemory>
 /// Writes `given E silence`, `given E whole TAG`, `given E broken TAG P` or `given E raw`: what the channel gave.
 pub fn push_given_line(text: &mut String, exchange: u64, given: &Gave) -> Result<(), OutOfMemory>
     ensures { OnOk result (string_bytes text.new ≡ string_bytes text.old
-        ++ (line_with (codes "given" ∷ decimal exchange ∷ given_fields given.now) ++ line_feed ∷ [])) }
+        ++ (line_with (codes "given" ∷ decimal exchange ∷ given_fields given.now)
+        ++ line_feed ∷ [])) }
 {
     push_numbered(text, "given", exchange)?;
     push_next_given(text, given)?;

@@ -94,7 +94,8 @@ fn push_standing(
     locks: &Locks,
 ) -> Result<(), OutOfMemory>
     ensures { OnOk result (string_bytes text.new ≡ string_bytes text.old
-        ++ line_with (codes "tag" ∷ decimal number ∷ state_word state ∷ flags_word flags.now ∷ locks_text locks.now ∷ [])) }
+        ++ line_with (codes "tag" ∷ decimal number ∷ state_word state ∷ flags_word flags.now
+        ∷ locks_text locks.now ∷ [])) }
 {
     text.push_str("tag")?;
     push_next_number(text, number)?;

@@ -33,20 +33,20 @@ use Rattle.reply_text.specs.ReplyText.{expect_word, IsExpect, IsReplyForm}
 use Rattle.reply_text.proofs.FieldTexts.{expect_word_is_field_text}
 use Rattle.decode_lines.specs.Answer.{Answer, IsLineAnswer, line_of_answer, streamed, framed, commanded, replied, heard}
 use Rattle.decode_lines.specs.DecodeLines.{Decodes}
-use Rattle.decode_lines.specs.Request.{AsksBehind, request_word}
+use Rattle.decode_lines.specs.Request.{AsksToDecodeBehind, request_word}
 use Rattle.decode_lines.specs.declared.request.RequestKind.{RequestKind}
 use Rattle.decode_lines.specs.declared.request.RequestKind.TheVariants as kinds
 use Rattle.decode_lines.specs.declared.request.Request.{Request as DecodeRequest}
 use Rattle.decode_lines.specs.declared.request.Request.TheVariants as decode
 use Rattle.encode_lines.specs.EncodeLines.{Encodes, written_line}
-use Rattle.encode_lines.specs.Request.{AsksForRequest, IsWithinLimits}
+use Rattle.encode_lines.specs.Request.{AsksToEncode, IsWithinEncodeLimits}
 use Rattle.encode_lines.specs.Written.{AreOfReply, AreWritten, IsAllowedReply, link_of, refusal_word, refused_fields, reply_bits}
 use Rattle.encode_lines.specs.declared.request.Request.{Request}
 use Rattle.encode_lines.specs.declared.request.Request.TheVariants.{Stream, Pie, Command, Reply as ReplyLine, Heard}
 use Rattle.round_trip.specs.ReadBack.{ComesBack, IsReadBack}
 
 -- a line that asks `decode` for something, with its answer
-decodes_line : (kind : RequestKind) (others : List (List ℕ)) (request : DecodeRequest) (answer : Answer) → Texts (request_word kind ∷ others) → AsksBehind kind others request
+decodes_line : (kind : RequestKind) (others : List (List ℕ)) (request : DecodeRequest) (answer : Answer) → Texts (request_word kind ∷ others) → AsksToDecodeBehind kind others request
     → IsLineAnswer request answer → Decodes (written_line (request_word kind ∷ others)) (line_of_answer answer)
 decodes_line kind others request answer texts asks right =
     let fields = request_word kind ∷ others in
@@ -183,7 +183,7 @@ of_reply : (expect : Expect) (reply : Reply) (written fields : List (List ℕ)) 
 of_reply expect reply written fields text (inl (allowed, same)) back = inr (subst (λ f. Decodes (written_line f) text) (sym same) (back allowed))
 of_reply expect reply written fields text (inr (none, same)) back = inl (codes "reply", same)
 
-request_back : WrittenLaws → (request : Request) (fields : List (List ℕ)) → IsWithinLimits request → AreWritten request fields → IsReadBack request fields
+request_back : WrittenLaws → (request : Request) (fields : List (List ℕ)) → IsWithinEncodeLimits request → AreWritten request fields → IsReadBack request fields
 request_back laws (Stream code trext bits) fields within written =
     inr (subst (λ f. Decodes (written_line f) (line_of_answer (streamed (Ok bits)))) (sym written) (stream_back code trext bits within))
 request_back laws (Pie tari rtcal trcal pw lead bits) fields within (inl wave) =
@@ -196,11 +196,11 @@ request_back laws (Command command) fields within written =
 request_back laws (ReplyLine expect reply) fields within written = of_reply expect reply _ fields _ written (reply_back expect reply within.0 within.1)
 request_back laws (Heard code trext expect reply) fields within written = of_reply expect reply _ fields _ written (heard_back code trext expect reply within.0 within.1)
 
-pub line_back : WrittenLaws → (line : List ℕ) (request : Request) (fields : List (List ℕ)) → AsksForRequest line request → AreWritten request fields → IsReadBack request fields
+pub line_back : WrittenLaws → (line : List ℕ) (request : Request) (fields : List (List ℕ)) → AsksToEncode line request → AreWritten request fields → IsReadBack request fields
 line_back laws line request fields asks written = request_back laws request fields asks.asks.limits written
 
 -- ... and so are all
-all_back : WrittenLaws → (lines : List (List ℕ)) (requests : List Request) (written : List (List (List ℕ))) → AllZip AsksForRequest lines requests → AllZip AreWritten requests written
+all_back : WrittenLaws → (lines : List (List ℕ)) (requests : List Request) (written : List (List (List ℕ))) → AllZip AsksToEncode lines requests → AllZip AreWritten requests written
     → AllZip IsReadBack requests written
 all_back laws [] [] [] asks each = tt
 all_back laws [] [] (w ∷ written) asks each = each

@@ -61,5 +61,5 @@ abbrev pub scenario_text : Scenario → List ℕ
 scenario_text scenario = text_with (map line_text (scenario_lines scenario))
 
 -- the bytes are the text of a scenario that keeps the limits
-abbrev pub IsText : List ℕ → Type 0
-IsText bytes = (scenario : Scenario) × IsScenario scenario × (bytes ≡ scenario_text scenario)
+abbrev pub IsScenarioText : List ℕ → Type 0
+IsScenarioText bytes = (scenario : Scenario) × IsScenario scenario × (bytes ≡ scenario_text scenario)

@@ -29,7 +29,7 @@ use Rattle.q_round.specs.declared.rule.Rule.{Rule}
 use Rattle.q_round.specs.declared.rule.Rule.TheVariants as rules
 use Rattle.scenario_lines.specs.declared.version.Version.{Version}
 use Rattle.scenario_lines.specs.declared.version.Version.TheVariants.{One, Two}
-use Rattle.scenario_lines.specs.Names.{HasRuleText, rule_text, sel_text, several_text, version_text}
+use Rattle.scenario_lines.specs.Names.{HasRuleText, rule_text, sel_text, several_text, version_digit}
 use Rattle.text_fields.specs.WordLists.{IsWordList}
 use Rattle.value_text.specs.ValueText.{locks_text, password_text}
 use Rattle.scenario_lines.specs.Spelling.{flag_text}
@@ -150,11 +150,11 @@ sel_decided field =
     tried sels.All00 (λ same. cc) (λ all. tried sels.NotSl (λ same. cc) (λ nsl. tried sels.Sl (λ same. cc) (λ sl.
     inr (λ found. no_sel field all nsl sl found.0 found.1 found.2))))
 
-no_version : (field : List ℕ) → field ≢ version_text One → field ≢ version_text Two → (version : Version) → field ≡ version_text version → ⊥
+no_version : (field : List ℕ) → field ≢ version_digit One → field ≢ version_digit Two → (version : Version) → field ≡ version_digit version → ⊥
 no_version field first second One is = first is
 no_version field first second Two is = second is
 
-pub version_decided : (field : List ℕ) → Decided (Spelled version_text Any field)
+pub version_decided : (field : List ℕ) → Decided (Spelled version_digit Any field)
 version_decided field = tried One tt (λ first. tried Two tt (λ second. inr (λ found. no_version field first second found.0 found.2)))
 
 no_several : (field : List ℕ) → field ≢ several_text severals.Break → field ≢ several_text severals.Capture → (several : Several)

@@ -24,7 +24,7 @@ use Rattle.scenario_lines.specs.declared.first_fields.OpKind.{OpKind}
 use Rattle.scenario_lines.specs.declared.first_fields.OpKind.TheVariants as op_kinds
 use Rattle.scenario_lines.specs.declared.first_fields.AirKind.{AirKind}
 use Rattle.scenario_lines.specs.declared.first_fields.AirKind.TheVariants as airs
-use Rattle.scenario_lines.specs.Names.{HasRuleText, air_word, event_word, keyword_text, op_word, rule_text, sel_text, several_text, version_text}
+use Rattle.scenario_lines.specs.Names.{HasRuleText, air_word, event_word, keyword_text, op_word, rule_text, sel_text, several_text, version_digit}
 use Rattle.value_text.specs.ValueText.{locks_text, pair_text, password_text}
 
 pub number_text : (n : ℕ) → n < 2 ^ 32 → IsFieldText (decimal n)
@@ -51,7 +51,7 @@ keyword_text_is keywords.Only = search (arith, before, IsFieldText-one) depth 12
 keyword_text_is keywords.Op = search (arith, before, IsFieldText-one) depth 12
 keyword_text_is keywords.End = search (arith, before, IsFieldText-one) depth 12
 
-pub version_text_is : (version : Version) → IsFieldText (version_text version)
+pub version_text_is : (version : Version) → IsFieldText (version_digit version)
 version_text_is One = search (arith, before, IsFieldText-one) depth 12
 version_text_is Two = search (arith, before, IsFieldText-one) depth 12
 

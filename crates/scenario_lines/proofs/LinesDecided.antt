@@ -29,7 +29,7 @@ use Rattle.scenario_lines.specs.declared.line.Happening.{Happening}
 use Rattle.scenario_lines.specs.declared.line.Happening.TheVariants as happenings
 use Rattle.scenario_lines.specs.declared.line.Line.{Line}
 use Rattle.scenario_lines.specs.declared.line.Line.TheVariants as lines
-use Rattle.scenario_lines.specs.Names.{air_word, event_kind, event_word, op_word, several_text, version_text}
+use Rattle.scenario_lines.specs.Names.{air_word, event_kind, event_word, op_word, several_text, version_digit}
 use Rattle.text_fields.specs.NamedFields.{SpellBehind, Vocabulary, spelled_fields}
 use Rattle.text_fields.specs.WordLists.{IsWordList}
 use Rattle.value_text.specs.ValueText.{password_text}
@@ -483,7 +483,7 @@ air_decided = then (number 1 1000000) happening_decided
 abbrev pub FormedBehind : Keyword → List (List ℕ) → Type 0
 FormedBehind first others = (line : Line) × HasForm line × (keyword_of line ≡ first) × (others ≡ other_fields line)
 
-version_there : (others : List (List ℕ)) → FormedBehind keywords.Version others → Spelled (with version_text nothing) (Both Any Any) others
+version_there : (others : List (List ℕ)) → FormedBehind keywords.Version others → Spelled (with version_digit nothing) (Both Any Any) others
 version_there others (lines.Version version, form, same, is) = ((version, tt), (tt, tt), is)
 version_there others (line, form, same, is) = cc
 

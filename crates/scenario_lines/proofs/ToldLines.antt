@@ -20,7 +20,7 @@ use Rattle.scenario_lines.specs.declared.line.Happening.{Happening}
 use Rattle.scenario_lines.specs.declared.line.Happening.TheVariants as happenings
 use Rattle.scenario_lines.specs.declared.line.Line.{Line}
 use Rattle.scenario_lines.specs.declared.line.Line.TheVariants as lines
-use Rattle.scenario_lines.specs.Names.{air_kind, air_word, event_kind, event_word, op_kind, op_word, keyword_text, several_text, version_text}
+use Rattle.scenario_lines.specs.Names.{air_kind, air_word, event_kind, event_word, op_kind, op_word, keyword_text, several_text, version_digit}
 use Rattle.scenario_lines.specs.TagForm.{IsTagForm}
 use Rattle.scenario_lines.specs.LineForm.{HasForm, IsEvent, IsHappening, IsLinkForm, IsRound, IsSelection}
 use Rattle.scenario_lines.specs.LineFaults.{SpellsLine}
@@ -178,7 +178,7 @@ op_told one other is is' kind same = cc
 -- the fields behind one keyword spell at most one line
 behind_told : (one other : Line) → HasForm one → HasForm other → keyword_of one ≡ keyword_of other → other_fields one ≡ other_fields other → one ≡ other
 behind_told (lines.Version version) (lines.Version version') form form' keyword same =
-    ap lines.Version (version_told version version' (same_fields (version_text version) (version_text version') [] [] same).0)
+    ap lines.Version (version_told version version' (same_fields (version_digit version) (version_digit version') [] [] same).0)
 behind_told (lines.Link link) (lines.Link link') form form' keyword same = ap lines.Link (link_told link link' form form' same)
 behind_told (lines.Default several) (lines.Default several') form form' keyword same =
     ap lines.Default (several_told several several' (same_fields (several_text several) (several_text several') [] [] same).0)

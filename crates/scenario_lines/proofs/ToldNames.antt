@@ -21,7 +21,7 @@ use Rattle.scenario_lines.specs.declared.first_fields.OpKind.{OpKind}
 use Rattle.scenario_lines.specs.declared.first_fields.OpKind.TheVariants as op_kinds
 use Rattle.scenario_lines.specs.declared.first_fields.AirKind.{AirKind}
 use Rattle.scenario_lines.specs.declared.first_fields.AirKind.TheVariants as airs
-use Rattle.scenario_lines.specs.Names.{HasRuleText, air_word, event_word, keyword_text, op_word, rule_text, sel_text, several_text, version_text}
+use Rattle.scenario_lines.specs.Names.{HasRuleText, air_word, event_word, keyword_text, op_word, rule_text, sel_text, several_text, version_digit}
 
 -- the letter at a place of two equal texts
 letter : (place : ℕ) (one other : List ℕ) → one ≡ other → get_or one place 0 ≡ get_or other place 0
@@ -43,7 +43,7 @@ keyword_told keywords.Op keywords.Op same = refl
 keyword_told keywords.End keywords.End same = refl
 keyword_told one other same = absurd (omega (arith, letter 0 _ _ same, letter 1 _ _ same))
 
-pub version_told : (one other : Version) → version_text one ≡ version_text other → one ≡ other
+pub version_told : (one other : Version) → version_digit one ≡ version_digit other → one ≡ other
 version_told One One same = refl
 version_told Two Two same = refl
 version_told one other same = absurd (omega (arith, letter 0 _ _ same))

@@ -42,9 +42,9 @@ keyword_text keywords.Op = codes "op"
 keyword_text keywords.End = codes "end"
 
 -- the version of the text
-abbrev pub version_text : Version → List ℕ
-version_text One = codes "1"
-version_text Two = codes "2"
+abbrev pub version_digit : Version → List ℕ
+version_digit One = codes "1"
+version_digit Two = codes "2"
 
 -- what the channel gives where several tags reply and nothing is chosen
 abbrev pub several_text : Several → List ℕ

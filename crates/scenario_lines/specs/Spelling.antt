@@ -27,7 +27,7 @@ use Rattle.scenario_lines.specs.declared.line.Happening.TheVariants as happening
 use Rattle.scenario_lines.specs.declared.line.Selection.{Selection}
 use Rattle.scenario_lines.specs.declared.line.Line.{Line}
 use Rattle.scenario_lines.specs.declared.line.Line.TheVariants as lines
-use Rattle.scenario_lines.specs.Names.{keyword_text, several_text, version_text, event_word, event_kind, event_field_count, air_word, air_kind, air_field_count, op_word, op_kind, op_field_count, rule_text, sel_text}
+use Rattle.scenario_lines.specs.Names.{keyword_text, several_text, version_digit, event_word, event_kind, event_field_count, air_word, air_kind, air_field_count, op_word, op_kind, op_field_count, rule_text, sel_text}
 
 -- a flag, as one binary digit
 abbrev pub flag_text : Bool → List ℕ
@@ -108,7 +108,7 @@ keyword_of lines.End = keywords.End
 
 -- the fields behind the first
 abbrev pub other_fields : Line → List (List ℕ)
-other_fields (lines.Version version) = version_text version ∷ []
+other_fields (lines.Version version) = version_digit version ∷ []
 other_fields (lines.Link link) = link_fields link
 other_fields (lines.Default several) = several_text several ∷ []
 other_fields (lines.Tag tag) = tag_spec_fields tag

@@ -1,7 +1,7 @@
 //! The names in a line, read; and written where one stands for a value of several.
 ghost use Rattle.std.specs.Prelude.{◌≡◌, ◌≢◌, IfSome};
 ghost use Rattle.command_text.specs.CommandText.{flag_word};
-ghost use Rattle.scenario_lines.specs.Names.{air_word, event_kind, event_word, keyword_text, op_word, sel_text, several_text, version_text};
+ghost use Rattle.scenario_lines.specs.Names.{air_word, event_kind, event_word, keyword_text, op_word, sel_text, several_text, version_digit};
 
 use crate::{AirKind, EventKind, Keyword, OpKind, Version};
 use air_events::{Event, Several};
@@ -33,7 +33,7 @@ pub(crate) fn keyword_named(field: &[u8]) -> Option<Keyword>
 
 /// The name of a version.
 pub(crate) fn version_name(version: Version) -> &'static str
-    ensures { result.now ≡ version_text version }
+    ensures { result.now ≡ version_digit version }
 {
     match version {
         Version::One => "1",

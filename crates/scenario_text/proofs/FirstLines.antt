@@ -9,7 +9,7 @@ use Rattle.scenario.specs.ScenarioText.{scenario_lines}
 use Rattle.scenario_text.specs.declared.fault.Fault.{Fault}
 use Rattle.scenario_text.specs.Beginnings.{BeginsScenario, BeginsText, FirstLinesBegin}
 use Rattle.scenario_text.specs.Draft.{scenario_of}
-use Rattle.scenario_text.specs.Faults.{IsFirstFault, scenario_rules}
+use Rattle.scenario_text.specs.Faults.{IsFirstScenarioFault, scenario_rules}
 use Rattle.scenario_text.specs.Standing.{LinesLead, ScenarioStanding, ended, start}
 use Rattle.scenario_text.specs.laws.LineLaws.{LineLaws}
 use Rattle.scenario_text.proofs.Endings.{can_end}
@@ -52,7 +52,7 @@ lines_there : (bytes : List ℕ) (number : ℕ) (fault : Fault) (first : FirstSt
 lines_there bytes number fault first = ap length first.cut ∙ length-append first.before (first.line ∷ first.behind) ∙ omega arith
 
 -- the lines before the faulty one begin a scenario's text
-pub lines_before : (bytes : List ℕ) (number : ℕ) (fault : Fault) (below : ℕ) → IsFirstFault bytes number fault → below < number → FirstLinesBegin bytes below
+pub lines_before : (bytes : List ℕ) (number : ℕ) (fault : Fault) (below : ℕ) → IsFirstScenarioFault bytes number fault → below < number → FirstLinesBegin bytes below
 lines_before bytes number fault below is less =
     let first : FirstStop bytes number fault = fault_stops scenario_rules start 1 number fault (lines_of bytes) is in
     let few : below ≤ length first.before = omega (arith, first.place) in
@@ -72,7 +72,7 @@ upto_fault bytes number fault first =
     ∙ take-append-le number upto first.behind (omega (arith, count)) ∙ take_all number upto (omega (arith, count))
 
 -- the lines up to the faulty one begin no scenario's text, or the faulty one has no line feed
-pub lines_upto : LineLaws → (bytes : List ℕ) (number : ℕ) (fault : Fault) → IsFirstFault bytes number fault → ¬ FirstLinesBegin bytes number
+pub lines_upto : LineLaws → (bytes : List ℕ) (number : ℕ) (fault : Fault) → IsFirstScenarioFault bytes number fault → ¬ FirstLinesBegin bytes number
 lines_upto laws bytes number fault is = λ upto.
     let first : FirstStop bytes number fault = fault_stops scenario_rules start 1 number fault (lines_of bytes) is in
     let some : first.behind ≢ [] = λ none. omega (arith, upto.ended, first.place, lines_there bytes number fault first, ap length none) in

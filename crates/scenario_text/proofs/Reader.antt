@@ -21,7 +21,7 @@ use Rattle.scenario.specs.Limits.{IsCount, IsGroup, IsStep, most_tags_of}
 use Rattle.scenario.specs.ScenarioText.{group_line, only_lines, step_lines}
 use Rattle.scenario_text.specs.AirLines.{entries_of}
 use Rattle.scenario_text.specs.Draft.{DraftValue, tag_count}
-use Rattle.scenario_text.specs.Faults.{IsFirstFault, IsRefused, LeadsBy, ScenarioMayEnd, scenario_rules}
+use Rattle.scenario_text.specs.Faults.{IsFirstScenarioFault, IsRefused, LeadsBy, ScenarioMayEnd, scenario_rules}
 use Rattle.scenario_text.specs.Standing.{ScenarioStanding, begun, ended, linked, start, within}
 use Rattle.scenario_text.specs.StepLines.{steps_of}
 use Rattle.scenario_text.specs.Taking.{IsNotTaken, IsUnfinished, SaysScenario, StandsFor}
@@ -133,7 +133,7 @@ read_more text rest from to number next read by =
 pub line_refused : (text rest : List ℕ) (standing : ScenarioStanding) (number : ℕ) (next : NextLine (lines_of rest)) (fault : ScenarioFault) → IsRead text rest standing number
     → IsNotTaken standing next.line number fault → IsRefused text fault
 line_refused text rest standing number next (faults.Line at fault) read not_taken =
-    subst (λ n. IsFirstFault text n fault) (sym not_taken.0)
+    subst (λ n. IsFirstScenarioFault text n fault) (sym not_taken.0)
     (fault_read scenario_rules start 1 (lines_of text) standing number (lines_of rest) next fault read.so_far not_taken.1)
 line_refused text rest standing number next faults.OutOfMemory read not_taken = tt
 
@@ -141,8 +141,8 @@ line_refused text rest standing number next faults.OutOfMemory read not_taken = 
 pub end_refused : (text rest : List ℕ) (standing : ScenarioStanding) (number : ℕ) (fault : ScenarioFault) → IsRead text rest standing number → lines_of rest ≡ rest ∷ []
     → IsUnfinished standing rest number fault → IsRefused text fault
 end_refused text rest standing number (faults.Line at fault) read last unfinished =
-    subst (λ n. IsFirstFault text n fault) (sym unfinished.0)
-    (subst (λ (f : Fault). IsFirstFault text number f) (sym unfinished.1)
+    subst (λ n. IsFirstScenarioFault text n fault) (sym unfinished.0)
+    (subst (λ (f : Fault). IsFirstScenarioFault text number f) (sym unfinished.1)
     (unended_read scenario_rules start 1 (lines_of text) standing number rest read.so_far last unfinished.2))
 end_refused text rest standing number faults.OutOfMemory read last unfinished = tt
 

@@ -13,7 +13,7 @@ use Rattle.scenario_text.specs.declared.fault.Fault.{Fault}
 use Rattle.scenario_text.specs.declared.fault.Fault.TheVariants.{Line as LineReason, Limit, Copies, Tag, Order, Twice}
 use Rattle.scenario_text.specs.AirLines.{ChoosesOnce, KeepsOrder}
 use Rattle.scenario_text.specs.Draft.{DraftValue, tag_count}
-use Rattle.scenario_text.specs.Faults.{Disagrees, DisagreesAt, DisagreesBy, FailsFirst, HasPlace, IsFaultyAt, IsFaultyHere, LeadsBy, MayBegin, SaysNothing, scenario_rules}
+use Rattle.scenario_text.specs.Faults.{Disagrees, DisagreesAt, DisagreesBy, FailsFirst, HasPlace, IsFaultyAt, IsFaultyInScenario, LeadsBy, MayBegin, SaysNothing, scenario_rules}
 use Rattle.scenario_text.specs.Standing.{Agrees, AgreesWith, IsOfVersion, MayCopy, MayStand, MayStandNext, NamesTag, ScenarioStanding, ended, standing_after, start, within}
 use Rattle.scenario_text.specs.laws.LineLaws.{LineLaws}
 use Rattle.scenario_text.proofs.Texts.{text_spelled}
@@ -54,7 +54,7 @@ one_reason_at laws standing fields =
     fails_once (MayBegin standing fields) (LineReason line_faults.Word) _
     (λ begins. fails_once (HasPlace standing fields) Limit _ (λ place. one_unfit laws standing fields))
 
-one_reason : LineLaws → (standing : ScenarioStanding) (line : List ℕ) → Once (IsFaultyHere standing line)
+one_reason : LineLaws → (standing : ScenarioStanding) (line : List ℕ) → Once (IsFaultyInScenario standing line)
 one_reason laws start line fault reason one other = one.0 ∙ sym other.0
 one_reason laws (ended draft) line fault reason one other = one ∙ sym other
 one_reason laws standing line fault reason one other = one_reason_at laws standing (fields_of line) fault reason one other
@@ -90,7 +90,7 @@ version_alone : (said : Line) → MayStand start (keyword_of said) → (version 
 version_alone (lines.Version version) stands = (version, refl)
 version_alone line stands = absurd stands
 
-not_faulty : LineLaws → (from to : ScenarioStanding) (line : List ℕ) (fault : Fault) → LeadsBy from line to → IsFaultyHere from line fault → ⊥
+not_faulty : LineLaws → (from to : ScenarioStanding) (line : List ℕ) (fault : Fault) → LeadsBy from line to → IsFaultyInScenario from line fault → ⊥
 not_faulty laws start to line fault leads faulty =
     let version = version_alone leads.said leads.follows.stands in
     faulty.1 version.0 (text_spelled line leads.said leads.spells ∙ ap line_text version.1)

@@ -1,7 +1,7 @@
 -- Each line leads on or is faulty, so a text is that of a scenario, or has a first faulty line.
 use Rattle.std.proofs.Common.{◌≡◌, ◌≢◌, ◌⊎◌, ℕ, List, inl, inr, refl, sym, subst}
 use Rattle.text_fields.specs.Lines.{fields_of, lines_of}
-use Rattle.checked_lines.specs.TextRules.{Outcome, Whole, Faulty, HasOutcome}
+use Rattle.checked_lines.specs.TextRules.{TextOutcome, Whole, Faulty, HasOutcome}
 use Rattle.checked_lines.specs.laws.OneOutcome.{AreComplete, LeadsOrIsFaulty, some_outcome}
 use Rattle.scenario_lines.specs.declared.line.Line.{Line}
 use Rattle.scenario_lines.specs.declared.line.Line.TheVariants as lines
@@ -11,12 +11,12 @@ use Rattle.scenario_lines.specs.declared.version.Version.TheVariants.{One, Two}
 use Rattle.scenario_lines.specs.LineBeginnings.{spelled_begins}
 use Rattle.scenario_lines.specs.LineFaults.{SpellsLine}
 use Rattle.scenario_lines.specs.Spelling.{line_text, keyword_of}
-use Rattle.scenario.specs.ScenarioText.{IsText}
+use Rattle.scenario.specs.ScenarioText.{IsScenarioText}
 use Rattle.scenario_text.specs.declared.fault.Fault.{Fault}
 use Rattle.scenario_text.specs.declared.fault.Fault.TheVariants.{Extra, Version, Line as LineReason, Limit, Copies, Tag, Order, Twice}
 use Rattle.scenario_text.specs.laws.LineLaws.{LineLaws}
 use Rattle.scenario_text.specs.Draft.{DraftValue, scenario_of, tag_count}
-use Rattle.scenario_text.specs.Faults.{DisagreesAt, DisagreesBy, HasPlace, IsFaultyAt, IsFirstFault, LeadsBy, MayBegin, ScenarioMayEnd, scenario_rules}
+use Rattle.scenario_text.specs.Faults.{DisagreesAt, DisagreesBy, HasPlace, IsFaultyAt, IsFirstScenarioFault, LeadsBy, MayBegin, ScenarioMayEnd, scenario_rules}
 use Rattle.scenario_text.specs.Standing.{Agrees, AgreesWith, HasRoomForLine, MayStand, ScenarioStanding, begun, ended, standing_after, start, within}
 use Rattle.scenario_text.proofs.Decisions.{chooses_once_decided, has_room_decided, is_of_version_decided, keeps_order_decided, may_copy_decided, may_stand_decided, names_tag_decided}
 use Rattle.scenario_lines.proofs.Decisions.{text_decided}
@@ -137,16 +137,16 @@ complete laws = record { lines = each_line laws; ends = end_or_not }
 
 -- what bytes are or have
 abbrev AreTextOrFaulty : List ℕ → Type 0
-AreTextOrFaulty bytes = IsText bytes ⊎ ((number : ℕ) × (fault : Fault) × IsFirstFault bytes number fault)
+AreTextOrFaulty bytes = IsScenarioText bytes ⊎ ((number : ℕ) × (fault : Fault) × IsFirstScenarioFault bytes number fault)
 
 told : (bytes : List ℕ) (to : ScenarioStanding) → ScenarioMayEnd to → HasOutcome scenario_rules bytes (Whole to) → AreTextOrFaulty bytes
 told bytes (ended draft) may is = let spelled = whole_is_spelled bytes draft is in inl (scenario_of draft, spelled.0, spelled.1)
 told bytes to may is = absurd may
 
-outcome_told : (bytes : List ℕ) (outcome : Outcome ScenarioStanding Fault) → HasOutcome scenario_rules bytes outcome → AreTextOrFaulty bytes
+outcome_told : (bytes : List ℕ) (outcome : TextOutcome ScenarioStanding Fault) → HasOutcome scenario_rules bytes outcome → AreTextOrFaulty bytes
 outcome_told bytes (Whole to) is = told bytes to (whole_ends scenario_rules start to 1 (lines_of bytes) is).may is
 outcome_told bytes (Faulty number fault) is = inr (number, fault, is)
 
 -- each list of bytes is the text of a scenario, or has a first faulty line
-pub text_or_fault : LineLaws → (bytes : List ℕ) → IsText bytes ⊎ ((number : ℕ) × (fault : Fault) × IsFirstFault bytes number fault)
+pub text_or_fault : LineLaws → (bytes : List ℕ) → IsScenarioText bytes ⊎ ((number : ℕ) × (fault : Fault) × IsFirstScenarioFault bytes number fault)
 text_or_fault laws bytes = let found = some_outcome scenario_rules (complete laws) bytes in outcome_told bytes found.0 found.1

@@ -14,7 +14,7 @@ use Rattle.scenario_text.specs.declared.fault.ScenarioFault.{ScenarioFault}
 use Rattle.scenario_text.specs.declared.fault.ScenarioFault.TheVariants as faults
 use Rattle.scenario_text.specs.laws.LineLaws.{LineLaws}
 use Rattle.scenario_text.specs.Draft.{DraftValue, scenario_of}
-use Rattle.scenario_text.specs.Faults.{IsFirstFault, IsRefused, scenario_rules}
+use Rattle.scenario_text.specs.Faults.{IsFirstScenarioFault, IsRefused, scenario_rules}
 use Rattle.scenario_text.specs.Standing.{ended, start}
 use Rattle.scenario_text.specs.Taking.{SaysScenario}
 use Rattle.scenario_text.proofs.Reasons.{unambiguous}
@@ -68,13 +68,13 @@ scenario_told laws one other is is' same =
 
 -- the text of a scenario has no faulty line
 pub scenario_is_not_faulty : LineLaws → (scenario : Scenario) (number : ℕ) (fault : Fault) → IsScenario scenario
-    → IsFirstFault (scenario_text scenario) number fault → ⊥
+    → IsFirstScenarioFault (scenario_text scenario) number fault → ⊥
 scenario_is_not_faulty laws scenario number fault is first =
     let says = text_says laws scenario is in
     text_not_faulty scenario_rules (unambiguous laws) (scenario_text scenario) (ended says.draft) number fault says.whole first
 
 -- where there is a first faulty line, a refusal tells it, or there was no memory
-pub told_exactly : LineLaws → (bytes : List ℕ) (refusal : ScenarioFault) (number : ℕ) (fault : Fault) → IsRefused bytes refusal → IsFirstFault bytes number fault
+pub told_exactly : LineLaws → (bytes : List ℕ) (refusal : ScenarioFault) (number : ℕ) (fault : Fault) → IsRefused bytes refusal → IsFirstScenarioFault bytes number fault
     → (refusal ≡ faults.Line number fault) ⊎ (refusal ≡ faults.OutOfMemory)
 told_exactly laws bytes (faults.Line other reason) number fault refused first =
     let both = one_fault scenario_rules (unambiguous laws) bytes other number reason fault refused first in inl (ap₂ (λ n f. faults.Line n f) both.0 both.1)
@@ -82,9 +82,9 @@ told_exactly laws bytes faults.OutOfMemory number fault refused first = inr refl
 
 -- ... and no scenario is read
 pub none_is_read : LineLaws → (bytes : List ℕ) (scenario : Scenario) (number : ℕ) (fault : Fault) → IsScenario scenario × (bytes ≡ scenario_text scenario)
-    → IsFirstFault bytes number fault → ⊥
+    → IsFirstScenarioFault bytes number fault → ⊥
 none_is_read laws bytes scenario number fault read first =
-    scenario_is_not_faulty laws scenario number fault read.0 (subst (λ (text : List ℕ). IsFirstFault text number fault) read.1 first)
+    scenario_is_not_faulty laws scenario number fault read.0 (subst (λ (text : List ℕ). IsFirstScenarioFault text number fault) read.1 first)
 
 -- what is read is the scenario that the text spells
 pub is_the_one : LineLaws → (text : List ℕ) (said scenario : Scenario) → IsScenario said → text ≡ scenario_text said → SaysScenario text scenario → scenario ≡ said

@@ -1,7 +1,7 @@
 -- Profile: the text of a scenario by the rules of a text of lines, and the first faulty line of one that is none.
 use Rattle.std.specs.Prelude.{◌≡◌, ◌≢◌, ◌⊎◌, ℕ, List}
 use Rattle.text_fields.specs.Lines.{fields_of}
-use Rattle.checked_lines.specs.TextRules.{TextRules, IsFirstFault as HasFirstFault}
+use Rattle.checked_lines.specs.TextRules.{TextRules, IsFirstFault}
 use Rattle.scenario_lines.specs.declared.first_fields.Keyword.{Keyword}
 use Rattle.scenario_lines.specs.declared.line.Line.{Line}
 use Rattle.scenario_lines.specs.declared.line.Line.TheVariants as lines
@@ -66,12 +66,12 @@ IsFaultyAt standing fields =
     (FailsFirst (HasPlace standing fields) Limit (λ fault. SaysNothing fields fault ⊎ Disagrees standing fields fault))
 
 -- the first reason for which a line with its line feed is faulty
-abbrev pub IsFaultyHere : ScenarioStanding → List ℕ → Fault → Type 0
+abbrev pub IsFaultyInScenario : ScenarioStanding → List ℕ → Fault → Type 0
 -- the first line is the version
-IsFaultyHere start line fault = (fault ≡ Version) × ((version : TextVersion) → line ≢ line_text (lines.Version version))
+IsFaultyInScenario start line fault = (fault ≡ Version) × ((version : TextVersion) → line ≢ line_text (lines.Version version))
 -- behind the end nothing may stand
-IsFaultyHere (ended draft) line fault = fault ≡ Extra
-IsFaultyHere standing line fault = IsFaultyAt standing (fields_of line) fault
+IsFaultyInScenario (ended draft) line fault = fault ≡ Extra
+IsFaultyInScenario standing line fault = IsFaultyAt standing (fields_of line) fault
 
 -- the line spells one that may follow, and leads there
 pub record LeadsBy (from : ScenarioStanding) (line : List ℕ) (to : ScenarioStanding) : Type 0 where
@@ -91,13 +91,13 @@ unended_reason (ended draft) = Extra
 unended_reason standing = End
 
 abbrev pub scenario_rules : TextRules ScenarioStanding Fault
-scenario_rules = record { start = start; leads = LeadsBy; is_faulty = IsFaultyHere; may_end = ScenarioMayEnd; unended = unended_reason }
+scenario_rules = record { start = start; leads = LeadsBy; is_faulty = IsFaultyInScenario; may_end = ScenarioMayEnd; unended = unended_reason }
 
 -- the first faulty line of the bytes, counted from 1, with its first reason
-abbrev pub IsFirstFault : List ℕ → ℕ → Fault → Type 0
-IsFirstFault bytes number fault = HasFirstFault scenario_rules bytes number fault
+abbrev pub IsFirstScenarioFault : List ℕ → ℕ → Fault → Type 0
+IsFirstScenarioFault bytes number fault = IsFirstFault scenario_rules bytes number fault
 
 -- why no scenario was read from the bytes
 abbrev pub IsRefused : List ℕ → ScenarioFault → Type 0
-IsRefused bytes (faults.Line number fault) = IsFirstFault bytes number fault
+IsRefused bytes (faults.Line number fault) = IsFirstScenarioFault bytes number fault
 IsRefused bytes faults.OutOfMemory = Unit {0}

@@ -8,7 +8,7 @@ use Rattle.scenario_text.specs.declared.progress.Progress.{Progress}
 use Rattle.scenario_text.specs.declared.progress.Progress.TheVariants.{Start, Begun, Linked, Within, Ended}
 use Rattle.scenario_text.specs.Draft.{DraftValue, scenario_of}
 use Rattle.scenario_text.specs.Standing.{ScenarioStanding, start, begun, linked, within, ended}
-use Rattle.scenario_text.specs.Faults.{IsFaultyHere, ScenarioMayEnd, scenario_rules, unended_reason}
+use Rattle.scenario_text.specs.Faults.{IsFaultyInScenario, ScenarioMayEnd, scenario_rules, unended_reason}
 
 -- where the scenario stands when its reader has come so far
 abbrev pub standing_of : Progress → ScenarioStanding
@@ -20,7 +20,7 @@ standing_of (Ended draft) = ended draft
 
 -- why the line of this number is not taken
 abbrev pub IsNotTaken : ScenarioStanding → List ℕ → ℕ → ScenarioFault → Type 0
-IsNotTaken standing line number (faults.Line at fault) = (at ≡ number) × IsFaultyHere standing line fault
+IsNotTaken standing line number (faults.Line at fault) = (at ≡ number) × IsFaultyInScenario standing line fault
 IsNotTaken standing line number faults.OutOfMemory = Unit {0}
 
 -- why no scenario is said, where these bytes stand behind the last line feed, as the line of this number

@@ -5,10 +5,10 @@ ghost use Rattle.scenario_lines.specs.declared.first_fields.Keyword.{Keyword};
 ghost use Rattle.scenario_lines.specs.declared.line.Line.{Line};
 ghost use Rattle.scenario.specs.declared.values.Scenario.{Scenario};
 ghost use Rattle.scenario_text.specs.declared.fault.Fault.{Fault};
-ghost use Rattle.scenario.specs.ScenarioText.{scenario_lines, scenario_text, IsText};
+ghost use Rattle.scenario.specs.ScenarioText.{scenario_lines, scenario_text, IsScenarioText};
 ghost use Rattle.scenario.specs.Limits.{IsScenario};
 ghost use Rattle.scenario_text.specs.laws.LineLaws.{LineLaws};
-ghost use Rattle.scenario_text.specs.Faults.{DisagreesBy, IsFirstFault};
+ghost use Rattle.scenario_text.specs.Faults.{DisagreesBy, IsFirstScenarioFault};
 ghost use Rattle.scenario_text.specs.LinesBefore.{DisagreesWith, IsFullBefore, MayStandBehind};
 ghost use Rattle.scenario_text.specs.Beginnings.{BeginsScenario, FirstLinesBegin};
 ghost use Rattle.scenario_text.specs.Draft.{DraftValue, scenario_of};
@@ -68,15 +68,16 @@ pub fn scenarios_are_told_apart()
 /// The text of a scenario has no faulty line.
 pub fn scenario_texts_are_not_faulty()
     ensures { (scenario : Scenario) (number : ℕ) (fault : Fault) → IsScenario scenario
-        → IsFirstFault (scenario_text scenario) number fault → ⊥ }
+        → IsFirstScenarioFault (scenario_text scenario) number fault → ⊥ }
 {
     line_laws();
 }
 
 /// A text has at most one first faulty line, which has one first reason.
 pub fn texts_have_one_fault()
-    ensures { (bytes : List ℕ) (one other : ℕ) (fault reason : Fault) → IsFirstFault bytes one fault
-        → IsFirstFault bytes other reason
+    ensures { (bytes : List ℕ) (one other : ℕ) (fault reason : Fault)
+        → IsFirstScenarioFault bytes one fault
+        → IsFirstScenarioFault bytes other reason
         → (one ≡ other) × (fault ≡ reason) }
 {
     line_laws();
@@ -84,8 +85,8 @@ pub fn texts_have_one_fault()
 
 /// Each list of bytes is the text of a scenario, or has a first faulty line with a first reason.
 pub fn texts_are_scenarios_or_faulty()
-    ensures { (bytes : List ℕ) → IsText bytes
-        ⊎ ((number : ℕ) × (fault : Fault) × IsFirstFault bytes number fault) }
+    ensures { (bytes : List ℕ) → IsScenarioText bytes
+        ⊎ ((number : ℕ) × (fault : Fault) × IsFirstScenarioFault bytes number fault) }
 {
     line_laws();
 }
@@ -94,8 +95,9 @@ pub fn texts_are_scenarios_or_faulty()
 /// scenario's text, where a missing or an unended line counts as a line.
 pub fn faulty_lines_begin_no_text()
     ensures before { (bytes : List ℕ) (number : ℕ) (fault : Fault) (below : ℕ)
-        → IsFirstFault bytes number fault → below < number → FirstLinesBegin bytes below }
-    ensures faulty { (bytes : List ℕ) (number : ℕ) (fault : Fault) → IsFirstFault bytes number fault
+        → IsFirstScenarioFault bytes number fault → below < number → FirstLinesBegin bytes below }
+    ensures faulty { (bytes : List ℕ) (number : ℕ) (fault : Fault)
+        → IsFirstScenarioFault bytes number fault
         → ¬ FirstLinesBegin bytes number }
 {
     line_laws();

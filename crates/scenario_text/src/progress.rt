@@ -3,7 +3,7 @@ ghost use Rattle.std.specs.Prelude.{◌≡◌, ◌↔◌, [], IsTrue, IfOk, IfEr
 ghost use Rattle.text_fields.specs.Lines.{fields_of};
 ghost use Rattle.scenario_lines.specs.LineFaults.{SpellsLine};
 ghost use Rattle.scenario_lines.specs.Spelling.{line_text};
-ghost use Rattle.scenario_text.specs.Faults.{DisagreesAt, IsFaultyAt, IsFaultyHere, LeadsBy};
+ghost use Rattle.scenario_text.specs.Faults.{DisagreesAt, IsFaultyAt, IsFaultyInScenario, LeadsBy};
 ghost use Rattle.scenario_text.specs.Standing.{AgreesWith, MayStandNext, HasRoomForLine, MayStand, standing_after, begun, start};
 ghost use Rattle.scenario_text.specs.Taking.{IsNotTaken, IsUnfinished, StandsFor, standing_of};
 
@@ -39,7 +39,7 @@ pub(crate) enum Progress {
 /// `Version` where the line says none.
 fn said_version(line: &[u8]) -> Result<Version, Fault>
     ensures ok { IfOk result (λ version. line.now ≡ line_text (Line.Version version)) }
-    ensures refused { IfErr result (IsFaultyHere start line.now) }
+    ensures refused { IfErr result (IsFaultyInScenario start line.now) }
 {
     match line {
         b"gen2 1" => Ok(Version::One),
@@ -135,7 +135,7 @@ impl Progress {
         ensures ok { IfOk result
             (λ said. SpellsLine (fields_of line.now) said
             × MayStandNext (standing_of self.now) said) }
-        ensures refused { IfErr result (IsFaultyHere (standing_of self.now) line.now) }
+        ensures refused { IfErr result (IsFaultyInScenario (standing_of self.now) line.now) }
     {
         match self {
             Progress::Start => Ok(Line::Version(said_version(line)?)),

@@ -3,7 +3,7 @@ ghost use Rattle.std.specs.Prelude.{◌≡◌, ◌⊎◌, ℕ, IfOk, IfErr};
 ghost use Rattle.scenario.specs.declared.values.Scenario.{Scenario};
 ghost use Rattle.scenario.specs.Limits.{IsScenario};
 ghost use Rattle.scenario.specs.ScenarioText.{scenario_text};
-ghost use Rattle.scenario_text.specs.Faults.{IsFirstFault, IsRefused};
+ghost use Rattle.scenario_text.specs.Faults.{IsFirstScenarioFault, IsRefused};
 ghost use Rattle.scenario_text.specs.declared.fault.Fault.{Fault};
 ghost use Rattle.scenario_text.specs.Taking.{SaysScenario};
 
@@ -47,7 +47,7 @@ pub fn read_scenario(alloc: Global, text: &[u8]) -> Result<Scenario, ScenarioFau
     // Which line is faulty, and why.
     ensures refused { IfErr result (IsRefused text.now) }
     // A text with a first faulty line is refused with its number and its reason, unless memory runs out.
-    ensures exact { (number : ℕ) (fault : Fault) → IsFirstFault text.now number fault
+    ensures exact { (number : ℕ) (fault : Fault) → IsFirstScenarioFault text.now number fault
         → IfErr result (λ refusal. (refusal ≡ ScenarioFault.Line number fault)
         ⊎ (refusal ≡ ScenarioFault.OutOfMemory)) × IfOk result (λ scenario. ⊥) }
 {

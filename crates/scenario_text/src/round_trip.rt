@@ -1,7 +1,7 @@
 //! Scenarios written and read again, and texts read and written again.
 ghost use Rattle.std.specs.Prelude.{◌≡◌, IfOk, IfErr};
 ghost use Rattle.scenario.specs.Limits.{IsScenario};
-ghost use Rattle.scenario.specs.ScenarioText.{IsText};
+ghost use Rattle.scenario.specs.ScenarioText.{IsScenarioText};
 ghost use Rattle.scenario_text.specs.Faults.{IsRefused};
 
 use crate::{ScenarioFault, read_scenario};
@@ -22,7 +22,7 @@ pub fn print_and_read(alloc: Global, scenario: &Scenario) -> Result<Scenario, Sc
 /// The text of the scenario that is read from a text: it is the same, byte by byte, where the text is
 /// that of a scenario and there is memory.
 pub fn read_and_print(alloc: Global, text: &[u8]) -> Result<Bytes, ScenarioFault>
-    ensures same { IfOk result (λ again. (again ≡ text.now) × IsText text.now) }
+    ensures same { IfOk result (λ again. (again ≡ text.now) × IsScenarioText text.now) }
     ensures refused { IfErr result (IsRefused text.now) }
 {
     let scenario = read_scenario(alloc, text)?;

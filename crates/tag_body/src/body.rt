@@ -66,7 +66,13 @@ impl Body {
         words: DrawWords,
     ) -> Result<Body, OutOfMemory>
         ensures { IfOk result
-            (λ body. body ≡ record { memory = memory; locks = locks; flags = new_flags; words = words; next_draw = 0 }) }
+            (λ body. body ≡ record {
+              memory = memory;
+              locks = locks;
+              flags = new_flags;
+              words = words;
+              next_draw = 0;
+            }) }
     {
         let parts = Parts {
             next_draw: 0,

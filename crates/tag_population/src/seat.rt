@@ -111,7 +111,8 @@ impl Seat {
         ensures answers { answers.new
             ≡ record answers.old {
               items = answers.old.items
-                  ++ answers_of (reply_of number (outcome_unless misses command.now self.old).answer);
+                  ++ answers_of (reply_of number
+                  (outcome_unless misses command.now self.old).answer);
             } }
         ensures legal { IsLegalTag self.new }
         ensures counted { steps.new ≤ steps.old + 1 }

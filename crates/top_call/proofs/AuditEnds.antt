@@ -27,7 +27,7 @@ use Rattle.tag_machine.specs.TagValue.{TagValue}
 use Rattle.top_call.specs.words.Audited.{Audits, SaysEvent, SaysVerdict}
 use Rattle.scenario.specs.ScenarioText.{scenario_text}
 use Rattle.scenario_text.specs.FaultWords.{fault_word}
-use Rattle.scenario_text.specs.Faults.{IsFirstFault}
+use Rattle.scenario_text.specs.Faults.{IsFirstScenarioFault}
 use Rattle.scenario_text.specs.declared.fault.Fault.{Fault}
 use Rattle.text_fields.specs.FaultLine.{fault_line}
 use Rattle.top_call.specs.words.Reported.{IsOwnTrace, RefusesScenario, Reports}
@@ -107,11 +107,11 @@ audits-so bytes text trace line scenario read part behind says = record {
 }
 
 -- ... and for others
-pub refuses-so : (bytes text line : List ℕ) (number : ℕ) (fault : Fault) → IsFirstFault text number fault → text ≡ scenario_part bytes → line ≡ fault_line number (fault_word fault)
+pub refuses-so : (bytes text line : List ℕ) (number : ℕ) (fault : Fault) → IsFirstScenarioFault text number fault → text ≡ scenario_part bytes → line ≡ fault_line number (fault_word fault)
     → RefusesScenario (scenario_part bytes) line
 refuses-so bytes text line number fault first part written = record {
   number = number;
   fault = fault;
-  first = subst (λ (t : List ℕ). IsFirstFault t number fault) part first;
+  first = subst (λ (t : List ℕ). IsFirstScenarioFault t number fault) part first;
   line = written;
 }

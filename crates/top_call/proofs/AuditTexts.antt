@@ -13,12 +13,12 @@ use Rattle.air_audit.specs.declared.verdict.Verdict.TheVariants.{Yes, No}
 use Rattle.air_model.specs.Past.{Start, Item, tags_behind, tags_behind_from}
 use Rattle.runs.specs.ScenarioStart.{history, start_of}
 use Rattle.scenario.specs.Limits.{IsScenario}
-use Rattle.scenario.specs.ScenarioText.{IsText, scenario_text}
+use Rattle.scenario.specs.ScenarioText.{IsScenarioText, scenario_text}
 use Rattle.scenario.specs.declared.values.Scenario.{Scenario}
 use Rattle.scenario.specs.declared.values.Step.{Step}
 use Rattle.scenario.specs.declared.values.Step.TheVariants as steps
 use Rattle.scenario_text.specs.FaultWords.{fault_word}
-use Rattle.scenario_text.specs.Faults.{IsFirstFault}
+use Rattle.scenario_text.specs.Faults.{IsFirstScenarioFault}
 use Rattle.scenario_text.specs.declared.fault.Fault.{Fault}
 use Rattle.tag_machine.specs.Exchange.{AreLegalTags}
 use Rattle.tag_machine.specs.TagValue.{TagValue}
@@ -91,7 +91,7 @@ text-of bytes scenario legal spelled (inl told) verdict = (
 text-of bytes scenario legal spelled (inr untold) verdict =
     (event_line, inl (record { scenario = scenario; legal = legal; spelled = spelled; says = inl (record { untold = untold; line = refl }) }))
 
-pub some-text : (bytes : List ℕ) → IsText (scenario_part bytes) ⊎ ((number : ℕ) × (fault : Fault) × IsFirstFault (scenario_part bytes) number fault)
+pub some-text : (bytes : List ℕ) → IsScenarioText (scenario_part bytes) ⊎ ((number : ℕ) × (fault : Fault) × IsFirstScenarioFault (scenario_part bytes) number fault)
     → ((start : Start) (trace : List ℕ) → (verdict : Verdict) × IsAuditVerdict start trace verdict) → HasText bytes
 some-text bytes (inl text) verdicts = text-of bytes text.0 text.1 text.2 (told-or text.0.steps) (verdicts (start_of text.0) (trace_part bytes))
 some-text bytes (inr faulty) verdicts = (fault_line faulty.0 (fault_word faulty.1), inr (record { number = faulty.0; fault = faulty.1; first = faulty.2; line = refl }))

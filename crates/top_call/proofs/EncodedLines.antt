@@ -7,8 +7,8 @@ use Rattle.text_fields.specs.Lines.{lines_of}
 use Rattle.checked_lines.specs.Answered.{AddsLineFor, AnswersTo}
 use Rattle.checked_lines.specs.laws.AnsweredLines.{WholeLine, answers_all, answers_more, answers_none, answers_rest, line_asks}
 use Rattle.checked_lines.specs.laws.OneLine.{HaveAnswers}
-use Rattle.encode_lines.specs.EncodeLines.{Encodes, EncodesLine, IsGrammatical, encode_rules, written_line}
-use Rattle.encode_lines.specs.Request.{AsksForRequest}
+use Rattle.encode_lines.specs.EncodeLines.{Encodes, EncodesLine, AskForEncoding, encode_rules, written_line}
+use Rattle.encode_lines.specs.Request.{AsksToEncode}
 use Rattle.encode_lines.specs.Written.{AreWritten}
 use Rattle.encode_lines.specs.declared.request.Request.{Request}
 use Rattle.top_call.specs.Job.{Defines}
@@ -30,14 +30,14 @@ have_answers have line request asks = have request
 pub record EncodesTo (input rest text : List ℕ) : Type 0 where
   pub number : ℕ
   pub so_far : AnswersTo encode_rules input rest text number
-  pub others : IsGrammatical rest
+  pub others : AskForEncoding rest
 
 -- before the first line
-pub encodes_none : (input : List ℕ) → IsGrammatical input → EncodesTo input input []
+pub encodes_none : (input : List ℕ) → AskForEncoding input → EncodesTo input input []
 encodes_none input asks = record { number = 1; so_far = answers_none encode_rules input [] refl; others = asks }
 
 -- the next line asks for something
-pub next_asks : (input rest line behind text : List ℕ) → EncodesTo input rest text → lines_of rest ≡ line ∷ lines_of behind → (request : Request) × AsksForRequest line request
+pub next_asks : (input rest line behind text : List ℕ) → EncodesTo input rest text → lines_of rest ≡ line ∷ lines_of behind → (request : Request) × AsksToEncode line request
 next_asks input rest line behind text so_far lines = (line_asks encode_rules rest line behind so_far.others lines).0
 
 -- nothing is left behind the last line feed
@@ -52,13 +52,13 @@ encodes_all input rest text so_far one =
     answers_all encode_rules input rest text so_far.number so_far.so_far (nothing_left so_far.others.1.lines rest (sym so_far.others.1.cut ∙ one))
 
 -- there is a line for a line that asks for something
-line_for : HaveLines → (line : List ℕ) → (request : Request) × AsksForRequest line request → (piece : List ℕ) × EncodesLine line [] piece
+line_for : HaveLines → (line : List ℕ) → (request : Request) × AsksToEncode line request → (piece : List ℕ) × EncodesLine line [] piece
 line_for have line asks =
     let found = have asks.0 in
     (written_line found.0, record { request = asks.0; asks = asks.1; adds = record { answer = found.0; right = found.1; line = refl } })
 
 -- it is lost with the page where it was not made
-pub unmade_line : HaveLines → (line page : List ℕ) (written : Option (List ℕ)) → (request : Request) × AsksForRequest line request
+pub unmade_line : HaveLines → (line page : List ℕ) (written : Option (List ℕ)) → (request : Request) × AsksToEncode line request
     → (piece : List ℕ) × EncodesLine line [] piece × Loses (page ++ piece) written written
 unmade_line have line page written asks =
     let found = line_for have line asks in
@@ -92,7 +92,7 @@ front_of_lines have input rest text written written' so_far loses =
     }
 
 -- nothing was written where there was no room for the encoder
-pub unstarted : HaveLines → (input : List ℕ) (written : Option (List ℕ)) → IsGrammatical input → AddsFront (Encodes input) written written
+pub unstarted : HaveLines → (input : List ℕ) (written : Option (List ℕ)) → AskForEncoding input → AddsFront (Encodes input) written written
 unstarted have input written asks =
     front_of_lines have input input [] written written (encodes_none input asks) (record { sent = []; lost = []; all = refl; added = Adds-nothing written })
 

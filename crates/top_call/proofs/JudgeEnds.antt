@@ -4,7 +4,7 @@ use Rattle.checked_lines.specs.FaultWords.{reason_word}
 use Rattle.checked_lines.specs.TextRules.{IsFaultText}
 use Rattle.checked_lines.specs.declared.fault.FaultReason.{FaultReason}
 use Rattle.judge_lines.specs.Judged.{IsJudged}
-use Rattle.judge_lines.specs.LogText.{IsFirstFault, IsLogText, log_rules}
+use Rattle.judge_lines.specs.LogText.{IsFirstLogFault, IsLogText, log_rules}
 use Rattle.judge_lines.specs.VerdictLine.{line_of_verdict}
 use Rattle.log_verdicts.specs.Log.{AreDrawn, LogEntry, LoggedTag, tag_with}
 use Rattle.log_verdicts.specs.Verdicts.{IsVerdict, Verdict, Yes}
@@ -18,11 +18,11 @@ HasOneVerdict = (bytes : List ℕ) (one other : Verdict) → IsJudged bytes one 
 
 -- and no fault,
 abbrev pub AreNotFaulty : Type 0
-AreNotFaulty = (bytes : List ℕ) (tag : LoggedTag) (log : List LogEntry) (number : ℕ) (fault : FaultReason) → IsLogText bytes tag log → IsFirstFault bytes number fault → ⊥
+AreNotFaulty = (bytes : List ℕ) (tag : LoggedTag) (log : List LogEntry) (number : ℕ) (fault : FaultReason) → IsLogText bytes tag log → IsFirstLogFault bytes number fault → ⊥
 
 -- bytes have one first fault,
 abbrev pub HaveOneFault : Type 0
-HaveOneFault = (bytes : List ℕ) (one other : ℕ) (fault reason : FaultReason) → IsFirstFault bytes one fault → IsFirstFault bytes other reason → (one ≡ other) × (fault ≡ reason)
+HaveOneFault = (bytes : List ℕ) (one other : ℕ) (fault reason : FaultReason) → IsFirstLogFault bytes one fault → IsFirstLogFault bytes other reason → (one ≡ other) × (fault ≡ reason)
 
 -- and a log that a tag makes is judged yes
 abbrev pub AreExplained : Type 0

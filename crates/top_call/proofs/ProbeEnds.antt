@@ -10,7 +10,7 @@ use Rattle.checked_lines.specs.declared.fault.FaultReason.{FaultReason}
 use Rattle.probe_lines.specs.Said.{Stimulus}
 use Rattle.probe_lines.specs.Answers.{TellsEffects, probed_tag}
 use Rattle.probe_lines.specs.Played.{HasPlayed, WritesPart}
-use Rattle.probe_lines.specs.ProbeText.{IsFirstFault, IsProbe, IsProbeText}
+use Rattle.probe_lines.specs.ProbeText.{IsFirstProbeFault, IsProbe, IsProbeText}
 use Rattle.top_call.specs.Ending.{end_of_play}
 use Rattle.top_call.specs.Job.{Defines}
 use Rattle.top_call.specs.Outcome.{AddsFront, EndsSo, SinkChange}
@@ -30,11 +30,11 @@ HasOneText = (tag : TagValue) (said : List Stimulus) (one other : List ℕ) → 
 
 -- and which has no fault,
 abbrev pub AreNotFaulty : Type 0
-AreNotFaulty = (bytes : List ℕ) (tag : TagSpec) (said : List Stimulus) (number : ℕ) (fault : FaultReason) → IsProbe bytes tag said → IsFirstFault bytes number fault → ⊥
+AreNotFaulty = (bytes : List ℕ) (tag : TagSpec) (said : List Stimulus) (number : ℕ) (fault : FaultReason) → IsProbe bytes tag said → IsFirstProbeFault bytes number fault → ⊥
 
 -- and bytes have one first fault
 abbrev pub HaveOneFault : Type 0
-HaveOneFault = (bytes : List ℕ) (one other : ℕ) (fault reason : FaultReason) → IsFirstFault bytes one fault → IsFirstFault bytes other reason → (one ≡ other) × (fault ≡ reason)
+HaveOneFault = (bytes : List ℕ) (one other : ℕ) (fault reason : FaultReason) → IsFirstProbeFault bytes one fault → IsFirstProbeFault bytes other reason → (one ≡ other) × (fault ≡ reason)
 
 pub same_text : AreToldApart → HasOneText → (bytes one other : List ℕ) → TellsProbe bytes one → TellsProbe bytes other → one ≡ other
 same_text told once bytes one other left right =

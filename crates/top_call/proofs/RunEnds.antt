@@ -5,8 +5,8 @@ use Rattle.air_io.specs.Flow.{Adds, FaultsRose}
 use Rattle.scenario.specs.declared.values.Scenario.{Scenario}
 use Rattle.scenario_text.specs.declared.fault.Fault.{Fault}
 use Rattle.scenario.specs.Limits.{IsScenario}
-use Rattle.scenario.specs.ScenarioText.{IsText, scenario_text}
-use Rattle.scenario_text.specs.Faults.{IsFirstFault}
+use Rattle.scenario.specs.ScenarioText.{IsScenarioText, scenario_text}
+use Rattle.scenario_text.specs.Faults.{IsFirstScenarioFault}
 use Rattle.scenario_text.specs.FaultWords.{fault_word}
 use Rattle.text_fields.specs.FaultLine.{fault_line}
 use Rattle.report_lines.specs.declared.mode.Mode.{Mode}
@@ -26,16 +26,16 @@ AreToldApart = (one other : Scenario) → IsScenario one → IsScenario other �
 
 -- a text has one first fault,
 abbrev pub HasOneFault : Type 0
-HasOneFault = (bytes : List ℕ) (one other : ℕ) (fault reason : Fault) → IsFirstFault bytes one fault → IsFirstFault bytes other reason → (one ≡ other) × (fault ≡ reason)
+HasOneFault = (bytes : List ℕ) (one other : ℕ) (fault reason : Fault) → IsFirstScenarioFault bytes one fault → IsFirstScenarioFault bytes other reason → (one ≡ other) × (fault ≡ reason)
 
 -- and the text of a scenario has none
 abbrev pub AreNotFaulty : Type 0
-AreNotFaulty = (scenario : Scenario) (number : ℕ) (fault : Fault) → IsScenario scenario → IsFirstFault (scenario_text scenario) number fault → ⊥
+AreNotFaulty = (scenario : Scenario) (number : ℕ) (fault : Fault) → IsScenario scenario → IsFirstScenarioFault (scenario_text scenario) number fault → ⊥
 
 -- a scenario's text has no fault line
-pub text_not_refused : AreNotFaulty → (bytes text : List ℕ) → IsText bytes → RefusesScenario bytes text → ⊥
+pub text_not_refused : AreNotFaulty → (bytes text : List ℕ) → IsScenarioText bytes → RefusesScenario bytes text → ⊥
 text_not_refused not_faulty bytes text allowed refused =
-    not_faulty allowed.0 refused.number refused.fault allowed.1 (subst (λ b. IsFirstFault b refused.number refused.fault) allowed.2 refused.first)
+    not_faulty allowed.0 refused.number refused.fault allowed.1 (subst (λ b. IsFirstScenarioFault b refused.number refused.fault) allowed.2 refused.first)
 
 -- an input has one report
 pub same_report : AreToldApart → (mode : Mode) (bytes one other : List ℕ) → Reports mode bytes one → Reports mode bytes other → one ≡ other
@@ -70,7 +70,7 @@ pub record LeavesPart (mode : Mode) (scenario : Scenario) (sink : SinkChange) (f
   pub part : AddsPart mode scenario sink.written sink.written'
 
 -- the writing of a report ended where its run was cut off
-pub play_failed : (mode : Mode) (bytes : List ℕ) (text : IsText bytes) (sink : SinkChange) (fault : PlayFault) (end : Result Wrote WriteEnd) → end ≡ Err (end_of_play fault)
+pub play_failed : (mode : Mode) (bytes : List ℕ) (text : IsScenarioText bytes) (sink : SinkChange) (fault : PlayFault) (end : Result Wrote WriteEnd) → end ≡ Err (end_of_play fault)
     → LeavesPart mode text.0 sink fault → EndsSo (run_job mode) bytes sink end
 play_failed mode bytes text sink plays.Write end is left =
     subst (EndsSo (run_job mode) bytes sink) (sym is) (left.rose refl, front_of_report mode bytes text.0 sink.written sink.written' text.1 text.2 left.part)

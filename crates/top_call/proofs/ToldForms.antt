@@ -7,7 +7,7 @@ use Rattle.std.specs.Str.Parse.{digits_value}
 use Rattle.std.proofs.lemmas.Str.Parse.{numerals_by_value, tells_digits}
 use Rattle.line_objects.specs.declared.rows.LineSet.TheVariants as sets
 use Rattle.report_lines.specs.declared.mode.Mode.TheVariants.{Plain, Trace, Json, Exchanges, Vcd}
-use Rattle.top_call.specs.Form.{words_of, IsForm, AskFor}
+use Rattle.top_call.specs.Form.{words_of, IsForm, SpellForm}
 use Rattle.top_call.specs.declared.forms.Form.{Form}
 use Rattle.top_call.specs.declared.forms.Form.TheVariants.{Decode, Encode, Run, Upgrade, Portals, Names, Probe, Judge, Audit, Objects, Gen, Help, Version}
 
@@ -61,6 +61,6 @@ spelled_back Help fits = refl
 spelled_back Version fits = refl
 spelled_back (Gen seed tags) fits = same_made _ _ seed tags (value_of seed fits.0) (value_of tags (omega (arith, fits.1)))
 
-pub forms_told : (words : List (List ℕ)) (one other : Form) → AskFor words one → AskFor words other → one ≡ other
+pub forms_told : (words : List (List ℕ)) (one other : Form) → SpellForm words one → SpellForm words other → one ≡ other
 forms_told words one other left right =
     sym (spelled_back one left.legal) ∙ ap form_spelled (sym left.spelled ∙ right.spelled) ∙ spelled_back other right.legal

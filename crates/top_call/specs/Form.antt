@@ -43,10 +43,10 @@ IsForm (Gen seed tags) = (seed < 2 ^ 64) × (tags ≤ most_made_tags)
 IsForm form = Unit {0}
 
 -- the words are the one spelling of the form
-pub record AskFor (words : List (List ℕ)) (form : Form) : Type 0 where
+pub record SpellForm (words : List (List ℕ)) (form : Form) : Type 0 where
   pub spelled : words ≡ words_of form
   pub legal : IsForm form
 
 -- the words are the spelling of some form
 abbrev pub SpellSomeForm : List (List ℕ) → Type 0
-SpellSomeForm words = (form : Form) × AskFor words form
+SpellSomeForm words = (form : Form) × SpellForm words form

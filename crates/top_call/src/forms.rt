@@ -2,7 +2,7 @@
 ghost use Rattle.std.specs.Prelude.{◌≡◌, ◌↔◌, ◌≤◌, ◌<◌, ◌^◌, ℕ, [], ◌∷◌, codes, IfSome, IsTrue, Some};
 ghost use Rattle.std.specs.Fmt.{decimal};
 ghost use Rattle.top_call.specs.declared.forms.Form.{Form};
-ghost use Rattle.top_call.specs.Form.{texts, AskFor};
+ghost use Rattle.top_call.specs.Form.{texts, SpellForm};
 ghost use Rattle.top_call.specs.Jobs.{job_of};
 ghost use Rattle.made_scenario.specs.Made.{most_made_tags};
 
@@ -50,7 +50,7 @@ pub enum Form {
 
 /// The form of a seed and a number of tags.
 fn made_form(seed: &[u8], tags: &[u8]) -> Option<Form>
-    ensures found { IfSome result (AskFor (codes "gen" ∷ seed.now ∷ tags.now ∷ [])) }
+    ensures found { IfSome result (SpellForm (codes "gen" ∷ seed.now ∷ tags.now ∷ [])) }
     ensures only { (number count : ℕ) → number < 2 ^ 64 → count ≤ most_made_tags
         → seed.now ≡ decimal number → tags.now ≡ decimal count
         → result ≡ Some (Form.Gen number count) }
@@ -70,8 +70,8 @@ fn is_word(word: &[u8], name: &str) -> bool
 
 /// The form of one word. None comes exactly where it is the spelling of no form.
 pub fn form_of_one(word: &[u8]) -> Option<Form>
-    ensures found { IfSome result (AskFor (word.now ∷ [])) }
-    ensures only { (form : Form) → AskFor (word.now ∷ []) form → result ≡ Some form }
+    ensures found { IfSome result (SpellForm (word.now ∷ [])) }
+    ensures only { (form : Form) → SpellForm (word.now ∷ []) form → result ≡ Some form }
 {
     if is_word(word, "decode") {
         return Some(Form::Decode);
@@ -118,8 +118,9 @@ fn are_words(word: &[u8], behind: &[u8], first: &str, second: &str) -> bool
 
 /// The form of two words. None comes exactly where they are the spelling of no form.
 pub fn form_of_two(word: &[u8], behind: &[u8]) -> Option<Form>
-    ensures found { IfSome result (AskFor (word.now ∷ behind.now ∷ [])) }
-    ensures only { (form : Form) → AskFor (word.now ∷ behind.now ∷ []) form → result ≡ Some form }
+    ensures found { IfSome result (SpellForm (word.now ∷ behind.now ∷ [])) }
+    ensures only { (form : Form) → SpellForm (word.now ∷ behind.now ∷ []) form
+        → result ≡ Some form }
 {
     if are_words(word, behind, "run", "trace") {
         return Some(Form::Run(Mode::Trace));
@@ -150,8 +151,8 @@ pub fn form_of_two(word: &[u8], behind: &[u8]) -> Option<Form>
 
 /// The form of three words. None comes exactly where they are the spelling of no form.
 pub fn form_of_three(word: &[u8], behind: &[u8], last: &[u8]) -> Option<Form>
-    ensures found { IfSome result (AskFor (word.now ∷ behind.now ∷ last.now ∷ [])) }
-    ensures only { (form : Form) → AskFor (word.now ∷ behind.now ∷ last.now ∷ []) form
+    ensures found { IfSome result (SpellForm (word.now ∷ behind.now ∷ last.now ∷ [])) }
+    ensures only { (form : Form) → SpellForm (word.now ∷ behind.now ∷ last.now ∷ []) form
         → result ≡ Some form }
 {
     if are_words(word, behind, "run", "exchanges") {
@@ -169,8 +170,8 @@ pub fn form_of_three(word: &[u8], behind: &[u8], last: &[u8]) -> Option<Form>
 
 /// The form of the words. None comes exactly where they are the spelling of no form.
 pub fn form_of(words: &[String]) -> Option<Form>
-    ensures found { IfSome result (AskFor (texts words.now)) }
-    ensures only { (form : Form) → AskFor (texts words.now) form → result ≡ Some form }
+    ensures found { IfSome result (SpellForm (texts words.now)) }
+    ensures only { (form : Form) → SpellForm (texts words.now) form → result ≡ Some form }
 {
     match words {
         [word] => form_of_one(word.as_bytes()),

@@ -1,7 +1,7 @@
 //! What holds of the words and of the texts of each form.
 ghost use Rattle.std.specs.Prelude.{◌≡◌, ℕ, List};
 ghost use Rattle.top_call.specs.declared.forms.Form.{Form};
-ghost use Rattle.top_call.specs.Form.{AskFor};
+ghost use Rattle.top_call.specs.Form.{SpellForm};
 ghost use Rattle.top_call.specs.Job.{Defines, IsLawful};
 ghost use Rattle.top_call.specs.Jobs.{job_of};
 
@@ -21,7 +21,8 @@ use crate::words::upgrade::upgrade_is_lawful;
 
 /// A list of words asks for one form at most.
 pub fn forms_are_told_apart()
-    ensures { (words : List (List ℕ)) (one other : Form) → AskFor words one → AskFor words other
+    ensures { (words : List (List ℕ)) (one other : Form) → SpellForm words one
+        → SpellForm words other
         → one ≡ other }
 {}
 

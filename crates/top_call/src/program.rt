@@ -2,7 +2,7 @@
 ghost use Rattle.std.specs.Prelude.{◌≡◌, ◌≢◌, true, false, ◌<◌, ◌≤◌, ◌↔◌, ◌⊎◌, ℕ, List, length, Some};
 ghost use Rattle.air_io.specs.Flow.{FaultsRose};
 ghost use Rattle.top_call.specs.declared.forms.Form.{Form};
-ghost use Rattle.top_call.specs.Form.{texts, AskFor, SpellSomeForm, IsForm};
+ghost use Rattle.top_call.specs.Form.{texts, SpellForm, SpellSomeForm, IsForm};
 ghost use Rattle.top_call.specs.Jobs.{job_of};
 ghost use Rattle.top_call.specs.Outcome.{input_limit, WritesWhole, WritesFront, ReadsWithin, ReadsTooMuch, SpeaksOfNoInput, Tells, source_change, sink_change};
 ghost use Rattle.top_call.specs.words.Generated.{CountsEveryTag, gen_job};
@@ -35,21 +35,21 @@ pub fn gen2run<I: Source, O: Sink>(
         × (output.new ≡ output.old) }
 
     // Under a form without an input, as `gen`, `--help` and `--version` are, nothing is read, and no status comes that speaks of an input.
-    ensures unread { (form : Form) → AskFor (texts words.now) form → (job_of form).input ≡ false
+    ensures unread { (form : Form) → SpellForm (texts words.now) form → (job_of form).input ≡ false
         → (input.new ≡ input.old) × SpeaksOfNoInput result }
 
     // Done: what was added is the text that the form of the words has to write for the bytes read.
-    ensures done { (form : Form) → AskFor (texts words.now) form → result ≡ Status.Done
+    ensures done { (form : Form) → SpellForm (texts words.now) form → result ≡ Status.Done
         → WritesWhole (job_of form) (job_of form).writes (I.left input.old) (I.left input.new)
         (O.written output.old) (O.written output.new) }
     // Done: what was written keeps what its words promise.
-    ensures promises { (form : Form) → AskFor (texts words.now) form → result ≡ Status.Done
+    ensures promises { (form : Form) → SpellForm (texts words.now) form → result ≡ Status.Done
         → WritesWhole (job_of form) (job_of form).promises (I.left input.old) (I.left input.new)
         (O.written output.old) (O.written output.new) }
     // Done, of a run: each EPC in the report is what was heard in that round and slot, and where the scenario gives no raw
     // levels, it is one that a present tag sent; each that the channel gave whole is listed once; each tag stands as the
     // commands that it heard and the events that name it leave it; and no round has more slot commands than its limit.
-    ensures headline { (mode : Mode) → AskFor (texts words.now) (Form.Run mode)
+    ensures headline { (mode : Mode) → SpellForm (texts words.now) (Form.Run mode)
         → result ≡ Status.Done
         → WritesWhole (run_job mode) (SaysHeadline mode) (I.left input.old) (I.left input.new)
         (O.written output.old) (O.written output.new) }
@@ -57,20 +57,20 @@ pub fn gen2run<I: Source, O: Sink>(
     // quiet it lists exactly the tags that its Query matched; and what every flag of every tag is afterwards is known.
     // The list lines of a round are those of the tags that are listed in it, where no ACK of it is answered by raw levels.
     // Done, of a generated scenario: where its round ended quiet, each of its tags was listed.
-    ensures inventory { ((mode : Mode) → AskFor (texts words.now) (Form.Run mode)
+    ensures inventory { ((mode : Mode) → SpellForm (texts words.now) (Form.Run mode)
         → result ≡ Status.Done
         → WritesWhole (run_job mode) (SaysInventory mode) (I.left input.old) (I.left input.new)
         (O.written output.old) (O.written output.new))
-        × ((seed tags : ℕ) → AskFor (texts words.now) (Form.Gen seed tags) → result ≡ Status.Done
+        × ((seed tags : ℕ) → SpellForm (texts words.now) (Form.Gen seed tags) → result ≡ Status.Done
         → WritesWhole (gen_job seed tags)
         (λ bytes text. CountsEveryTag seed tags text) (I.left input.old) (I.left input.new)
         (O.written output.old) (O.written output.new)) }
     // Done, of a trace: where no step of the scenario is an event, the trace is audited.
-    ensures own_trace { AskFor (texts words.now) (Form.Run Mode.Trace) → result ≡ Status.Done
+    ensures own_trace { SpellForm (texts words.now) (Form.Run Mode.Trace) → result ≡ Status.Done
         → WritesWhole (run_job Mode.Trace) IsOwnTrace (I.left input.old) (I.left input.new)
         (O.written output.old) (O.written output.new) }
     // BadInput: what was added is the one fault line of the bytes read.
-    ensures bad_input { (form : Form) → AskFor (texts words.now) form → result ≡ Status.BadInput
+    ensures bad_input { (form : Form) → SpellForm (texts words.now) form → result ≡ Status.BadInput
         → WritesWhole (job_of form) (job_of form).refuses (I.left input.old) (I.left input.new)
         (O.written output.old) (O.written output.new) }
 
@@ -80,7 +80,8 @@ pub fn gen2run<I: Source, O: Sink>(
         → FaultsRose (I.faults input.old) (I.faults input.new)
         × ReadsWithin (I.left input.old) (I.left input.new) × (output.new ≡ output.old) }
     // WriteFault comes only where the sink's count of faults rose, and a front of the defined text was added.
-    ensures write_fault { (form : Form) → AskFor (texts words.now) form → result ≡ Status.WriteFault
+    ensures write_fault { (form : Form) → SpellForm (texts words.now) form
+        → result ≡ Status.WriteFault
         → FaultsRose (O.faults output.old) (O.faults output.new)
         × WritesFront (job_of form) (I.left input.old) (I.left input.new) (O.written output.old)
         (O.written output.new) }
@@ -89,7 +90,7 @@ pub fn gen2run<I: Source, O: Sink>(
         → ReadsTooMuch (I.left input.old) (I.left input.new) × (output.new ≡ output.old) }
     // OutOfMemory: no more than the limit was read and nothing was written, or the input was read to its end, and a
     // front of its defined text was added.
-    ensures out_of_memory { (form : Form) → AskFor (texts words.now) form
+    ensures out_of_memory { (form : Form) → SpellForm (texts words.now) form
         → result ≡ Status.OutOfMemory
         → (ReadsWithin (I.left input.old) (I.left input.new)
         × (O.written output.new ≡ O.written output.old))
@@ -99,25 +100,25 @@ pub fn gen2run<I: Source, O: Sink>(
     ensures read_told { result ≢ Status.ReadFault → I.faults input.new ≡ I.faults input.old }
     ensures write_told { result ≢ Status.WriteFault → O.faults output.new ≡ O.faults output.old }
     // Under `names` memory is taken for the input alone, so that OutOfMemory leaves the sink as it was.
-    ensures names_memory { AskFor (texts words.now) Form.Names → result ≡ Status.OutOfMemory
+    ensures names_memory { SpellForm (texts words.now) Form.Names → result ≡ Status.OutOfMemory
         → output.new ≡ output.old }
 
     // Input within the limit that the form's grammar allows gives Done, unless a device fails or memory runs out.
-    ensures complete { (form : Form) → AskFor (texts words.now) form → (bytes : List ℕ)
+    ensures complete { (form : Form) → SpellForm (texts words.now) form → (bytes : List ℕ)
         → I.left input.old ≡ Some bytes
         → length bytes ≤ input_limit → (job_of form).allows bytes
         → ¬ FaultsRose (I.faults input.old) (I.faults input.new)
         → ¬ FaultsRose (O.faults output.old) (O.faults output.new)
         → (result ≡ Status.Done) ⊎ (result ≡ Status.OutOfMemory) }
     // Input within the limit that the form's grammar refuses gives BadInput, under the same condition.
-    ensures refused { (form : Form) → AskFor (texts words.now) form → (bytes : List ℕ)
+    ensures refused { (form : Form) → SpellForm (texts words.now) form → (bytes : List ℕ)
         → I.left input.old ≡ Some bytes
         → length bytes ≤ input_limit → (text : List ℕ) → (job_of form).refuses bytes text
         → ¬ FaultsRose (I.faults input.old) (I.faults input.new)
         → ¬ FaultsRose (O.faults output.old) (O.faults output.new)
         → (result ≡ Status.BadInput) ⊎ (result ≡ Status.OutOfMemory) }
     // Input over the limit gives TooLong, unless a read fails or memory runs out.
-    ensures passes_limit { (form : Form) → AskFor (texts words.now) form
+    ensures passes_limit { (form : Form) → SpellForm (texts words.now) form
         → (job_of form).input ≡ true
         → (bytes : List ℕ) → I.left input.old ≡ Some bytes → input_limit < length bytes
         → ¬ FaultsRose (I.faults input.old) (I.faults input.new)

@@ -6,7 +6,7 @@ use Rattle.std.proofs.lemmas.Grind.{flat_map-append}
 use Rattle.text_fields.specs.Lines.{Lacks, lines_of, fields_of, line_feed, text_with}
 use Rattle.text_fields.proofs.LineLaws.{pieces_between-cut, some_line, some_piece, whole_piece}
 use Rattle.text_fields.proofs.ListLaws.{flat_map_push, zip_push}
-use Rattle.checked_lines.specs.LineRules.{LineRules, AskFor, AskForSome, Answers, IsFirstFault, text_rules}
+use Rattle.checked_lines.specs.LineRules.{LineRules, AskFor, AskForSome, Answers, IsFirstFaultyLine, text_rules}
 use Rattle.checked_lines.specs.TextRules.{Faulty, HasOutcomeFrom}
 use Rattle.checked_lines.specs.Answered.{AddsLineFor, AsksTo, AnswersTo}
 use Rattle.checked_lines.specs.declared.fault.FaultReason.{FaultReason}
@@ -93,7 +93,7 @@ module _ {R A : Type 0} (rules : LineRules R A) where
 
   -- the next line is the first faulty one, whatever comes behind it
   pub fault_here : (input rest more : List ℕ) (number : ℕ) (next : WholeLine rest) (reason : FaultReason) → AsksTo rules input rest number
-      → rules.is_faulty (fields_of next.line) reason → IsFirstFault rules (input ++ more) (record { line = number; reason = reason })
+      → rules.is_faulty (fields_of next.line) reason → IsFirstFaultyLine rules (input ++ more) (record { line = number; reason = reason })
   fault_here input rest more number next reason so_far faulty =
       let line = next.line in
       let behind = next.behind ++ more in
@@ -109,7 +109,7 @@ module _ {R A : Type 0} (rules : LineRules R A) where
 
   -- the last line has no line feed
   pub fault_last : (input part : List ℕ) (number : ℕ) → AsksTo rules input part number → Lacks line_feed part → part ≢ []
-      → IsFirstFault rules input (record { line = number; reason = End })
+      → IsFirstFaultyLine rules input (record { line = number; reason = End })
   fault_last input part number so_far lacks some =
       fault_behind (lines_of input) so_far.before (part ∷ []) so_far.asked number End
       (ap lines_of so_far.cut ∙ lines_behind so_far.before part so_far.whole ∙ ap (λ lines. so_far.before ++ lines) (whole_piece line_feed part lacks)) (λ none. cc)

@@ -5,7 +5,7 @@ use Rattle.std.specs.List.{AllZip}
 use Rattle.std.proofs.lemmas.List.Elements.{All-head, All-tail}
 use Rattle.text_fields.specs.Lines.{Lacks, fields_of, line_feed, lines_of, text_with}
 use Rattle.text_fields.proofs.LineLaws.{pieces_between-cut}
-use Rattle.checked_lines.specs.LineRules.{LineRules, AskForSome, IsFaultText, IsFirstFault, text_rules}
+use Rattle.checked_lines.specs.LineRules.{LineRules, AskForSome, IsFaultyLineText, IsFirstFaultyLine, text_rules}
 use Rattle.checked_lines.specs.TextRules.{HasOutcomeFrom, Lead, Whole}
 use Rattle.checked_lines.specs.declared.fault.FaultyLine.{FaultyLine}
 use Rattle.checked_lines.specs.laws.OneLine.{TellLines}
@@ -37,11 +37,11 @@ module _ {R A : Type 0} (rules : LineRules R A) (tell : TellLines rules) where
   }
 
   -- bytes have one fault line
-  pub same_refused : (bytes one other : List ℕ) → IsFaultText rules bytes one → IsFaultText rules bytes other → one ≡ other
+  pub same_refused : (bytes one other : List ℕ) → IsFaultyLineText rules bytes one → IsFaultyLineText rules bytes other → one ≡ other
   same_refused = one_fault_text (text_rules rules) unambiguous
 
   -- bytes of which each line asks for something have no faulty line
-  pub asked_not_faulty : (bytes : List ℕ) (fault : FaultyLine) → AskForSome rules bytes → IsFirstFault rules bytes fault → ⊥
+  pub asked_not_faulty : (bytes : List ℕ) (fault : FaultyLine) → AskForSome rules bytes → IsFirstFaultyLine rules bytes fault → ⊥
   asked_not_faulty bytes fault asks first =
       text_not_faulty (text_rules rules) unambiguous bytes tt fault.line fault.reason
       (subst (λ (lines : List (List ℕ)). HasOutcomeFrom (text_rules rules) tt 1 lines (Whole tt)) (sym asks.1.cut)

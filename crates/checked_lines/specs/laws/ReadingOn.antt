@@ -4,12 +4,12 @@ use Rattle.std.proofs.lemmas.List.Splits.{join_with_byte-slice_split}
 use Rattle.std.specs.List.{join_with_byte}
 use Rattle.text_fields.specs.Lines.{line_feed, lines_of}
 use Rattle.text_fields.proofs.LineLaws.{some_piece}
-use Rattle.checked_lines.specs.TextRules.{TextRules, Outcome, Whole, Faulty, HasOutcomeFrom, Lead}
+use Rattle.checked_lines.specs.TextRules.{TextRules, TextOutcome, Whole, Faulty, HasOutcomeFrom, Lead}
 
 -- Of these lines, of which the first has the number `first` and stands at `from`, those before the one of this number lead to this standing,
 -- and these are left.
 pub record HasReadTo {S R : Type 0} (rules : TextRules S R) (from : S) (first : ℕ) (all : List (List ℕ)) (standing : S) (number : ℕ) (left : List (List ℕ)) : Type 0 where
-  pub outcomes : (outcome : Outcome S R) → HasOutcomeFrom rules standing number left outcome → HasOutcomeFrom rules from first all outcome
+  pub outcomes : (outcome : TextOutcome S R) → HasOutcomeFrom rules standing number left outcome → HasOutcomeFrom rules from first all outcome
 
 -- the first of the lines that are left, and what stands behind it
 pub record NextLine (left : List (List ℕ)) : Type 0 where
@@ -27,7 +27,7 @@ some_after (first ∷ before) left some = λ none. cc
 
 module _ {S R : Type 0} (rules : TextRules S R) where
   -- what comes of lines, where the first leads on
-  pub leads_on : (from to : S) (number : ℕ) (line : List ℕ) (behind : List (List ℕ)) (outcome : Outcome S R) → behind ≢ [] → rules.leads from line to
+  pub leads_on : (from to : S) (number : ℕ) (line : List ℕ) (behind : List (List ℕ)) (outcome : TextOutcome S R) → behind ≢ [] → rules.leads from line to
       → HasOutcomeFrom rules to (number + 1) behind outcome → HasOutcomeFrom rules from number (line ∷ behind) outcome
   leads_on from to number line [] outcome some leads is = absurd (some refl)
   leads_on from to number line (next ∷ behind) outcome some leads is = inr (to, leads, is)
@@ -39,7 +39,7 @@ module _ {S R : Type 0} (rules : TextRules S R) where
   stops_here from number line (next ∷ behind) reason some faulty = inl (faulty, refl)
 
   -- what comes of lines, of which those before a place lead there
-  pub outcome_behind : (from to : S) (first number : ℕ) (before left : List (List ℕ)) (outcome : Outcome S R) → left ≢ [] → number ≡ first + length before → Lead rules from before to
+  pub outcome_behind : (from to : S) (first number : ℕ) (before left : List (List ℕ)) (outcome : TextOutcome S R) → left ≢ [] → number ≡ first + length before → Lead rules from before to
       → HasOutcomeFrom rules to number left outcome → HasOutcomeFrom rules from first (before ++ left) outcome
   outcome_behind from to first number [] left outcome some place lead is =
       let same : number ≡ first = omega (arith, place) in

@@ -4,7 +4,7 @@ use Rattle.text_fields.specs.Lines.{line_feed, lines_of}
 use Rattle.text_fields.specs.FaultLine.{fault_line}
 use Rattle.text_fields.proofs.LineLaws.{some_piece}
 use Rattle.checked_lines.specs.FaultWords.{reason_word}
-use Rattle.checked_lines.specs.LineRules.{LineRules, Answers, IsFaultText, text_rules}
+use Rattle.checked_lines.specs.LineRules.{LineRules, Answers, IsFaultyLineText, text_rules}
 use Rattle.checked_lines.specs.TextRules.{Faulty, HasOutcomeFrom}
 use Rattle.checked_lines.specs.declared.fault.FaultReason.{FaultReason}
 use Rattle.checked_lines.specs.declared.fault.FaultReason.TheVariants.{End}
@@ -13,7 +13,7 @@ use Rattle.checked_lines.specs.laws.ReadingOn.{leads_on, stops_here}
 
 -- the bytes have a text
 abbrev pub HasText : {R A : Type 0} → LineRules R A → List ℕ → Type 0
-HasText rules bytes = (text : List ℕ) × (Answers rules bytes text ⊎ IsFaultText rules bytes text)
+HasText rules bytes = (text : List ℕ) × (Answers rules bytes text ⊎ IsFaultyLineText rules bytes text)
 
 module _ {R A : Type 0} (rules : LineRules R A) where
   -- a fault of lines, which are counted from one more

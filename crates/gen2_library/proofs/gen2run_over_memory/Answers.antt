@@ -4,7 +4,7 @@ use Rattle.gen2_library.proofs.Over.{over-limit}
 use Rattle.gen2_library.proofs.Readable.{readable, read}
 use Rattle.gen2_library.specs.Called.{input_of}
 use Rattle.text_fields.specs.Lines.{fields_of}
-use Rattle.top_call.specs.Form.{AskFor, texts}
+use Rattle.top_call.specs.Form.{SpellForm, texts}
 use Rattle.top_call.specs.Job.{Defines}
 use Rattle.top_call.specs.Jobs.{job_of}
 use Rattle.top_call.specs.Outcome.{input_limit, SpeaksOfNoInput}
@@ -47,13 +47,13 @@ numbered c status is = c.from-2.ensures ∙ c.number-2.ensures ∙ ap status_num
 same-words : (c : goal.After-drop-words-2) → texts c.deref.result.now ≡ fields_of c.args.words.now
 same-words c = let lent = c.deref.ensures.value in let read = c.in-Ok.ensures in cc
 
-asked : (c : goal.After-drop-words-2) (form : Form) → AskFor (fields_of c.args.words.now) form → AskFor (texts c.deref.result.now) form
-asked c form asks = subst (λ words. AskFor words form) (sym (same-words c)) asks
+asked : (c : goal.After-drop-words-2) (form : Form) → SpellForm (fields_of c.args.words.now) form → SpellForm (texts c.deref.result.now) form
+asked c form asks = subst (λ words. SpellForm words form) (sym (same-words c)) asks
 
 same-input : (c : goal.After-drop-words-2) → c.in-Ok-from_slice.bytes.items ≡ c.args.input.now
 same-input c = c.in-Ok-from_slice.ensures.items
 
-says : (c : goal.After-drop-words-2) (form : Form) → AskFor (fields_of c.args.words.now) form
+says : (c : goal.After-drop-words-2) (form : Form) → SpellForm (fields_of c.args.words.now) form
     → Says (job_of form) (input_of (job_of form) c.args.input.now) c.run_over-status.new.sink.written c.run_over-status.result
 says c form asks =
     let over : Says (job_of form) (input_of (job_of form) c.in-Ok-from_slice.bytes.items) c.run_over-status.new.sink.written c.run_over-status.result = record {

@@ -126,20 +126,20 @@ kind_of (Some (commands.BlockWrite bank pointer words rn)) state body = Settled 
 kind_of (Some (commands.BlockErase bank pointer count rn)) state body = Settled (step (commands.BlockErase bank pointer count rn) state body)
 
 -- What a command does to a tag in arbitrate, whose slot counter stands aside.
-pub data Move : Type 0 where
+pub data ArbitrateMove : Type 0 where
   -- the tag stays as it is
-  Stays : Move
+  Stays : ArbitrateMove
   -- the slot counter makes no difference
-  Leaves : (kind : Kind) → Move
+  Leaves : (kind : Kind) → ArbitrateMove
   -- it falls by 1, in a round of this session
-  Counts : (session : ℕ) → Move
+  Counts : (session : ℕ) → ArbitrateMove
 
-abbrev pub kind_at : Move → ℕ → ℕ → BodyValue → ℕ → Kind
+abbrev pub kind_at : ArbitrateMove → ℕ → ℕ → BodyValue → ℕ → Kind
 kind_at Stays session q body slot = Settled (silent (ArbitrateState session q slot) body)
 kind_at (Leaves kind) session q body slot = kind
 kind_at (Counts other) session q body slot = count_kind other q slot body
 
-abbrev pub move_of : Option Command → ℕ → ℕ → BodyValue → Move
+abbrev pub move_of : Option Command → ℕ → ℕ → BodyValue → ArbitrateMove
 move_of None own q body = Stays
 move_of (Some (commands.QueryRep session)) own q body = (if own == session then Counts session else Stays)
 move_of (Some (commands.Ack rn)) own q body = Stays

@@ -8,8 +8,8 @@ use Rattle.tag_machine.specs.TagValue.{StateValue, ReadyState, ArbitrateState, R
 use Rattle.log_verdicts.specs.Log.{LogEntry, Seen, Exchange, Befalls}
 use Rattle.log_verdicts.specs.Explaining.{Allows, Manner, seen_of}
 use Rattle.log_verdicts.specs.Verdicts.{Want, Nothing, Exactly, AnyRn16, AnyHandle, NothingOrAnyRn16}
-use Rattle.log_verdicts.specs.laws.Logs.{number_in}
-use Rattle.log_verdicts.specs.laws.Kinds.{Kind, Settled, Enters, Replies, Gives, Move, Stays, Leaves, Counts, kind_of, move_of, reworded}
+use Rattle.log_verdicts.specs.laws.Logs.{number_seen}
+use Rattle.log_verdicts.specs.laws.Kinds.{Kind, Settled, Enters, Replies, Gives, ArbitrateMove, Stays, Leaves, Counts, kind_of, move_of, reworded}
 
 -- the tag; where its slot may be any, it is one from 1 to the slot counter of the tag
 pub record Known : Type 0 where
@@ -41,7 +41,7 @@ slot_word (Some seen) = 0
 
 -- the words that let a tag answer what was seen, where any do
 abbrev pub guessed : Option Command → Option Seen → List ℕ
-guessed heard seen = (if draws_slot heard then slot_word seen else number_in seen) ∷ number_in seen ∷ []
+guessed heard seen = (if draws_slot heard then slot_word seen else number_seen seen) ∷ number_seen seen ∷ []
 
 abbrev pub at_slot : ℕ → StateValue → StateValue
 at_slot slot ReadyState = ReadyState
@@ -104,7 +104,7 @@ want_of_kind (Enters session q body) = (if q == 0 then AnyRn16 else NothingOrAny
 want_of_kind (Replies session q body) = AnyRn16
 want_of_kind (Gives state body) = AnyHandle
 
-abbrev pub want_of_move : Move → ℕ → Want
+abbrev pub want_of_move : ArbitrateMove → ℕ → Want
 want_of_move Stays most = Nothing
 want_of_move (Leaves kind) most = want_of_kind kind
 want_of_move (Counts session) most = (if most == 1 then AnyRn16 else NothingOrAnyRn16)

@@ -25,14 +25,14 @@ number_of_reply (Words words) = 0
 number_of_reply Header = 0
 number_of_reply (Error code) = 0
 
-abbrev pub number_in : Option Seen → ℕ
-number_in None = 0
-number_in (Some seen) = number_of_reply seen.reply
+abbrev pub number_seen : Option Seen → ℕ
+number_seen None = 0
+number_seen (Some seen) = number_of_reply seen.reply
 
 -- what is heard and what is seen is so
 pub record IsLegalExchange (heard : Option Command) (seen : Option Seen) : Type 0 where
   pub heard_is : IsLegalHeard heard
-  pub seen_is : number_in seen < 2 ^ 16
+  pub seen_is : number_seen seen < 2 ^ 16
 
 abbrev pub IsLegalEntry : LogEntry → Type 0
 IsLegalEntry (Exchange heard seen) = IsLegalExchange heard seen

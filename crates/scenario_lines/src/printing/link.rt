@@ -15,7 +15,8 @@ use text_fields::{name_of, push_next_name, push_next_number};
 /// Writes `link` and the four lengths of a link, in nanoseconds.
 fn push_lengths(text: &mut String, link: &Link) -> Result<(), OutOfMemory>
     ensures { OnOk result (string_bytes text.new ≡ string_bytes text.old
-        ++ line_with (codes "link" ∷ decimal link.now.tari ∷ decimal link.now.rtcal ∷ decimal link.now.trcal ∷ decimal link.now.pw ∷ [])) }
+        ++ line_with (codes "link" ∷ decimal link.now.tari ∷ decimal link.now.rtcal
+        ∷ decimal link.now.trcal ∷ decimal link.now.pw ∷ [])) }
 {
     text.push_str("link")?;
     push_next_number(text, link.tari())?;

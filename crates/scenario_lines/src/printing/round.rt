@@ -18,7 +18,8 @@ use text_fields::{push_next_name, push_next_number, push_number};
 /// Writes `round` and the tags that a round speaks to.
 fn push_tags(text: &mut String, spec: &RoundSpec) -> Result<(), OutOfMemory>
     ensures { OnOk result (string_bytes text.new ≡ string_bytes text.old
-        ++ line_with (codes "round" ∷ sel_text spec.now.sel ∷ decimal spec.now.session ∷ side_word spec.now.target ∷ [])) }
+        ++ line_with (codes "round" ∷ sel_text spec.now.sel ∷ decimal spec.now.session
+        ∷ side_word spec.now.target ∷ [])) }
 {
     text.push_str("round")?;
     push_next_name(text, sel_name(spec.sel()))?;

@@ -4,7 +4,7 @@ ghost use Rattle.std.specs.Prelude.{◌≡◌, IfOk, IfErr, [], ◌∷◌};
 ghost use Rattle.air_events.specs.declared.Several.{Several};
 ghost use Rattle.text_fields.specs.NamedFields.{AreFilled};
 ghost use Rattle.scenario_lines.specs.declared.version.Version.{Version};
-ghost use Rattle.scenario_lines.specs.Names.{several_text, version_text};
+ghost use Rattle.scenario_lines.specs.Names.{several_text, version_digit};
 ghost use Rattle.scenario_lines.specs.Reading.{Misreads};
 
 use crate::names::several_named;
@@ -14,11 +14,11 @@ use text_fields::{Fields, one_field};
 
 /// The version that the field behind `gen2` spells.
 pub(crate) fn read_version(others: Fields) -> Result<Version, LineFault>
-    ensures ok { IfOk result (λ version. others.entry ≡ version_text version ∷ []) }
-    ensures only { (version : Version) → others.entry ≡ version_text version ∷ []
+    ensures ok { IfOk result (λ version. others.entry ≡ version_digit version ∷ []) }
+    ensures only { (version : Version) → others.entry ≡ version_digit version ∷ []
         → result ≡ Ok version }
     ensures refused { IfErr result
-        (Misreads (AreFilled 1) (λ version. version_text version ∷ [])
+        (Misreads (AreFilled 1) (λ version. version_digit version ∷ [])
         (λ (_ : Version). Unit {0}) others.entry) }
 {
     match one_field(others) {

@@ -25,8 +25,10 @@ fn step_of(field: &[u8]) -> Option<u32>
 
 /// By how much a slot moves Qfp, in thousandths, which version 2 spells behind the name of the rule.
 fn float_of(field: &[u8]) -> Option<u32>
-    ensures value { IfSome result (λ step. (field.now ≡ codes "float-" ++ decimal step) × IsQfpStep step) }
-    ensures only { (step : ℕ) → IsQfpStep step → field.now ≡ codes "float-" ++ decimal step → result ≡ Some step }
+    ensures value { IfSome result (λ step. (field.now ≡ codes "float-" ++ decimal step)
+        × IsQfpStep step) }
+    ensures only { (step : ℕ) → IsQfpStep step → field.now ≡ codes "float-" ++ decimal step
+        → result ≡ Some step }
 {
     step_of(field.strip_prefix(b"float-")?)
 }

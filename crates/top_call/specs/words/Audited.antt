@@ -10,7 +10,7 @@ use Rattle.air_audit.specs.declared.verdict.Verdict.{Verdict}
 use Rattle.air_audit.specs.declared.verdict.Verdict.TheVariants.{Yes}
 use Rattle.runs.specs.ScenarioStart.{start_of}
 use Rattle.scenario.specs.Limits.{IsScenario}
-use Rattle.scenario.specs.ScenarioText.{IsText, scenario_text}
+use Rattle.scenario.specs.ScenarioText.{IsScenarioText, scenario_text}
 use Rattle.scenario.specs.declared.values.Scenario.{Scenario}
 use Rattle.top_call.specs.Job.{Job}
 use Rattle.top_call.specs.words.Reported.{RefusesScenario}
@@ -44,7 +44,7 @@ SaysReceived bytes text =
 abbrev pub audit_job : Job
 audit_job = record {
   input = true;
-  allows = λ bytes. IsText (scenario_part bytes);
+  allows = λ bytes. IsScenarioText (scenario_part bytes);
   writes = Audits;
   refuses = λ bytes text. RefusesScenario (scenario_part bytes) text;
   promises = SaysReceived;

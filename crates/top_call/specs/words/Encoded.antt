@@ -1,6 +1,6 @@
 -- Profile: what `encode` writes for the bytes that it read. The whole input is checked before a line is written.
 use Rattle.std.specs.Prelude.{true}
-use Rattle.encode_lines.specs.EncodeLines.{Encodes, IsFaultText, IsGrammatical}
+use Rattle.encode_lines.specs.EncodeLines.{Encodes, IsEncodeFaultText, AskForEncoding}
 use Rattle.round_trip.specs.ReadBack.{ComesBack}
 use Rattle.top_call.specs.Job.{Job}
 
@@ -8,8 +8,8 @@ use Rattle.top_call.specs.Job.{Job}
 abbrev pub encode_job : Job
 encode_job = record {
   input = true;
-  allows = IsGrammatical;
+  allows = AskForEncoding;
   writes = Encodes;
-  refuses = IsFaultText;
+  refuses = IsEncodeFaultText;
   promises = ComesBack;
 }

@@ -3,8 +3,8 @@ use Rattle.std.specs.Prelude.{◌≡◌, ℕ, true, List}
 use Rattle.scenario.specs.declared.values.Scenario.{Scenario}
 use Rattle.scenario_text.specs.declared.fault.Fault.{Fault}
 use Rattle.scenario.specs.Limits.{IsScenario}
-use Rattle.scenario.specs.ScenarioText.{IsText, scenario_text}
-use Rattle.scenario_text.specs.Faults.{IsFirstFault}
+use Rattle.scenario.specs.ScenarioText.{IsScenarioText, scenario_text}
+use Rattle.scenario_text.specs.Faults.{IsFirstScenarioFault}
 use Rattle.scenario_text.specs.FaultWords.{fault_word}
 use Rattle.text_fields.specs.FaultLine.{fault_line}
 use Rattle.report_lines.specs.declared.mode.Mode.{Mode}
@@ -28,7 +28,7 @@ pub record Reports (mode : Mode) (bytes text : List ℕ) : Type 0 where
 pub record RefusesScenario (bytes text : List ℕ) : Type 0 where
   pub number : ℕ
   pub fault : Fault
-  pub first : IsFirstFault bytes number fault
+  pub first : IsFirstScenarioFault bytes number fault
   pub line : text ≡ fault_line number (fault_word fault)
 
 -- the text is the report of the scenario that the bytes spell, and with its one history it says the headline; each EPC in it is one
@@ -61,7 +61,7 @@ pub record ProvesRun (mode : Mode) (bytes text : List ℕ) : Type 0 where
 abbrev pub run_job : Mode → Job
 run_job mode = record {
   input = true;
-  allows = IsText;
+  allows = IsScenarioText;
   writes = Reports mode;
   refuses = RefusesScenario;
   promises = ProvesRun mode;

@@ -1,7 +1,7 @@
 //! The word `decode`: captures and bit strings, explained line by line.
 ghost use Rattle.std.specs.Prelude.{◌≡◌, ℕ, List, IfOk, IfErr};
 ghost use Rattle.std.specs.String.{string_bytes};
-ghost use Rattle.decode_lines.specs.DecodeLines.{Decodes, IsFirstFault};
+ghost use Rattle.decode_lines.specs.DecodeLines.{Decodes, IsFirstDecodeFault};
 ghost use Rattle.top_call.specs.Job.{IsLawful};
 ghost use Rattle.top_call.specs.Outcome.{EndsSo, Tells, source_change, sink_change};
 ghost use Rattle.top_call.specs.words.Decoded.{decode_job};
@@ -32,7 +32,7 @@ fn write_answered<O: Sink>(
     output: &mut O,
 ) -> Result<Wrote, WriteEnd>
     ensures { (input : List ℕ) → IfOk answered.now (λ text. Decodes input (string_bytes text))
-        → IfErr answered.now (IsFirstFault input)
+        → IfErr answered.now (IsFirstDecodeFault input)
         → EndsSo decode_job input (sink_change O.written O.faults output.old output.new) result }
 {
     match answered {

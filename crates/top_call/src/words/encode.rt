@@ -1,8 +1,8 @@
 //! The word `encode`: for each line the one that `decode` reads.
 ghost use Rattle.std.specs.Prelude.{◌≡◌, ◌≤◌, ℕ, List, [], ◌++◌, length, OnOk, OnErr, IsErrOf};
 ghost use Rattle.air_io.specs.Flow.{FaultsRose};
-ghost use Rattle.encode_lines.specs.EncodeLines.{Encodes, EncodesLine, IsGrammatical};
-ghost use Rattle.encode_lines.specs.Request.{AsksForRequest};
+ghost use Rattle.encode_lines.specs.EncodeLines.{Encodes, EncodesLine, AskForEncoding};
+ghost use Rattle.encode_lines.specs.Request.{AsksToEncode};
 ghost use Rattle.encode_lines.specs.declared.request.Request.{Request};
 ghost use Rattle.top_call.specs.Job.{IsLawful};
 ghost use Rattle.top_call.specs.Outcome.{input_limit, AddsWhole, AddsFront, EndsSo, Tells, source_change, sink_change};
@@ -55,7 +55,7 @@ fn write_encoded<O: Sink>(alloc: Global, input: &[u8], output: &mut O) -> Result
 
 /// Writes a line for each line of an input.
 fn write_lines<O: Sink>(alloc: Global, input: &[u8], output: &mut O) -> Result<(), WriteEnd>
-    requires { IsGrammatical input.now }
+    requires { AskForEncoding input.now }
     ensures ok { OnOk result
         (AddsWhole (Encodes input.now) (O.written output.old) (O.written output.new)) }
     ensures failed { IsErrOf result WriteEnd.Fault
@@ -88,7 +88,7 @@ fn put_encoded<O: Sink>(
     page: &mut Page,
     output: &mut O,
 ) -> Result<(), WriteEnd>
-    requires { (request : Request) × AsksForRequest line.now request }
+    requires { (request : Request) × AsksToEncode line.now request }
     ensures sent { OnOk result ((written : List ℕ) × EncodesLine line.now [] written
         × WritesWaiting (page.old ++ written) page.new (O.written output.old)
         (O.written output.new)) }

@@ -1,7 +1,7 @@
 use Rattle.std.proofs.Common.{◌≡◌, ◌≢◌, ◌^◌, ◌==◌, ℕ, true, false, List, [], ◌∷◌, ◌++◌, length, arith, ap, refl, sym, subst, true≢false, eqb-true, length-append}
 use Rattle.text_fields.specs.Lines.{line_feed}
 use Rattle.air_audit.proofs.Walks.{audited, early-weaker, refused-end, refused-line, walked-more, walked-none}
-use Rattle.air_audit.specs.Auditing.{StopsAt}
+use Rattle.air_audit.specs.Auditing.{AuditStopsAt}
 use Rattle.air_audit.specs.LineRefusals.{IsRefusedHere}
 use Rattle.air_audit.specs.declared.auditor.Position.TheVariants as positions
 use Rattle.air_audit.specs.declared.stop.Stop.{Stop}
@@ -30,7 +30,7 @@ pub returns-in-Err-Refused : goal.returns-in-Err-Refused
 returns-in-Err-Refused g c = λ start stands.
     let walked = c.loop-line.invariant.walked start stands in
     let refused : IsRefusedHere start walked.standing c.in-Some.line.now c.in-Err-Refused.reason =
-    subst (λ (stop : Stop). StopsAt stop start walked.standing c.in-Some.line.now) c.in-Err-Refused.field-0-is
+    subst (λ (stop : Stop). AuditStopsAt stop start walked.standing c.in-Some.line.now) c.in-Err-Refused.field-0-is
     (c.in-Err-Refused.ensures.follows start walked.standing walked.stands) in
     rw c.in-Err-Refused.field-0-is
     (refused-line start c.args.trace.now c.loop-line.rest.now c.loop-line.number c.loop-line.auditor walked

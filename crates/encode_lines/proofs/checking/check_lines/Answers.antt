@@ -3,7 +3,7 @@ use Rattle.std.proofs.Common.{◌≡◌, ◌≢◌, ◌∷◌, [], length, ap, a
 use Rattle.std.proofs.lemmas.List.{append-nil, nil_from_length}
 use Rattle.text_fields.specs.Lines.{Lacks, line_feed}
 use Rattle.checked_lines.specs.laws.AnsweredLines.{WholeLine, asks_all, asks_more, asks_none, fault_here, fault_last}
-use Rattle.encode_lines.specs.EncodeLines.{IsFirstFault, encode_rules}
+use Rattle.encode_lines.specs.EncodeLines.{IsFirstEncodeFault, encode_rules}
 use Rattle.encode_lines.proofs.checking.check_lines.Goals as goal
 
 pub loop-line-init : goal.loop-line-init
@@ -23,7 +23,7 @@ loop-line-preserved c =
 
 pub returns-in-Err-clause-refused : goal.returns-in-Err-clause-refused
 returns-in-Err-clause-refused c =
-    subst (λ bytes. IsFirstFault bytes (record { line = c.loop-line.number; reason = c.in-Err.reason })) (append-nil c.args.input.now)
+    subst (λ bytes. IsFirstEncodeFault bytes (record { line = c.loop-line.number; reason = c.in-Err.reason })) (append-nil c.args.input.now)
     (fault_here encode_rules c.args.input.now c.loop-line.rest.now [] c.loop-line.number
     (record { line = c.in-Some.line.now; behind = c.in-Some.behind.now; cut = c.in-Some.ensures.cut; lacks = c.in-Some.ensures.first }) c.in-Err.reason c.loop-line.invariant.so_far
     c.in-Err.ensures.refused)

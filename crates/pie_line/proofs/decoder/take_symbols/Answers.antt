@@ -1,7 +1,7 @@
 -- The decoder is given one symbol more.
 use Rattle.std.proofs.Common.{◌≡◌, ◌∙◌, ◌+◌, ◌++◌, ◌∷◌, [], ℕ, List, get_or, take, ap, sym, subst, arith, append_assoc, length-append}
 use Rattle.std.proofs.lemmas.List.{take_more}
-use Rattle.pie_line.specs.Edges.{EdgesStandFor, HasReadTo}
+use Rattle.pie_line.specs.Edges.{EdgesStandFor, EdgesHaveReadTo}
 use Rattle.pie_line.proofs.decoder.take_symbols.Goals as goal
 
 pub loop-at-preserved : goal.loop-at-preserved
@@ -17,7 +17,7 @@ loop-at-preserved c =
     let first : take (at + 1) intervals ≡ take at intervals ++ high ∷ [] = take_more intervals at 0 (omega (arith, c.loop-at-test.true)) in
     let more : take (at + 2) intervals ≡ take at intervals ++ high ∷ low ∷ [] =
     second ∙ ap (λ (list : List ℕ). list ++ low ∷ []) first ∙ append_assoc (take at intervals) (high ∷ []) (low ∷ []) in
-    let given : HasReadTo c.push_symbol.new.self (before ++ c.in-Some.bit ∷ []) intervals (at + 2) = record {
+    let given : EdgesHaveReadTo c.push_symbol.new.self (before ++ c.in-Some.bit ∷ []) intervals (at + 2) = record {
       within = omega (arith, c.loop-at-test.true);
       stands = subst (λ (came : List ℕ). EdgesStandFor c.push_symbol.new.self (before ++ c.in-Some.bit ∷ []) came) (sym more)
           (c.in-Some.ensures.bit before (take at intervals) so_far.stands);

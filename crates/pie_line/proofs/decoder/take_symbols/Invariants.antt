@@ -1,10 +1,10 @@
 use Rattle.std.proofs.Common.{◌≡◌, ◌-◌, ◌≤◌, length}
-use Rattle.pie_line.specs.Edges.{HasReadTo}
+use Rattle.pie_line.specs.Edges.{EdgesHaveReadTo}
 use Rattle.pie_line.proofs.decoder.take_symbols.Given as goal
 
 abbrev pub invariant-loop-at : goal.invariant-loop-at
 invariant-loop-at l = record {
-  given : HasReadTo l.edges l.out.items l.intervals l.at;
+  given : EdgesHaveReadTo l.edges l.out.items l.intervals l.at;
   further : l.fn.from ≤ l.at;
   capacity : l.out.capacity ≡ l.fn.out.capacity;
 }

@@ -3,7 +3,7 @@ use Rattle.std.proofs.Common.{◌⊎◌, ℕ, List, refl, inl, inr}
 use Rattle.checked_lines.specs.FaultWords.{reason_word}
 use Rattle.checked_lines.specs.declared.fault.FaultReason.{FaultReason}
 use Rattle.judge_lines.specs.Judged.{IsJudged}
-use Rattle.judge_lines.specs.LogText.{IsFirstFault, IsLogText}
+use Rattle.judge_lines.specs.LogText.{IsFirstLogFault, IsLogText}
 use Rattle.judge_lines.specs.VerdictLine.{line_of_verdict}
 use Rattle.log_verdicts.specs.Log.{LogEntry, LoggedTag}
 use Rattle.log_verdicts.specs.Verdicts.{Verdict}
@@ -17,7 +17,7 @@ abbrev HaveVerdicts : Type 0
 HaveVerdicts = (bytes : List ℕ) (tag : LoggedTag) (log : List LogEntry) → IsLogText bytes tag log → (verdict : Verdict) × IsJudged bytes verdict
 
 judged_text : HaveVerdicts → (bytes : List ℕ) → ((tag : LoggedTag) × (log : List LogEntry) × IsLogText bytes tag log)
-    ⊎ ((number : ℕ) × (fault : FaultReason) × IsFirstFault bytes number fault) → (text : List ℕ) × Defines judge_job bytes text
+    ⊎ ((number : ℕ) × (fault : FaultReason) × IsFirstLogFault bytes number fault) → (text : List ℕ) × Defines judge_job bytes text
 judged_text have bytes (inl found) =
     let verdict = have bytes found.0 found.1 found.2 in
     (line_of_verdict verdict.0, inl (record { verdict = verdict.0; judged = verdict.1; line = refl }))

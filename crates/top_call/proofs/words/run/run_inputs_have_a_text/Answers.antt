@@ -5,13 +5,13 @@ use Rattle.runs.specs.Report.{report_text_of}
 use Rattle.scenario_text.specs.declared.fault.Fault.{Fault}
 use Rattle.scenario_text.specs.FaultWords.{fault_word}
 use Rattle.text_fields.specs.FaultLine.{fault_line}
-use Rattle.scenario_text.specs.Faults.{IsFirstFault}
-use Rattle.scenario.specs.ScenarioText.{IsText}
+use Rattle.scenario_text.specs.Faults.{IsFirstScenarioFault}
+use Rattle.scenario.specs.ScenarioText.{IsScenarioText}
 use Rattle.top_call.specs.Job.{Defines}
 use Rattle.top_call.specs.words.Reported.{run_job}
 use Rattle.top_call.proofs.words.run.run_inputs_have_a_text.Goals as goal
 
-run_text : (mode : Mode) (bytes : List ℕ) → IsText bytes ⊎ ((number : ℕ) × (fault : Fault) × IsFirstFault bytes number fault)
+run_text : (mode : Mode) (bytes : List ℕ) → IsScenarioText bytes ⊎ ((number : ℕ) × (fault : Fault) × IsFirstScenarioFault bytes number fault)
     → (text : List ℕ) × Defines (run_job mode) bytes text
 run_text mode bytes (inl spelled) =
     (report_text_of mode spelled.0, inl (record { scenario = spelled.0; legal = spelled.1; spelled = spelled.2; report = refl }))
