@@ -15,7 +15,7 @@ use Rattle.report_lines.specs.ReportLine.{ReportLine, ListLine, RxLine, report_l
 use Rattle.runs.proofs.Answering.{TagLaws, given-of-answers}
 use Rattle.runs.specs.Listing.{Listed, listed_by}
 use Rattle.air_audit.specs.Auditing.{AuditorValue, GoesOnOrStops, GoesOnWith, AuditorIsAt, IsHearing, KeepsUp, SendsTo, AuditorStandsAt, AuditStopsAt, TellsLine, TellsOther, position_behind}
-use Rattle.air_audit.specs.FirstWords.{first_word, word_of}
+use Rattle.air_audit.specs.FirstWords.{word_of_line, word_of}
 use Rattle.air_audit.specs.LineRefusals.{DiffersFirst, IsNoTxLine, IsOther, IsRefusedAs, IsRefusedHere}
 use Rattle.air_audit.specs.Standing.{GoesOnAs, TraceStanding, begun, between, sending, telling, TellsNextTag, behind_exchange, behind_told, link_line, next_tag, record_of, rx_line, told_line}
 use Rattle.air_audit.specs.declared.auditor.Position.{Position}
@@ -69,12 +69,12 @@ pub begins-not : (start : Start) (line : List ℕ) (link : LinkValue) → link �
 begins-not start line link same other = (refl, λ text. other (text ∙ sym (ap (λ (l : LinkValue). text_of (link_line l)) same)))
 
 -- a line is refused by the word that it begins with
-pub refused-as : (start : Start) (from : TraceStanding) (line : List ℕ) (reason : AuditReason) (word : Word) → first_word line ≡ word → IsRefusedAs start from word line reason
+pub refused-as : (start : Start) (from : TraceStanding) (line : List ℕ) (reason : AuditReason) (word : Word) → word_of_line line ≡ word → IsRefusedAs start from word line reason
     → IsRefusedHere start from line reason
 refused-as start from line reason word is refused = subst (λ (w : Word). IsRefusedAs start from w line reason) (sym is) refused
 
 -- the line sends a command
-pub sends-on : (start : Start) (past : List Item) (line : List ℕ) (after : AuditorValue) → first_word line ≡ words.Tx → SendsTo start past line after → GoesOnWith start (between past) line after
+pub sends-on : (start : Start) (past : List Item) (line : List ℕ) (after : AuditorValue) → word_of_line line ≡ words.Tx → SendsTo start past line after → GoesOnWith start (between past) line after
 sends-on start past line after word to = record {
   next = sending past (record_of start past to.command);
   goes = goes-as start (between past) line _ words.Tx word (record { command = to.command; sends = to.sends; leads = refl });
@@ -82,13 +82,13 @@ sends-on start past line after word to = record {
 }
 
 -- ... or none
-pub sends-not : (start : Start) (past : List Item) (line : List ℕ) (exchange : ℕ) (reason : AuditReason) → first_word line ≡ words.Tx → exchange ≡ exchanges_in past + 1
+pub sends-not : (start : Start) (past : List Item) (line : List ℕ) (exchange : ℕ) (reason : AuditReason) → word_of_line line ≡ words.Tx → exchange ≡ exchanges_in past + 1
     → IsNoTxLine exchange line reason → IsRefusedHere start (between past) line reason
 sends-not start past line exchange reason word number refused =
     refused-as start (between past) line reason words.Tx word (subst (λ n. IsNoTxLine n line reason) number refused)
 
 -- nothing in the line is judged
-pub passes-by : (start : Start) (past : List Item) (line : List ℕ) (auditor : AuditorValue) → first_word line ≡ words.Unjudged → AuditorIsAt positions.Between start past auditor
+pub passes-by : (start : Start) (past : List Item) (line : List ℕ) (auditor : AuditorValue) → word_of_line line ≡ words.Unjudged → AuditorIsAt positions.Between start past auditor
     → GoesOnWith start (between past) line auditor
 passes-by start past line auditor word at = record {
   next = between past;
@@ -119,7 +119,7 @@ pub record TellsOrStops (told : ℕ) (line : List ℕ) (before after : AuditorVa
   pub tells : IsOk result → TellsLine told (slice_get before.tags told) line before after
   pub other : IfErr result (TellsOther (told_line told (slice_get before.tags told)) line)
 
-module _ (start : Start) (past : List Item) (told : ℕ) (from : TraceStanding) (follow : TagsFollow start past told from) (line : List ℕ) (word : first_word line ≡ words.OfTags)
+module _ (start : Start) (past : List Item) (told : ℕ) (from : TraceStanding) (follow : TagsFollow start past told from) (line : List ℕ) (word : word_of_line line ≡ words.OfTags)
     (before after : AuditorValue) (keeps : KeepsUp start past before) where
   told-on : TellsLine told (slice_get before.tags told) line before after → GoesOnWith start from line after
   told-on tells =
@@ -200,7 +200,7 @@ list-written start past sent auditor new old round slot pc epc is written none r
 -- why a line that begins with rx isn't what an auditor heard, which may be read
 pub record IsNotHeard (line : List ℕ) (auditor : AuditorValue) (reason : AuditReason) : Type 0 where
   pub readable : IsReadable auditor.exchanges auditor.answers.count auditor.answers.levels
-  pub word : first_word line ≡ words.Rx
+  pub word : word_of_line line ≡ words.Rx
   pub first : DiffersFirst auditor.exchanges auditor.answers.count auditor.answers.levels line reason
 
 pub rx-not : (start : Start) (past : List Item) (sent : Record) (line : List ℕ) (auditor : AuditorValue) (reason : AuditReason) → IsHearing start past sent auditor

@@ -11,7 +11,7 @@ use Rattle.pie_line.specs.Pie.{IsFrame, longest_interval}
 use Rattle.pie_line.specs.declared.frame.FrameKind.{FrameKind}
 use Rattle.air_model.specs.Past.{Start, exchanges_in}
 use Rattle.report_lines.specs.ReadLines.{TxFields, RxFields}
-use Rattle.air_audit.specs.FirstWords.{first_word, word_of}
+use Rattle.air_audit.specs.FirstWords.{word_of_line, word_of}
 use Rattle.air_audit.specs.Standing.{GoesOnAs, TraceStanding, begun, between, sending, listing, telling, record_of}
 use Rattle.air_audit.specs.TraceLines.{AreFrameOf, Sends}
 use Rattle.air_audit.specs.declared.first_words.Word.{Word}
@@ -60,7 +60,7 @@ sends-one laws exchange line one other first second =
     frame-one laws one other second.tx.intervals (subst (AreFrameOf one) (tx-same line first.tx second.tx).1 first.frame) second.frame
 
 -- a line that sends a command begins with tx
-pub tx-is-tx : (line : List ℕ) → TxFields line → first_word line ≡ words.Tx
+pub tx-is-tx : (line : List ℕ) → TxFields line → word_of_line line ≡ words.Tx
 tx-is-tx line tx = ap (λ (fields : List (List ℕ)). word_of (get_or fields 0 [])) tx.are
 
 pub goes-one : Laws → (start : Start) (from : TraceStanding) (word : Word) (line : List ℕ) (one other : TraceStanding) → GoesOnAs start from word line one → GoesOnAs start from word line other

@@ -10,7 +10,7 @@ use Rattle.air_model.specs.Past.{Start, exchanges_in}
 use Rattle.report_lines.specs.ReadLines.{HasTxShape, TxFields}
 use Rattle.air_audit.specs.AuditedTrace.{trace_rules}
 use Rattle.air_audit.specs.FirstRefusal.{IsAuditVerdict}
-use Rattle.air_audit.specs.FirstWords.{first_word}
+use Rattle.air_audit.specs.FirstWords.{word_of_line}
 use Rattle.air_audit.specs.LineRefusals.{IsNoTxLine, IsRefusedAs, tx_parts, rx_parts}
 use Rattle.air_audit.specs.Standing.{GoesOnAs, TraceStanding, begun, between, sending, listing, telling, ended}
 use Rattle.air_audit.specs.TraceLines.{Sends}
@@ -61,9 +61,9 @@ reason-one start from word line one other a b = a ∙ sym b
 
 pub unambiguous : Laws → (start : Start) → AreUnambiguous (trace_rules start)
 unambiguous laws start = record {
-  one_standing = λ from one other line goes goes'. goes-one laws start from (first_word line) line one other goes goes';
-  one_reason = λ from line one other refused refused'. reason-one start from (first_word line) line one other refused refused';
-  not_faulty = λ from to line reason goes refused. unrefused start from (first_word line) line to reason goes refused;
+  one_standing = λ from one other line goes goes'. goes-one laws start from (word_of_line line) line one other goes goes';
+  one_reason = λ from line one other refused refused'. reason-one start from (word_of_line line) line one other refused refused';
+  not_faulty = λ from to line reason goes refused. unrefused start from (word_of_line line) line to reason goes refused;
 }
 
 pub verdict-one : Laws → (start : Start) (bytes : List ℕ) (one other : Verdict) → IsAuditVerdict start bytes one → IsAuditVerdict start bytes other → one ≡ other

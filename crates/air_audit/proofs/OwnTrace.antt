@@ -34,7 +34,7 @@ use Rattle.report_lines.specs.ReadLines.{text_of}
 use Rattle.checked_lines.specs.TextRules.{HasOutcomeFrom, Lead, Whole}
 use Rattle.checked_lines.specs.laws.ReadingOn.{outcome_behind}
 use Rattle.air_audit.specs.AuditedTrace.{IsAudited, trace_rules}
-use Rattle.air_audit.specs.FirstWords.{first_word}
+use Rattle.air_audit.specs.FirstWords.{word_of_line}
 use Rattle.air_audit.specs.OwnTraces.{HasNoEventStep}
 use Rattle.air_audit.specs.Standing.{Place, TraceStanding, begun, between, sending, ended, behind_exchange, place_in, place_of_command, record_of, rx_line}
 use Rattle.air_audit.specs.TraceLines.{Sends}
@@ -156,7 +156,7 @@ exchange-leads laws start past own sent lawful same is =
     )
 
 -- lines that aren't judged
-unjudged-lead : (start : Start) (past : List Item) (lines : List ReportLine) → AllByRecursion (λ line. first_word (text_of line) ≡ words.Unjudged) lines
+unjudged-lead : (start : Start) (past : List Item) (lines : List ReportLine) → AllByRecursion (λ line. word_of_line (text_of line) ≡ words.Unjudged) lines
     → Lead (trace_rules start) (between past) (map text_of lines) (between past)
 unjudged-lead start past [] are = refl
 unjudged-lead start past (line ∷ lines) are =
@@ -225,7 +225,7 @@ past-leads laws start (round_ended round end slots ∷ past) lawful are =
     more-lead start past (round_ended round end slots) (judged start past) (between (judged start past)) (past-leads laws start past lawful are.1)
     (unjudged-lead start (judged start past) (RoundLine round end slots ∷ []) (round-unjudged round end slots, tt))
 
-seen-all : (seen : List SeenCount) → AllByRecursion (λ line. first_word (text_of line) ≡ words.Unjudged) (map (λ (each : SeenCount). SeenLine each.count each.pc each.epc) seen)
+seen-all : (seen : List SeenCount) → AllByRecursion (λ line. word_of_line (text_of line) ≡ words.Unjudged) (map (λ (each : SeenCount). SeenLine each.count each.pc each.epc) seen)
 seen-all [] = tt
 seen-all (each ∷ seen) = (seen-unjudged each.count each.pc each.epc, seen-all seen)
 

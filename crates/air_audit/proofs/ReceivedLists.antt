@@ -30,7 +30,7 @@ use Rattle.runs.proofs.Tags.{tags-exchanged}
 use Rattle.text_fields.specs.Lines.{lines_of}
 use Rattle.checked_lines.specs.TextRules.{HasOutcomeFrom, Whole}
 use Rattle.air_audit.specs.AuditedTrace.{IsAudited, trace_rules}
-use Rattle.air_audit.specs.FirstWords.{first_word, word_of}
+use Rattle.air_audit.specs.FirstWords.{word_of_line, word_of}
 use Rattle.air_audit.specs.ReceivedLists.{IsReceivedBefore, ListsWhatIsReceived}
 use Rattle.air_audit.specs.Standing.{GoesOnAs, TraceStanding, begun, between, sending, listing, telling, ended, TraceGoesOn, behind_exchange, behind_told, link_line, next_tag, record_of, rx_line}
 use Rattle.air_audit.specs.TraceLines.{Sends}
@@ -180,12 +180,12 @@ known-next laws start front (telling past told) words.OfTags line to known goes 
 known-next laws start front from word line to known goes = absurd goes
 
 -- the word of the first line is another
-no-link : (link : LinkValue) (line : List ℕ) → line ≡ text_of (link_line link) → first_word line ≡ words.List → ⊥
-no-link link line text word = let same = sym word ∙ ap first_word text ∙ link-is-other link in absurd (cc)
+no-link : (link : LinkValue) (line : List ℕ) → line ≡ text_of (link_line link) → word_of_line line ≡ words.List → ⊥
+no-link link line text word = let same = sym word ∙ ap word_of_line text ∙ link-is-other link in absurd (cc)
 
 -- a list line that may follow is what is received of the levels before it
 list-known : (start : Start) (front : List (List ℕ)) (from : TraceStanding) (line : List ℕ) (to : TraceStanding) → IsKnown start front from → GoesOnAs start from words.List line to
-    → first_word line ≡ words.List → IsReceivedBefore start.link front line
+    → word_of_line line ≡ words.List → IsReceivedBefore start.link front line
 list-known start front begun line to known goes word = absurd (no-link start.link line goes.text word)
 list-known start front (listing past listed) line to known goes word = subst (λ (l : List ℕ). IsReceivedBefore start.link front l) (sym goes.text) known.1
 list-known start front from line to known goes word = absurd goes
@@ -205,7 +205,7 @@ lists-received laws start front from number (last ∷ []) to (other ∷ next ∷
 lists-received laws start front from number (first ∷ next ∷ lines) to before line behind known (inl stops) cut word = absurd stops
 lists-received laws start front from number (first ∷ next ∷ lines) to [] line behind known (inr more) cut word =
     let one : first ≡ line = cc in
-    let is : first_word line ≡ words.List = ap word_of word in
+    let is : word_of_line line ≡ words.List = ap word_of word in
     let goes : TraceGoesOn start from line more.0 = subst (λ (l : List ℕ). TraceGoesOn start from l more.0) one more.1 in
     subst (λ (f : List (List ℕ)). IsReceivedBefore start.link f line) (sym (append-nil front))
     (list-known start front from line more.0 known (subst (λ (w : Word). GoesOnAs start from w line more.0) is goes) is)
@@ -215,7 +215,7 @@ lists-received laws start front from number (first ∷ next ∷ lines) to (other
     let longer : (front ++ first ∷ []) ++ before ≡ front ++ other ∷ before =
     append_assoc front (first ∷ []) before ∙ ap (λ (l : List ℕ). front ++ l ∷ before) one in
     subst (λ (f : List (List ℕ)). IsReceivedBefore start.link f line) longer
-    (lists-received laws start (front ++ first ∷ []) more.0 (number + 1) (next ∷ lines) to before line behind (known-next laws start front from (first_word first) first more.0 known more.1) more.2 rest word)
+    (lists-received laws start (front ++ first ∷ []) more.0 (number + 1) (next ∷ lines) to before line behind (known-next laws start front from (word_of_line first) first more.0 known more.1) more.2 rest word)
 
 -- ... and each of an audited trace
 pub audited-lists : Laws → (start : Start) (bytes : List ℕ) → AreLegalTags start.tags → IsAudited start bytes → ListsWhatIsReceived start.link bytes

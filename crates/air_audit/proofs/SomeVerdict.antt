@@ -34,7 +34,7 @@ use Rattle.report_lines.specs.ReportLine.{ReportLine, RxLine}
 use Rattle.runs.specs.Report.{list_line}
 use Rattle.air_audit.specs.AuditedTrace.{TraceMayEnd, trace_rules}
 use Rattle.air_audit.specs.FirstRefusal.{IsAuditVerdict}
-use Rattle.air_audit.specs.FirstWords.{first_word}
+use Rattle.air_audit.specs.FirstWords.{word_of_line}
 use Rattle.air_audit.specs.LineRefusals.{DiffersFirst, IsOther, IsRefusedAs}
 use Rattle.air_audit.specs.Standing.{GoesOnAs, IsTheLine, TraceStanding, begun, between, sending, listing, telling, ended, behind_exchange, behind_told, link_line, next_tag, record_of, rx_line, told_line}
 use Rattle.air_audit.specs.TraceLines.{AreFrameOf, FrameBeginsWith}
@@ -343,5 +343,5 @@ verdict-of start bytes (Whole standing) is = absurd (whole_ends (trace_rules sta
 
 pub some-verdict : Laws → (start : Start) (bytes : List ℕ) → (verdict : Verdict) × IsAuditVerdict start bytes verdict
 some-verdict laws start bytes =
-    let outcome = some_outcome (trace_rules start) (record { lines = λ from line. goes-or laws start from (first_word line) line; ends = end-or }) bytes in
+    let outcome = some_outcome (trace_rules start) (record { lines = λ from line. goes-or laws start from (word_of_line line) line; ends = end-or }) bytes in
     verdict-of start bytes outcome.0 outcome.1

@@ -10,7 +10,7 @@ use Rattle.text_fields.proofs.LineLaws.{pieces_between-cut, whole_piece}
 use Rattle.report_lines.specs.ReadLines.{text_of, first_field}
 use Rattle.report_lines.specs.ReportLine.{ReportLine, OpLine, RoundLine, SeenLine, TagLine, DoneLine, report_fields}
 use Rattle.tag_machine.specs.TagValue.{TagValue}
-use Rattle.air_audit.specs.FirstWords.{first_word, word_of}
+use Rattle.air_audit.specs.FirstWords.{word_of_line, word_of}
 use Rattle.air_audit.specs.Standing.{GoesOnAs, TellsNextTag, TraceGoesOn, TraceStanding, link_line, next_tag, rx_line, told_line}
 use Rattle.air_audit.specs.declared.first_words.Word.{Word}
 use Rattle.air_audit.specs.declared.first_words.Word.TheVariants as words
@@ -42,32 +42,32 @@ line-word : (line : ReportLine) (word : List ℕ) (rest : List (List ℕ)) → r
 line-word line word rest are text = ap (λ (fields : List (List ℕ)). first_field (line_with fields)) are ∙ begins-with word rest text
 
 -- what lines of a report are by their words
-word-is : (line : ReportLine) (word : List ℕ) (rest : List (List ℕ)) → report_fields line ≡ word ∷ rest → IsFieldText word → first_word (text_of line) ≡ word_of word
+word-is : (line : ReportLine) (word : List ℕ) (rest : List (List ℕ)) → report_fields line ≡ word ∷ rest → IsFieldText word → word_of_line (text_of line) ≡ word_of word
 word-is line word rest are text = ap word_of (line-word line word rest are text)
 
-pub rx-is-rx : (start : Start) (sent : Record) → first_word (text_of (rx_line start sent)) ≡ words.Rx
+pub rx-is-rx : (start : Start) (sent : Record) → word_of_line (text_of (rx_line start sent)) ≡ words.Rx
 rx-is-rx start sent = word-is (rx_line start sent) (codes "rx") _ refl (word-text 114 (codes "x") refl)
 
-pub op-unjudged : (round slot index : ℕ) (result : OpResult) → first_word (text_of (OpLine round slot index result)) ≡ words.Unjudged
+pub op-unjudged : (round slot index : ℕ) (result : OpResult) → word_of_line (text_of (OpLine round slot index result)) ≡ words.Unjudged
 op-unjudged round slot index result = word-is (OpLine round slot index result) (codes "op") _ refl (word-text 111 (codes "p") refl)
 
-pub round-unjudged : (round : ℕ) (end : RoundEnd) (slots : ℕ) → first_word (text_of (RoundLine round end slots)) ≡ words.Unjudged
+pub round-unjudged : (round : ℕ) (end : RoundEnd) (slots : ℕ) → word_of_line (text_of (RoundLine round end slots)) ≡ words.Unjudged
 round-unjudged round end slots = word-is (RoundLine round end slots) (codes "round") _ refl (word-text 114 (codes "ound") refl)
 
-pub seen-unjudged : (count pc : ℕ) (epc : List ℕ) → first_word (text_of (SeenLine count pc epc)) ≡ words.Unjudged
+pub seen-unjudged : (count pc : ℕ) (epc : List ℕ) → word_of_line (text_of (SeenLine count pc epc)) ≡ words.Unjudged
 seen-unjudged count pc epc = word-is (SeenLine count pc epc) (codes "seen") _ refl (word-text 115 (codes "een") refl)
 
-pub link-is-other : (link : LinkValue) → first_word (text_of (link_line link)) ≡ words.Other
+pub link-is-other : (link : LinkValue) → word_of_line (text_of (link_line link)) ≡ words.Other
 link-is-other link = word-is (link_line link) (codes "blf") _ refl (word-text 98 (codes "lf") refl)
 
-told-word : (told : ℕ) (next : Option TagValue) → first_word (text_of (told_line told next)) ≡ words.OfTags
+told-word : (told : ℕ) (next : Option TagValue) → word_of_line (text_of (told_line told next)) ≡ words.OfTags
 told-word told None = word-is DoneLine (codes "done") _ refl (word-text 100 (codes "one") refl)
 told-word told (Some tag) = word-is (TagLine told tag) (codes "tag") _ refl (word-text 116 (codes "ag") refl)
 
 -- a line goes on by the word that it begins with
-pub goes-as : (start : Start) (from : TraceStanding) (line : List ℕ) (to : TraceStanding) (word : Word) → first_word line ≡ word → GoesOnAs start from word line to → TraceGoesOn start from line to
+pub goes-as : (start : Start) (from : TraceStanding) (line : List ℕ) (to : TraceStanding) (word : Word) → word_of_line line ≡ word → GoesOnAs start from word line to → TraceGoesOn start from line to
 goes-as start from line to word is goes = subst (λ (w : Word). GoesOnAs start from w line to) (sym is) goes
 
 pub told-goes : (start : Start) (past : List Item) (told : ℕ) (from : TraceStanding) (line : List ℕ) (to : TraceStanding) → TellsNextTag start past told line to → GoesOnAs start from words.OfTags line to
     → TraceGoesOn start from line to
-told-goes start past told from line to tells goes = goes-as start from line to words.OfTags (ap first_word tells.text ∙ told-word told (next_tag start past told)) goes
+told-goes start past told from line to tells goes = goes-as start from line to words.OfTags (ap word_of_line tells.text ∙ told-word told (next_tag start past told)) goes

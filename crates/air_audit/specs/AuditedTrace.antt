@@ -12,6 +12,7 @@ abbrev pub TraceMayEnd : TraceStanding → Type 0
 TraceMayEnd (ended past) = Unit {0}
 TraceMayEnd standing = ⊥
 
+-- the rules of the text of a trace behind this start
 abbrev pub trace_rules : Start → TextRules TraceStanding AuditReason
 trace_rules start = record {
   start = begun;

@@ -5,7 +5,7 @@ use Rattle.report_lines.specs.ReadLines.{first_field}
 use Rattle.air_audit.specs.declared.first_words.Word.{Word}
 use Rattle.air_audit.specs.declared.first_words.Word.TheVariants as words
 
--- lines of operations, of ends of rounds and of counts are not judged; those of tags have the last line among them
+-- what a line is that begins with this word: lines of operations, of ends of rounds and of counts are not judged; those of tags have the last line among them
 abbrev pub word_of : List ℕ → Word
 word_of word =
     if bytes_eq word (codes "tx") then words.Tx else
@@ -14,5 +14,6 @@ word_of word =
     if bytes_eq word (codes "op") || bytes_eq word (codes "round") || bytes_eq word (codes "seen") then words.Unjudged else
     if bytes_eq word (codes "tag") || bytes_eq word (codes "done") then words.OfTags else words.Other
 
-abbrev pub first_word : List ℕ → Word
-first_word line = word_of (first_field line)
+-- ... of the whole line
+abbrev pub word_of_line : List ℕ → Word
+word_of_line line = word_of (first_field line)

@@ -14,7 +14,7 @@ use Rattle.air_audit.specs.declared.first_words.Word.{Word}
 use Rattle.air_audit.specs.declared.first_words.Word.TheVariants as words
 use Rattle.air_audit.specs.declared.verdict.AuditReason.{AuditReason}
 use Rattle.air_audit.specs.declared.verdict.AuditReason.TheVariants as reasons
-use Rattle.air_audit.specs.FirstWords.{first_word}
+use Rattle.air_audit.specs.FirstWords.{word_of_line}
 use Rattle.air_audit.specs.Standing.{TraceStanding, begun, between, sending, listing, telling, ended, link_line, rx_line, told_line, next_tag}
 use Rattle.air_audit.specs.TraceLines.{Sends}
 
@@ -25,17 +25,17 @@ audit_reason_of faults.Shape = reasons.Shape
 audit_reason_of faults.Number = reasons.Number
 
 -- what is looked for in a line, and why the line is refused where it isn't so
-pub record Part : Type 1 where
+pub record LinePart : Type 1 where
   pub holds : Type 0
   pub reason : AuditReason
 
 -- the reason of the first that isn't so
-abbrev pub FirstFails : List Part → AuditReason → Type 0
+abbrev pub FirstFails : List LinePart → AuditReason → Type 0
 FirstFails [] reason = ⊥
 FirstFails (part ∷ parts) reason = ((¬ part.holds) × (reason ≡ part.reason)) ⊎ (part.holds × FirstFails parts reason)
 
 -- a line that begins with tx sends a command in the exchange
-abbrev pub tx_parts : ℕ → List ℕ → List Part
+abbrev pub tx_parts : ℕ → List ℕ → List LinePart
 tx_parts exchange line =
     record { holds = HasTxShape line; reason = reasons.Shape }
     ∷ record { holds = TxFields line; reason = reasons.Number }
@@ -43,7 +43,7 @@ tx_parts exchange line =
     ∷ record { holds = (command : Command) × Sends exchange line command; reason = reasons.Frame } ∷ []
 
 -- one that begins with rx is that of so many replies and these levels in the exchange
-abbrev pub rx_parts : (exchange count : ℕ) → List Bool → List ℕ → List Part
+abbrev pub rx_parts : (exchange count : ℕ) → List Bool → List ℕ → List LinePart
 rx_parts exchange count levels line =
     record { holds = HasRxShape line; reason = reasons.Shape }
     ∷ record { holds = RxFields line; reason = reasons.Number }
@@ -88,4 +88,4 @@ IsRefusedAs start standing word line reason = reason ≡ reasons.Word
 
 -- the first reason for which a line that has its line feed doesn't follow
 abbrev pub IsRefusedHere : Start → TraceStanding → List ℕ → AuditReason → Type 0
-IsRefusedHere start from line reason = IsRefusedAs start from (first_word line) line reason
+IsRefusedHere start from line reason = IsRefusedAs start from (word_of_line line) line reason

@@ -11,7 +11,7 @@ use Rattle.report_lines.specs.ReportLine.{ReportLine, BlfLine, RxLine, TagLine, 
 use Rattle.runs.specs.Listing.{Listed, listed_by}
 use Rattle.runs.specs.Report.{list_line}
 use Rattle.report_lines.specs.ReadLines.{text_of}
-use Rattle.air_audit.specs.FirstWords.{first_word}
+use Rattle.air_audit.specs.FirstWords.{word_of_line}
 use Rattle.air_audit.specs.TraceLines.{Sends}
 use Rattle.air_audit.specs.declared.first_words.Word.{Word}
 use Rattle.air_audit.specs.declared.first_words.Word.TheVariants as words
@@ -117,4 +117,4 @@ GoesOnAs start standing word line to = ⊥
 
 -- the line may follow, and leads there
 abbrev pub TraceGoesOn : Start → TraceStanding → List ℕ → TraceStanding → Type 0
-TraceGoesOn start from line to = GoesOnAs start from (first_word line) line to
+TraceGoesOn start from line to = GoesOnAs start from (word_of_line line) line to

@@ -1,6 +1,6 @@
 //! The words that lines begin with.
 ghost use Rattle.std.specs.Prelude.{◌≡◌, codes};
-ghost use Rattle.air_audit.specs.FirstWords.{first_word, word_of};
+ghost use Rattle.air_audit.specs.FirstWords.{word_of_line, word_of};
 ghost use Rattle.report_lines.specs.ReadLines.{first_field};
 
 use report_lines::first_field;
@@ -40,7 +40,7 @@ fn word_of(word: &[u8]) -> Word
 
 /// What a line is by its first field.
 pub(crate) fn word_of_line(line: &[u8]) -> Word
-    ensures is { result ≡ first_word line.now }
+    ensures is { result ≡ word_of_line line.now }
     ensures tx { result ≡ Word.Tx → first_field line.now ≡ codes "tx" }
     ensures rx { result ≡ Word.Rx → first_field line.now ≡ codes "rx" }
 {

@@ -33,8 +33,7 @@ pub fn decode_lines_have_one_text()
 /// Where each line asks for something there is no faulty line.
 pub fn decode_lines_are_not_faulty()
     ensures { (bytes : List ℕ) (fault : FaultyLine) → AskForDecoding bytes
-        → IsFirstDecodeFault bytes fault
-        → ⊥ }
+        → IsFirstDecodeFault bytes fault → ⊥ }
 {}
 
 /// Each request within its limits has an answer.

@@ -20,8 +20,7 @@ pub fn encode_lines_have_one_text()
 /// Where each line asks for something there is no faulty line.
 pub fn encode_lines_are_not_faulty()
     ensures { (bytes : List ℕ) (fault : FaultyLine) → AskForEncoding bytes
-        → IsFirstEncodeFault bytes fault
-        → ⊥ }
+        → IsFirstEncodeFault bytes fault → ⊥ }
 {}
 
 /// For each request a line is written.

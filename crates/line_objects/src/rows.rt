@@ -65,7 +65,7 @@ const COMMAND_ROWS: &[Row] = &[
     Row(b"blockerase", &[Key::Bank, Key::Ptr, Key::Count, Key::Rn]),
 ];
 
-/// What a tag holds that has a handle.
+/// The members of the state of a tag that has a handle.
 const HANDLE_KEYS: &[Key] = &[
     Key::Flags,
     Key::Session,
@@ -114,7 +114,7 @@ const ANSWER_ROWS: &[Row] = &[
     Row(b"sgtin", &[Key::EpcWords]),
 ];
 
-/// What a line tells of a tag.
+/// The members of a tag.
 const TAG_KEYS: &[Key] = &[
     Key::TagNumber,
     Key::State,

@@ -23,7 +23,7 @@ use wave_dump::{Dump, push_head};
 pub struct ModeSpelling {
     mode: Mode,
     dump: Dump,
-    /// The intervals that were written last, with their text.
+    /// The intervals that were written, with their texts.
     intervals: KeptIntervals,
     /// Room for the texts of an object.
     members: MemberTexts,
@@ -82,14 +82,14 @@ impl Spelling for ModeSpelling {
 }
 
 impl Mode {
-    /// The report of this mode has the lines that a trace alone has.
+    /// The report of this mode has the lines of frames: those of the link, of what was sent and of what came back.
     fn keeps_frames(self) -> bool
         ensures { (line : ReportLine) → is_of_trace line ≡ true → result ≡ keeps self line }
     {
         matches!(self, Mode::Trace | Mode::Vcd)
     }
 
-    /// The report of this mode has the lines that a report of exchanges alone has.
+    /// The report of this mode has the lines of who said what in an exchange.
     fn keeps_exchanges(self) -> bool
         ensures { (line : ReportLine) → is_of_exchanges line ≡ true → result ≡ keeps self line }
     {

@@ -27,7 +27,7 @@ use Rattle.scenario_text.specs.Draft.{DraftValue, HeadValue, new_draft, draft_af
 use Rattle.scenario_text.specs.Standing.{ScenarioStanding, start, begun, first_head, head_size, linked, second_head, within, ended, standing_after, MayStandNext, LinesLead, HasRoomForLine, MayStand, IsOfVersion, MayCopy, NamesTag}
 use Rattle.scenario_text.specs.AirLines.{AirLinesValue, at_exchange, with_said, with_happening, MayFollow, KeepsOrder, ChoosesOnce}
 use Rattle.scenario_text.specs.StepLines.{IsBareRound, StepLinesValue, steps_of, with_last, with_step}
-use Rattle.scenario_text.specs.Faults.{DisagreesBy, FailsFirst}
+use Rattle.scenario_text.specs.Faults.{DisagreesBy, IsFirstUnmet}
 use Rattle.scenario_text.proofs.Counts.{tags_more}
 use Rattle.scenario_text.proofs.Settled.{not_empty, same_count}
 use Rattle.scenario_text.specs.LinesBefore.{is_air, is_step, tags_by, tags_in, version_in, airs_in, steps_in, ops_behind, EndsInRound, IsFullBefore, IsNoEnd, IsRoundLine, MayStandBehind, happening_turn, ComesBefore, ChoosesOther, KeepsOrderBehind, ChoosesFirst, DisagreesWith}
@@ -635,7 +635,7 @@ may-copy : (said : List Line) (draft : DraftValue) (line : Line) → Tells said 
 may-copy said draft line told = (subst (λ n. MayCopy n line) told.tags, subst (λ n. MayCopy n line) (sym told.tags))
 
 one-way : (first first' : Type 0) (cause : Fault) (others others' : Fault → Type 0) (fault : Fault) → first ↔ first' → (first → others fault → others' fault)
-    → FailsFirst first cause others fault → FailsFirst first' cause others' fault
+    → IsFirstUnmet first cause others fault → IsFirstUnmet first' cause others' fault
 one-way first first' cause others others' fault same rest (inl fails) = inl ((λ holds. fails.0 (same.1 holds)), fails.1)
 one-way first first' cause others others' fault same rest (inr holds) = inr (same.0 holds.0, rest holds.0 holds.1)
 
@@ -645,7 +645,7 @@ Same reasons others = (fault : Fault) → reasons fault ↔ others fault
 
 -- ... where what holds is, and where then the others are
 same-fails : (first first' : Type 0) (cause : Fault) (others others' : Fault → Type 0) → first ↔ first' → (first → Same others others')
-    → Same (FailsFirst first cause others) (FailsFirst first' cause others')
+    → Same (IsFirstUnmet first cause others) (IsFirstUnmet first' cause others')
 same-fails first first' cause others others' same rest fault = (
   one-way first first' cause others others' fault same (λ holds. (rest holds fault).0),
   one-way first' first cause others' others fault (same.1, same.0) (λ holds. (rest (same.1 holds) fault).1),

@@ -13,7 +13,7 @@ use Rattle.scenario_text.specs.declared.fault.Fault.{Fault}
 use Rattle.scenario_text.specs.declared.fault.Fault.TheVariants.{Line as LineReason, Limit, Copies, Tag, Order, Twice}
 use Rattle.scenario_text.specs.AirLines.{ChoosesOnce, KeepsOrder}
 use Rattle.scenario_text.specs.Draft.{DraftValue, tag_count}
-use Rattle.scenario_text.specs.Faults.{Disagrees, DisagreesAt, DisagreesBy, FailsFirst, HasPlace, IsFaultyAt, IsFaultyInScenario, LeadsBy, MayBegin, SaysNothing, scenario_rules}
+use Rattle.scenario_text.specs.Faults.{Disagrees, DisagreesAt, DisagreesBy, IsFirstUnmet, HasRoomFor, IsFaultyAt, IsFaultyInScenario, LeadsBy, MayBegin, SaysNothing, scenario_rules}
 use Rattle.scenario_text.specs.Standing.{Agrees, AgreesWith, IsOfVersion, MayCopy, MayStand, MayStandNext, NamesTag, ScenarioStanding, ended, standing_after, start, within}
 use Rattle.scenario_text.specs.laws.LineLaws.{LineLaws}
 use Rattle.scenario_text.proofs.Texts.{text_spelled}
@@ -22,7 +22,7 @@ use Rattle.scenario_text.proofs.Texts.{text_spelled}
 abbrev Once : (Fault → Type 0) → Type 0
 Once reasons = (fault reason : Fault) → reasons fault → reasons reason → fault ≡ reason
 
-fails_once : (first : Type 0) (cause : Fault) (others : Fault → Type 0) → (first → Once others) → Once (FailsFirst first cause others)
+fails_once : (first : Type 0) (cause : Fault) (others : Fault → Type 0) → (first → Once others) → Once (IsFirstUnmet first cause others)
 fails_once first cause others once fault reason (inl fails) (inl fails') = fails.1 ∙ sym fails'.1
 fails_once first cause others once fault reason (inl fails) (inr holds) = absurd (fails.0 holds.0)
 fails_once first cause others once fault reason (inr holds) (inl fails) = absurd (fails.0 holds.0)
@@ -52,7 +52,7 @@ one_unfit laws standing fields fault reason (inr one) (inr other) =
 one_reason_at : LineLaws → (standing : ScenarioStanding) (fields : List (List ℕ)) → Once (IsFaultyAt standing fields)
 one_reason_at laws standing fields =
     fails_once (MayBegin standing fields) (LineReason line_faults.Word) _
-    (λ begins. fails_once (HasPlace standing fields) Limit _ (λ place. one_unfit laws standing fields))
+    (λ begins. fails_once (HasRoomFor standing fields) Limit _ (λ place. one_unfit laws standing fields))
 
 one_reason : LineLaws → (standing : ScenarioStanding) (line : List ℕ) → Once (IsFaultyInScenario standing line)
 one_reason laws start line fault reason one other = one.0 ∙ sym other.0

@@ -16,7 +16,7 @@ use Rattle.scenario_text.specs.declared.fault.Fault.{Fault}
 use Rattle.scenario_text.specs.declared.fault.Fault.TheVariants.{Extra, Version, Line as LineReason, Limit, Copies, Tag, Order, Twice}
 use Rattle.scenario_text.specs.laws.LineLaws.{LineLaws}
 use Rattle.scenario_text.specs.Draft.{DraftValue, scenario_of, tag_count}
-use Rattle.scenario_text.specs.Faults.{DisagreesAt, DisagreesBy, HasPlace, IsFaultyAt, IsFirstScenarioFault, LeadsBy, MayBegin, ScenarioMayEnd, scenario_rules}
+use Rattle.scenario_text.specs.Faults.{DisagreesAt, DisagreesBy, HasRoomFor, IsFaultyAt, IsFirstScenarioFault, LeadsBy, MayBegin, ScenarioMayEnd, scenario_rules}
 use Rattle.scenario_text.specs.Standing.{Agrees, AgreesWith, HasRoomForLine, MayStand, ScenarioStanding, begun, ended, standing_after, start, within}
 use Rattle.scenario_text.proofs.Decisions.{chooses_once_decided, has_room_decided, is_of_version_decided, keeps_order_decided, may_copy_decided, may_stand_decided, names_tag_decided}
 use Rattle.scenario_lines.proofs.Decisions.{text_decided}
@@ -52,7 +52,7 @@ abbrev GoesOrIsFaulty : ScenarioStanding → List ℕ → Type 0
 GoesOrIsFaulty standing line = ((to : ScenarioStanding) × LeadsBy standing line to) ⊎ ((fault : Fault) × IsFaultyAt standing (fields_of line) fault)
 
 -- ... where it has its place
-placed : LineLaws → (standing : ScenarioStanding) (line : List ℕ) → MayBegin standing (fields_of line) → HasPlace standing (fields_of line) → GoesOrIsFaulty standing line
+placed : LineLaws → (standing : ScenarioStanding) (line : List ℕ) → MayBegin standing (fields_of line) → HasRoomFor standing (fields_of line) → GoesOrIsFaulty standing line
 placed laws standing line begins place = elim (laws.lines_say_something_or_are_faulty (fields_of line)) [
   | inr faulty ↦ inr (LineReason faulty.0, inr (begins, inr (place, inl (record { reason = faulty.0; is = refl; faulty = faulty.1 }))))
   | inl said ↦ elim (agrees_or_not_here standing said.0) [

@@ -18,19 +18,20 @@ use Rattle.scenario_text.specs.AirLines.{ChoosesOnce, KeepsOrder}
 use Rattle.scenario_text.specs.Draft.{DraftValue, tag_count}
 use Rattle.scenario_text.specs.Standing.{ScenarioStanding, start, within, ended, HasRoomForLine, IsOfVersion, MayCopy, MayStand, MayStandNext, NamesTag, standing_after}
 
--- Where the first of some things doesn't hold, its reason is the first; else it is that of the others.
-abbrev pub FailsFirst : Type 0 → Fault → (Fault → Type 0) → Fault → Type 0
-FailsFirst first reason others fault = ((¬ first) × (fault ≡ reason)) ⊎ (first × others fault)
+-- the fault is the reason of the first condition that isn't met: of this one, or else of one of the others
+abbrev pub IsFirstUnmet : Type 0 → Fault → (Fault → Type 0) → Fault → Type 0
+IsFirstUnmet first reason others fault = ((¬ first) × (fault ≡ reason)) ⊎ (first × others fault)
 
 -- the first reason for which a line that may stand here doesn't agree with the lines before it
 abbrev pub DisagreesBy : DraftValue → Line → Fault → Type 0
 DisagreesBy draft line =
-    FailsFirst (IsOfVersion draft.head.version line) (LineReason line_faults.Number)
-    (FailsFirst (MayCopy (tag_count draft) line) Copies
-    (FailsFirst (NamesTag (tag_count draft) line) Tag
-    (FailsFirst (KeepsOrder draft.air line) Order
-    (FailsFirst (ChoosesOnce draft.air line) Twice (λ fault. ⊥)))))
+    IsFirstUnmet (IsOfVersion draft.head.version line) (LineReason line_faults.Number)
+    (IsFirstUnmet (MayCopy (tag_count draft) line) Copies
+    (IsFirstUnmet (NamesTag (tag_count draft) line) Tag
+    (IsFirstUnmet (KeepsOrder draft.air line) Order
+    (IsFirstUnmet (ChoosesOnce draft.air line) Twice (λ fault. ⊥)))))
 
+-- ... behind these lines
 abbrev pub DisagreesAt : ScenarioStanding → Line → Fault → Type 0
 DisagreesAt (within draft) line fault = DisagreesBy draft line fault
 DisagreesAt standing line fault = ⊥
@@ -41,8 +42,8 @@ pub record MayBegin (standing : ScenarioStanding) (fields : List (List ℕ)) : T
   pub begins : BeginsWithKeyword fields keyword
   pub stands : MayStand standing keyword
 
--- ... and is not one too many
-pub record HasPlace (standing : ScenarioStanding) (fields : List (List ℕ)) : Type 0 where
+-- the line begins with a keyword of which there is room for a line here
+pub record HasRoomFor (standing : ScenarioStanding) (fields : List (List ℕ)) : Type 0 where
   pub keyword : Keyword
   pub begins : BeginsWithKeyword fields keyword
   pub room : HasRoomForLine standing keyword
@@ -62,8 +63,8 @@ pub record Disagrees (standing : ScenarioStanding) (fields : List (List ℕ)) (f
 -- the first reason for which a line with its line feed is faulty, where another than the first is needed
 abbrev pub IsFaultyAt : ScenarioStanding → List (List ℕ) → Fault → Type 0
 IsFaultyAt standing fields =
-    FailsFirst (MayBegin standing fields) (LineReason line_faults.Word)
-    (FailsFirst (HasPlace standing fields) Limit (λ fault. SaysNothing fields fault ⊎ Disagrees standing fields fault))
+    IsFirstUnmet (MayBegin standing fields) (LineReason line_faults.Word)
+    (IsFirstUnmet (HasRoomFor standing fields) Limit (λ fault. SaysNothing fields fault ⊎ Disagrees standing fields fault))
 
 -- the first reason for which a line with its line feed is faulty
 abbrev pub IsFaultyInScenario : ScenarioStanding → List ℕ → Fault → Type 0
@@ -80,18 +81,19 @@ pub record LeadsBy (from : ScenarioStanding) (line : List ℕ) (to : ScenarioSta
   pub follows : MayStandNext from said
   pub leads : standing_after from said ≡ to
 
--- a text ends behind its end
+-- a text may end behind its `end` line
 abbrev pub ScenarioMayEnd : ScenarioStanding → Type 0
 ScenarioMayEnd (ended draft) = Unit {0}
 ScenarioMayEnd standing = ⊥
 
--- behind it nothing may stand, and before it a line is needed
-abbrev pub unended_reason : ScenarioStanding → Fault
-unended_reason (ended draft) = Extra
-unended_reason standing = End
+-- why a last line without a line feed is faulty: behind the end nothing may stand, and before it a line is needed
+abbrev pub unended_scenario_reason : ScenarioStanding → Fault
+unended_scenario_reason (ended draft) = Extra
+unended_scenario_reason standing = End
 
+-- the rules of the text of a scenario
 abbrev pub scenario_rules : TextRules ScenarioStanding Fault
-scenario_rules = record { start = start; leads = LeadsBy; is_faulty = IsFaultyInScenario; may_end = ScenarioMayEnd; unended = unended_reason }
+scenario_rules = record { start = start; leads = LeadsBy; is_faulty = IsFaultyInScenario; may_end = ScenarioMayEnd; unended = unended_scenario_reason }
 
 -- the first faulty line of the bytes, counted from 1, with its first reason
 abbrev pub IsFirstScenarioFault : List ℕ → ℕ → Fault → Type 0

@@ -14,7 +14,7 @@ use Rattle.scenario_lines.specs.declared.line.Line.TheVariants as lines
 use Rattle.scenario_text.specs.declared.fault.Fault.{Fault}
 use Rattle.scenario_text.specs.declared.fault.Fault.TheVariants.{Line as LineReason, Copies, Tag, Order, Twice}
 use Rattle.scenario.specs.Limits.{most_tags_of, most_air_lines, most_ops, most_steps}
-use Rattle.scenario_text.specs.Faults.{FailsFirst}
+use Rattle.scenario_text.specs.Faults.{IsFirstUnmet}
 use Rattle.scenario_text.specs.Standing.{IsOfVersion, MayCopy, NamesTag, head_size}
 
 -- the version that the first line names
@@ -145,8 +145,8 @@ ChoosesFirst before line = Unit {0}
 -- it is a second choice.
 abbrev pub DisagreesWith : List Line → Line → Fault → Type 0
 DisagreesWith before line =
-    FailsFirst (IsOfVersion (version_in before) line) (LineReason line_faults.Number)
-    (FailsFirst (MayCopy (tags_in before) line) Copies
-    (FailsFirst (NamesTag (tags_in before) line) Tag
-    (FailsFirst (KeepsOrderBehind before line) Order
-    (FailsFirst (ChoosesFirst before line) Twice (λ fault. ⊥)))))
+    IsFirstUnmet (IsOfVersion (version_in before) line) (LineReason line_faults.Number)
+    (IsFirstUnmet (MayCopy (tags_in before) line) Copies
+    (IsFirstUnmet (NamesTag (tags_in before) line) Tag
+    (IsFirstUnmet (KeepsOrderBehind before line) Order
+    (IsFirstUnmet (ChoosesFirst before line) Twice (λ fault. ⊥)))))

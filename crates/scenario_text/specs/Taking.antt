@@ -8,7 +8,7 @@ use Rattle.scenario_text.specs.declared.progress.Progress.{Progress}
 use Rattle.scenario_text.specs.declared.progress.Progress.TheVariants.{Start, Begun, Linked, Within, Ended}
 use Rattle.scenario_text.specs.Draft.{DraftValue, scenario_of}
 use Rattle.scenario_text.specs.Standing.{ScenarioStanding, start, begun, linked, within, ended}
-use Rattle.scenario_text.specs.Faults.{IsFaultyInScenario, ScenarioMayEnd, scenario_rules, unended_reason}
+use Rattle.scenario_text.specs.Faults.{IsFaultyInScenario, ScenarioMayEnd, scenario_rules, unended_scenario_reason}
 
 -- where the scenario stands when its reader has come so far
 abbrev pub standing_of : Progress → ScenarioStanding
@@ -25,10 +25,10 @@ IsNotTaken standing line number faults.OutOfMemory = Unit {0}
 
 -- why no scenario is said, where these bytes stand behind the last line feed, as the line of this number
 abbrev pub IsUnfinished : ScenarioStanding → List ℕ → ℕ → ScenarioFault → Type 0
-IsUnfinished standing rest number (faults.Line at fault) = (at ≡ number) × (fault ≡ unended_reason standing) × (rest ≡ [] → ¬ ScenarioMayEnd standing)
+IsUnfinished standing rest number (faults.Line at fault) = (at ≡ number) × (fault ≡ unended_scenario_reason standing) × (rest ≡ [] → ¬ ScenarioMayEnd standing)
 IsUnfinished standing rest number faults.OutOfMemory = Unit {0}
 
--- the scenario is said there
+-- the lines up to there say the scenario
 pub record StandsFor (standing : ScenarioStanding) (scenario : Scenario) : Type 0 where
   pub draft : DraftValue
   pub is : standing ≡ ended draft

@@ -216,6 +216,7 @@ impl Progress {
             Err(fault) => Err(ScenarioFault::Line(number, fault)),
         }
     }
+
     /// The scenario that the lines said, where these bytes stand behind the last line feed, as the line of this number.
     ///
     /// # Errors

@@ -107,16 +107,16 @@ called_in (participation ∷ participations) = (if is_called participation then 
 abbrev pub outcome_each : Command → Entry → FloorValue → ℕ → Outcome
 outcome_each command entry floor number = outcome_unless (is_missed number entry) command (get_or floor.tags number no_tag)
 
--- a command passes over a tag: a QueryAdjust over one that takes part in no round
-abbrev pub IsPassedOver : Command → Option Participation → Type 0
-IsPassedOver command part = ((session : ℕ) × (updn : UpDn) × (command ≡ commands.QueryAdjust session updn)) × (part ≡ None)
-
 -- .. where a tag that isn't called stays as it is
 abbrev pub outcome_called : Command → Entry → FloorValue → ℕ → Outcome
 outcome_called command entry floor number =
     if is_called (participation_at floor.parts number)
     then outcome_unless (is_missed number entry) command (get_or floor.tags number no_tag)
     else silent (get_or floor.tags number no_tag).state (get_or floor.tags number no_tag).body
+
+-- a command passes over a tag: a QueryAdjust over one that takes part in no round
+abbrev pub IsPassedOver : Command → Option Participation → Type 0
+IsPassedOver command part = ((session : ℕ) × (updn : UpDn) × (command ≡ commands.QueryAdjust session updn)) × (part ≡ None)
 
 -- what the tags below a number answered
 abbrev pub replies_below : (ℕ → Outcome) → ℕ → List Replied

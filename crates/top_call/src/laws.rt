@@ -19,11 +19,10 @@ use crate::words::probe::probe_is_lawful;
 use crate::words::run::run_is_lawful;
 use crate::words::upgrade::upgrade_is_lawful;
 
-/// A list of words asks for one form at most.
+/// A list of words spells one form at most.
 pub fn forms_are_told_apart()
     ensures { (words : List (List ℕ)) (one other : Form) → SpellForm words one
-        → SpellForm words other
-        → one ≡ other }
+        → SpellForm words other → one ≡ other }
 {}
 
 /// The job of each form is lawful.

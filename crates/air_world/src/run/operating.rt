@@ -26,8 +26,7 @@ use std::sync::ledger::Ledger;
 use tag_machine::{answers_are_replies, steps_keep_tags_legal};
 
 impl<'a, L: Ledger> Run<'a, L> {
-    /// Does the operations that were begun with a tag that was listed, and tells the result of each. It stands alone, so that room for commands is made
-    /// ready behind a listed EPC alone.
+    /// Does the operations that were begun with a tag that was listed, and tells the result of each.
     pub(crate) fn operate<R: Listener>(
         &mut self,
         air: &mut Air,

@@ -3,7 +3,7 @@ use Rattle.std.specs.Prelude.{◌≡◌, ◌↔◌, ℕ, true, List}
 use Rattle.scenario.specs.declared.values.Scenario.{Scenario}
 use Rattle.scenario.specs.Limits.{IsScenario}
 use Rattle.scenario.specs.Upgraded.{upgraded}
-use Rattle.scenario_text.specs.ScenarioText.{IsText, scenario_text}
+use Rattle.scenario_text.specs.ScenarioText.{IsScenarioText, scenario_text}
 use Rattle.report_lines.specs.declared.mode.Mode.{Mode}
 use Rattle.top_call.specs.Job.{Job}
 use Rattle.top_call.specs.words.Reported.{Reports, RefusesScenario}
@@ -18,7 +18,7 @@ pub record Upgrades (bytes text : List ℕ) : Type 0 where
 -- the text is that of a scenario too, whose reports are those of the bytes; and it is what is written for itself
 pub record ProvesUpgrade (bytes text : List ℕ) : Type 0 where
   pub upgrades : Upgrades bytes text
-  pub is_text : IsText text
+  pub is_text : IsScenarioText text
   pub same_report : (mode : Mode) (report : List ℕ) → Reports mode text report ↔ Reports mode bytes report
   pub once : Upgrades text text
 
@@ -26,7 +26,7 @@ pub record ProvesUpgrade (bytes text : List ℕ) : Type 0 where
 abbrev pub upgrade_job : Job
 upgrade_job = record {
   input = true;
-  allows = IsText;
+  allows = IsScenarioText;
   writes = Upgrades;
   refuses = RefusesScenario;
   promises = ProvesUpgrade;
