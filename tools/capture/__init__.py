@@ -11,5 +11,5 @@ line for the levels that came back. The parts, in the order in which a recording
     streams     follows the clocks through streams, many side by side, and decides their levels by the trellis of their code
     explain     puts it together, and prints a line for each frame
 
-`making` makes recordings of runs, `possible` computes what a receiver that knows clock and amplitude could reach, and `table` measures.
+`words` has what the helpers are asked, and needs no numpy; `making` makes recordings of runs, `possible` computes what a receiver that knows clock and amplitude could reach, and `table` measures.
 """

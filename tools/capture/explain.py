@@ -6,7 +6,6 @@ import argparse
 import json
 import os
 import sys
-from typing import NoReturn
 from dataclasses import dataclass, field
 
 from awaited import awaited
@@ -15,17 +14,7 @@ from . import codes, frames, logic, reading, replies
 from .program import Program
 from .reading import Trouble
 from .waves import Analogue, Logic, Waves
-
-HELP = """Explains a recording of an inventory: a line for each frame, with its time, its command, and its reply or why there is none.
-
-FILE is a WAV of 8 to 32 bits or floats, of one channel or of two as I and Q; a SigMF recording; raw samples, of which --format and --rate say what
-they are; or two logic channels, a reader's line and a tag's, as .csv, .vcd or a sigrok session .sr. PROGRAM is ./gen2run, or the program itself: its
-`decode` says what each frame and each reply is."""
-AFTER = """A line says: when the frame begins; the command; behind -> the reply, as `decode` has it, or why there is none; and in brackets the BLF and how far
-it is from what the Query asks, the spread of a level about what is expected of it, in percent of the way from low to high, how many levels were
-decided against their integral, and by how much lengths of the frame were moved onto its own Tari, RTcal and TRcal. A level that was broken by more than
-noise accounts for stands in the reply as it came, so that `decode` refuses it."""
-
+from .words import explaining
 
 # Replies of so many samples are followed side by side.
 AT_A_TIME = 1 << 20
@@ -243,28 +232,6 @@ def printed(exchanges: list[Exchange], strays: list[frames.Stray], form: str) ->
     return [text for _, text in sorted(lines, key=lambda it: it[0])]
 
 
-class Options(argparse.ArgumentParser):
-    """Arguments of which an error is one line."""
-
-    def error(self, message: str) -> NoReturn:
-        self.exit(2, f"{self.prog}: {message}; {self.prog} --help says more\n")
-
-
-def options() -> argparse.ArgumentParser:
-    parser = Options(prog="explain_capture", description=HELP, epilog=AFTER, formatter_class=argparse.RawDescriptionHelpFormatter)
-    parser.add_argument("program", metavar="PROGRAM")
-    parser.add_argument("file", metavar="FILE")
-    form = parser.add_mutually_exclusive_group()
-    form.add_argument("--json", action="store_const", dest="form", const="json", default="text", help="an object for each line")
-    form.add_argument("--lines", action="store_const", dest="form", const="lines", help="the lines pie and heard instead, which decode and draw read")
-    parser.add_argument("--format", metavar="FORMAT", help=f"what raw samples are: {', '.join(reading.FORMATS)}; those with c are complex")
-    parser.add_argument("--rate", metavar="HZ", type=float, help="samples a second, where the file doesn't say it or says it wrongly")
-    parser.add_argument("--link", nargs=3, metavar=("BLF", "CODE", "TREXT"), help="what the Query said, where it isn't in the recording: 426667 fm0 0")
-    parser.add_argument("--reader", metavar="NAME", help="the channel of the reader's line; without it the one called reader, or the first")
-    parser.add_argument("--tag", metavar="NAME", help="the channel of the tag's line; without it the one called tag, or the second")
-    return parser
-
-
 def link_of(asked: list[str] | None) -> replies.Link | None:
     if asked is None:
         return None
@@ -286,7 +253,7 @@ def waves_of(asked: argparse.Namespace) -> Waves:
 
 
 def main() -> int:
-    asked = options().parse_args()
+    asked = explaining().parse_args()
     progress = Terminal()
     try:
         waves = waves_of(asked)

@@ -6,47 +6,21 @@ Frames and replies are those of `run trace`, with T1 and T2 between them as the 
 
 from __future__ import annotations
 
-import argparse
 import json
 import os
 import subprocess
 import sys
-from typing import NoReturn
 import zipfile
 from dataclasses import dataclass, fields
 
 import numpy as np
 
+from .words import Channel, making
+
 # What the carrier is, and a low of the reader.
 CARRIER, DIP = 150.0, 20.0
 # How long the carrier is on before the first frame and behind the last, in nanoseconds.
 AROUND = 100_000.0
-
-
-@dataclass
-class Channel:
-    """What a recording is made with.
-
-    `noise` is a standard deviation and `lift` what a tag adds at high, both in 1/256 of what 8 bits have; `drift` is how far the baseline goes up
-    and down. The BLF is wrong by `wrong`, in one reply too fast and in the next too slow, and beside that by `offset`. The whole wave goes up and
-    down by `gain`, `gain_rate` times a second. An edge takes `edges` seconds as a straight line, and each interval of the reader is wrong by
-    `jitter`, a standard deviation. `angle` is that of the tag's wave to the carrier where the samples are complex, in degrees.
-    """
-
-    rate: float = 4e6
-    seed: int = 1
-    lift: float = 25.0
-    noise: float = 2.0
-    drift: float = 15.0
-    wrong: float = 0.01
-    offset: float = 0.0
-    gain: float = 0.0
-    gain_rate: float = 5000.0
-    edges: float = 0.0
-    jitter: float = 0.0
-    angle: float = 0.0
-    repeat: int = 1
-    carrier_behind: float = 0.0
 
 
 @dataclass
@@ -205,40 +179,8 @@ def write_sigrok(path: str, reader: np.ndarray, tag: np.ndarray, rate: float) ->
         file.writestr("logic-1-1", (reader + 2 * tag).astype("u1").tobytes())
 
 
-FORMS = ["wav8", "wav16", "wav24", "wav32", "wavf", "wav16-iq", "wavf-iq", "u8", "i16", "f32", "ci16", "cf32"]
-FORMS += [f"sigmf-{it}" for it in ("u8", "i16", "f32", "ci16", "cf32")] + ["csv", "vcd", "sr"]
-
-
-class Options(argparse.ArgumentParser):
-    """Arguments of which an error is one line."""
-
-    def error(self, message: str) -> NoReturn:
-        self.exit(2, f"{self.prog}: {message}; {self.prog} --help says more\n")
-
-
-def options() -> argparse.ArgumentParser:
-    parser = Options(prog="make_recording", description=__doc__, formatter_class=argparse.RawDescriptionHelpFormatter)
-    parser.add_argument("program", metavar="PROGRAM", help="./gen2run, or the program itself")
-    parser.add_argument("scenario", metavar="SCENARIO", help="the file with the scenario that is played")
-    parser.add_argument("path", metavar="FILE", help="the recording")
-    parser.add_argument("--form", choices=FORMS, default="wav8", metavar="FORM", help=f"what FILE is: {', '.join(FORMS)}; without it wav8")
-    told = {
-        "rate": "samples a second", "seed": "the same seed makes the same recording", "lift": "what a tag at high adds to the carrier, of 256",
-        "noise": "standard deviation of a sample, of 256", "drift": "how far the baseline goes up and down, of 256",
-        "wrong": "by which part the BLF is too high and too low in turn", "offset": "by which part the BLF is too high beside that",
-        "gain": "by which part the whole wave goes up and down", "gain_rate": "how often it does in a second", "edges": "seconds that an edge takes",
-        "jitter": "standard deviation of each interval of the reader, as a part", "angle": "of the tag's wave to the carrier, in degrees, where samples are complex",
-        "repeat": "how often the run is played", "carrier_behind": "seconds of carrier behind the last exchange",
-    }  # fmt: skip
-    default = Channel()
-    for name, text in told.items():
-        value = getattr(default, name)
-        parser.add_argument("--" + name.replace("_", "-"), type=type(value), default=value, metavar="N", help=f"{text}; without it {value:g}")
-    return parser
-
-
 def main() -> int:
-    asked = vars(options().parse_args())
+    asked = vars(making().parse_args())
     channel = Channel(**{it.name: asked[it.name] for it in fields(Channel)})
     try:
         with open(asked["scenario"], encoding="ascii") as file:

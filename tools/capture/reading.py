@@ -9,6 +9,8 @@ from typing import Callable, NamedTuple
 
 import numpy as np
 
+from .words import RAW_FORMATS
+
 
 class Trouble(Exception):
     """What is wrong with a file or an option, as one line."""
@@ -22,13 +24,18 @@ class Format(NamedTuple):
     middle: float
 
 
-FORMATS = {
-    "u8": Format("u1", False, 128.0),
-    "i16": Format("<i2", False, 0.0),
-    "f32": Format("<f4", False, 0.0),
-    "ci16": Format("<i2", True, 0.0),
-    "cf32": Format("<f4", True, 0.0),
-}
+FORMATS = dict(
+    zip(
+        RAW_FORMATS,
+        [
+            Format("u1", False, 128.0),
+            Format("<i2", False, 0.0),
+            Format("<f4", False, 0.0),
+            Format("<i2", True, 0.0),
+            Format("<f4", True, 0.0),
+        ],
+    )
+)
 # What SigMF calls a number, beside its order of bytes.
 SIGMF_NUMBERS = {"u8": ("u1", 128.0), "i8": ("i1", 0.0), "u16": ("u2", 32768.0), "i16": ("i2", 0.0), "i32": ("i4", 0.0), "f32": ("f4", 0.0), "f64": ("f8", 0.0)}
 
