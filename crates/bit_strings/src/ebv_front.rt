@@ -1,5 +1,5 @@
 //! Extensible bit vectors, one bit at a time.
-ghost use Rattle.std.specs.Prelude.{◌≡◌, ◌+◌, ◌%◌, ◌<◌, ◌≤◌, ◌⊎◌, ◌++◌, ◌∷◌, [], ℕ, List, Bool, length, take};
+ghost use Rattle.std.specs.Prelude.{◌≡◌, ◌+◌, ◌%◌, ◌++◌, ◌∷◌, [], ℕ, List, Bool, length};
 ghost use Rattle.bit_strings.specs.Numbers.{value_of};
 ghost use Rattle.bit_strings.specs.Ebv.{IsEbv, IsCutEbv};
 ghost use Rattle.bit_strings.specs.EbvAnswers.{IsEbvStep};
@@ -74,30 +74,6 @@ impl EbvFront {
             return self.end_block(bit);
         }
         EbvStep::More(self.with(bit))
-    }
-
-    /// Takes the bits with which these begin inside a digit, as most bits do: gives how many. It stops
-    /// before an extension bit or the last bit of a digit.
-    pub fn take_run(&mut self, bits: &[bool]) -> usize
-        ensures within { result ≤ length bits.now }
-        ensures taken { self.new ≡ self.old ++ take result bits.now }
-        ensures begun { IsCutEbv self.new }
-        ensures none { length self.old % 8 ≡ 0 → result ≡ 0 }
-        ensures inside { length self.old % 8 + result ≤ 7 }
-        ensures edge { result < length bits.now → (length self.new % 8 ≡ 0)
-            ⊎ (length self.new % 8 ≡ 7) }
-    {
-        let place = self.count % 8;
-        if place == 0 {
-            return 0;
-        }
-        let count = bits.len().min((7 - place) as usize);
-        let mut front = *self;
-        for at in 0..count {
-            front = front.with(bits[at]);
-        }
-        *self = front;
-        count
     }
 
     /// The bits with one more behind them.
