@@ -1,6 +1,7 @@
 mod EmptyTexts
 mod MaskDigits
 mod NoSelect
+pub mod NameLists
 mod PayloadDigits
 mod Pieces
 pub mod CommandTexts

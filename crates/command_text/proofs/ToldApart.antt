@@ -26,60 +26,82 @@ use Rattle.command_fields.specs.declared.choices.FlagName.{FlagName}
 use Rattle.command_fields.specs.declared.choices.FlagName.TheVariants as flags
 use Rattle.command_grammar.specs.Commands.{IsLegalCommand, IsWord}
 use Rattle.command_grammar.specs.declared.kinds.CommandKind.{CommandKind}
-use Rattle.command_grammar.specs.declared.kinds.CommandKind.TheVariants as kinds
 use Rattle.command_grammar.specs.declared.commands.Command.{Command}
 use Rattle.command_grammar.specs.declared.commands.Command.TheVariants.{QueryRep, Ack, Query, QueryAdjust, Select, Nak, ReqRn, Read, Write, Kill, Lock, Access, BlockWrite, BlockErase}
+use Rattle.command_text.specs.NameLists.{EachFound, command_found, all_command_kinds}
+use Rattle.command_text.proofs.NameLists.{told}
 use Rattle.command_text.specs.CommandText.{bank_word, command_kind, command_name, flag_word, mask_bank_word, other_command_fields, payload_digits, sel_word, side_word, updn_word}
 
--- the letter at a place of two equal texts
-pub letter : (place : ℕ) (one other : List ℕ) → one ≡ other → get_or one place 0 ≡ get_or other place 0
-letter place one other same = ap (λ (text : List ℕ). get_or text place 0) same
+-- the words of a field, of which no two are alike
+abbrev pub all_flags : List FlagName
+all_flags = flags.S0 ∷ flags.S1 ∷ flags.S2 ∷ flags.S3 ∷ flags.Sl ∷ []
+
+pub flag_found : EachFound flag_word all_flags
+flag_found flags.S0 = refl
+flag_found flag = refl
 
 pub flag_told : (one other : FlagName) → flag_word one ≡ flag_word other → one ≡ other
-flag_told flags.S0 flags.S0 same = refl
-flag_told flags.S1 flags.S1 same = refl
-flag_told flags.S2 flags.S2 same = refl
-flag_told flags.S3 flags.S3 same = refl
-flag_told flags.Sl flags.Sl same = refl
-flag_told one other same = absurd (omega (arith, letter 0 _ _ same, letter 1 _ _ same))
+flag_told = told flag_word all_flags flag_found
+
+abbrev pub all_mask_banks : List MaskBank
+all_mask_banks = mask_banks.Epc ∷ mask_banks.Tid ∷ mask_banks.User ∷ []
+
+pub mask_bank_found : EachFound mask_bank_word all_mask_banks
+mask_bank_found mask_banks.Epc = refl
+mask_bank_found bank = refl
 
 pub mask_bank_told : (one other : MaskBank) → mask_bank_word one ≡ mask_bank_word other → one ≡ other
-mask_bank_told mask_banks.Epc mask_banks.Epc same = refl
-mask_bank_told mask_banks.Tid mask_banks.Tid same = refl
-mask_bank_told mask_banks.User mask_banks.User same = refl
-mask_bank_told one other same = absurd (omega (arith, letter 0 _ _ same))
+mask_bank_told = told mask_bank_word all_mask_banks mask_bank_found
+
+abbrev pub all_banks : List Bank
+all_banks = banks.Reserved ∷ banks.Epc ∷ banks.Tid ∷ banks.User ∷ []
+
+pub bank_found : EachFound bank_word all_banks
+bank_found banks.Reserved = refl
+bank_found bank = refl
 
 pub bank_told : (one other : Bank) → bank_word one ≡ bank_word other → one ≡ other
-bank_told banks.Reserved banks.Reserved same = refl
-bank_told banks.Epc banks.Epc same = refl
-bank_told banks.Tid banks.Tid same = refl
-bank_told banks.User banks.User same = refl
-bank_told one other same = absurd (omega (arith, letter 0 _ _ same))
+bank_told = told bank_word all_banks bank_found
+
+abbrev pub all_sides : List Side
+all_sides = sides.A ∷ sides.B ∷ []
+
+pub side_found : EachFound side_word all_sides
+side_found sides.A = refl
+side_found side = refl
 
 pub side_told : (one other : Side) → side_word one ≡ side_word other → one ≡ other
-side_told sides.A sides.A same = refl
-side_told sides.B sides.B same = refl
-side_told one other same = absurd (omega (arith, letter 0 _ _ same))
+side_told = told side_word all_sides side_found
+
+abbrev all_sels : List Sel
+all_sels = sels.All00 ∷ sels.All01 ∷ sels.NotSl ∷ sels.Sl ∷ []
+
+sel_found : EachFound sel_word all_sels
+sel_found sels.All00 = refl
+sel_found sel = refl
 
 pub sel_told : (one other : Sel) → sel_word one ≡ sel_word other → one ≡ other
-sel_told sels.All00 sels.All00 same = refl
-sel_told sels.All01 sels.All01 same = refl
-sel_told sels.NotSl sels.NotSl same = refl
-sel_told sels.Sl sels.Sl same = refl
-sel_told one other same = absurd (omega (arith, letter 0 _ _ same, letter 1 _ _ same))
+sel_told = told sel_word all_sels sel_found
+
+abbrev all_updns : List UpDn
+all_updns = updns.Up ∷ updns.Same ∷ updns.Down ∷ []
+
+updn_found : EachFound updn_word all_updns
+updn_found updns.Up = refl
+updn_found updn = refl
 
 pub updn_told : (one other : UpDn) → updn_word one ≡ updn_word other → one ≡ other
-updn_told updns.Up updns.Up same = refl
-updn_told updns.Same updns.Same same = refl
-updn_told updns.Down updns.Down same = refl
-updn_told one other same = absurd (omega (arith, letter 0 _ _ same))
+updn_told = told updn_word all_updns updn_found
+
+abbrev pub all_codes : List Code
+all_codes = line_codes.Fm0 ∷ line_codes.M2 ∷ line_codes.M4 ∷ line_codes.M8 ∷ []
+
+pub code_found : EachFound code_word all_codes
+code_found line_codes.Fm0 = refl
+code_found code = refl
 
 pub code_told : (one other : Code) → code_word one ≡ code_word other → one ≡ other
-code_told line_codes.Fm0 line_codes.Fm0 same = refl
-code_told line_codes.M2 line_codes.M2 same = refl
-code_told line_codes.M4 line_codes.M4 same = refl
-code_told line_codes.M8 line_codes.M8 same = refl
-code_told one other same = absurd (omega (arith, letter 0 _ _ same, letter 1 _ _ same))
+code_told = told code_word all_codes code_found
 
 pub digit_told : (one other : Bool) → binary_digit one ≡ binary_digit other → one ≡ other
 digit_told false false same = refl
@@ -114,21 +136,7 @@ pub list_of_block : (words : List ℕ) → AreBlock words → IsWordList 1 255 w
 list_of_block words is = record { some = is.0; room = is.1; small = All-from_recursion IsWord words is.2 }
 
 pub command_name_told : (one other : CommandKind) → command_name one ≡ command_name other → one ≡ other
-command_name_told kinds.QueryRep kinds.QueryRep same = refl
-command_name_told kinds.Ack kinds.Ack same = refl
-command_name_told kinds.Query kinds.Query same = refl
-command_name_told kinds.QueryAdjust kinds.QueryAdjust same = refl
-command_name_told kinds.Select kinds.Select same = refl
-command_name_told kinds.Nak kinds.Nak same = refl
-command_name_told kinds.ReqRn kinds.ReqRn same = refl
-command_name_told kinds.Read kinds.Read same = refl
-command_name_told kinds.Write kinds.Write same = refl
-command_name_told kinds.Kill kinds.Kill same = refl
-command_name_told kinds.Lock kinds.Lock same = refl
-command_name_told kinds.Access kinds.Access same = refl
-command_name_told kinds.BlockWrite kinds.BlockWrite same = refl
-command_name_told kinds.BlockErase kinds.BlockErase same = refl
-command_name_told one other same = absurd (omega (arith, letter 0 _ _ same, letter 2 _ _ same, letter 5 _ _ same))
+command_name_told = told command_name all_command_kinds command_found
 
 -- the field at a place of two equal lists of fields
 field : (place : ℕ) (one other : List (List ℕ)) → one ≡ other → get_or one place [] ≡ get_or other place []

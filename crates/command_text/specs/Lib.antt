@@ -1,2 +1,3 @@
 pub mod CommandText
+pub mod NameLists
 pub mod laws

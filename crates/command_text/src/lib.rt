@@ -5,6 +5,7 @@ mod commands;
 mod kinds;
 mod laws;
 mod lists;
+mod name_lists;
 mod names;
 mod payloads;
 mod reading;
@@ -16,6 +17,7 @@ pub use laws::{
     commands_have_one_fault, spelled_commands_are_not_faulty,
 };
 pub use lists::{block_of, mask_of};
+pub use name_lists::{Named, value_named};
 pub use names::{
     bank_name, bank_named, bit_name, flag_name, flag_named, mask_bank_named, side_letter,
     side_name, side_named,

@@ -9,7 +9,8 @@ mod access;
 mod inventory;
 mod select;
 
-use crate::kinds::{command_named, field_count};
+use crate::kinds::field_count;
+use crate::name_lists::value_named;
 use access::{
     read_block_erase_to, read_block_write_to, read_lock_to, read_read_to, read_two_words,
     read_write_to,
@@ -106,7 +107,7 @@ fn read_named_to(mut fields: Fields, command: &mut Command) -> Result<(), Fields
     let Some(name) = fields.next() else {
         return Err(FieldsFault::Shape);
     };
-    let Some(kind) = command_named(name) else {
+    let Some(kind) = value_named::<CommandKind>(name) else {
         return Err(FieldsFault::Word);
     };
     match read_behind_to(kind, fields.again(), command) {

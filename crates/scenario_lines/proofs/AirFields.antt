@@ -24,11 +24,9 @@ one_number_filled : (n : ℕ) → n < 2 ^ 32 → AreFilled 1 (decimal n ∷ [])
 one_number_filled n small = one_more 0 (decimal n) [] (number_text n small).filled none_filled
 
 pub event_filled : (event : Event) (tag : ℕ) → IsEvent event tag → AreFilled (event_field_count (event_kind event)) (event_fields event tag)
-event_filled events.Timeout tag is = one_number_filled tag (omega (arith, is.place))
-event_filled events.Off tag is = one_number_filled tag (omega (arith, is.place))
-event_filled events.On tag is = one_number_filled tag (omega (arith, is.place))
 event_filled (events.Expire flag) tag is =
     one_more 1 (flag_word flag) (decimal tag ∷ []) (flag_is flag).filled (one_number_filled tag (omega (arith, is.place)))
+event_filled event tag is = one_number_filled tag (omega (arith, is.place))
 
 -- what is said of an exchange has its fields
 pub happening_filled : (happening : Happening) → IsHappening happening → AreFilled (air_field_count (air_kind happening)) (happening_fields happening)

@@ -8,7 +8,5 @@ use Rattle.scenario_lines.specs.Names.{event_kind}
 
 -- an expiry has a flag
 pub expiry_has_flag : (event : Event) → event_kind event ≡ Expire → (flag : FlagName) × (event ≡ events.Expire flag)
-expiry_has_flag events.Timeout same = cc
-expiry_has_flag events.Off same = cc
-expiry_has_flag events.On same = cc
 expiry_has_flag (events.Expire flag) same = (flag, refl)
+expiry_has_flag event same = cc

@@ -1,29 +1,18 @@
 -- Each field of a line is of its form and range, or it isn't.
-use Rattle.std.proofs.Common.{◌≡◌, ◌≢◌, ◌<◌, ◌≤◌, ◌^◌, ◌⊎◌, ℕ, suc, Bool, true, false, List, [], ◌∷◌, ◌++◌, length, map, take, drop, refl, sym, ◌∙◌, ap, ap₂, subst, inl, inr, arith}
+use Rattle.std.proofs.Common.{◌≡◌, ◌≢◌, ◌<◌, ◌≤◌, ◌^◌, ◌⊎◌, ℕ, suc, Option, Some, None, Bool, true, false, List, [], ◌∷◌, ◌++◌, length, map, take, drop, refl, sym, ◌∙◌, ap, ap₂, subst, inl, inr, arith}
 use Rattle.std.specs.Prelude.{All, codes}
 use Rattle.std.specs.Fmt.{decimal}
 use Rattle.std.specs.List.{flat_map}
 use Rattle.std.proofs.lemmas.List.Elements.{All-cons, All-head, All-nil, All-tail}
-use Rattle.bit_strings.specs.declared.code.Code.{Code}
-use Rattle.bit_strings.specs.declared.code.Code.TheVariants as line_codes
 use Rattle.text_fields.specs.Binary.{binary, binary_digit, hyphen, or_hyphen}
 use Rattle.text_fields.specs.CodeNames.{code_word}
 use Rattle.text_fields.specs.Hexadecimal.{hex_word, hex_words}
 use Rattle.text_fields.proofs.ToldApart.{binary_told, hex_words_told}
 use Rattle.command_text.specs.CommandText.{bank_word, flag_word, mask_bank_word, payload_digits, side_word}
-use Rattle.command_fields.specs.declared.choices.Bank.{Bank}
-use Rattle.command_fields.specs.declared.choices.Bank.TheVariants as all_banks
 use Rattle.command_fields.specs.declared.choices.FlagName.{FlagName}
 use Rattle.command_fields.specs.declared.choices.FlagName.TheVariants as flags
-use Rattle.command_fields.specs.declared.choices.MaskBank.{MaskBank}
-use Rattle.command_fields.specs.declared.choices.MaskBank.TheVariants as banks
-use Rattle.command_fields.specs.declared.choices.Sel.{Sel}
 use Rattle.command_fields.specs.declared.choices.Sel.TheVariants as sels
-use Rattle.command_fields.specs.declared.choices.Side.{Side}
-use Rattle.command_fields.specs.declared.choices.Side.TheVariants as sides
 use Rattle.lock_rules.specs.declared.locks.Pair.{Pair}
-use Rattle.air_events.specs.declared.Several.{Several}
-use Rattle.air_events.specs.declared.Several.TheVariants as severals
 use Rattle.q_round.specs.SpecValue.{IsLegalRule}
 use Rattle.q_round.specs.declared.rule.Rule.{Rule}
 use Rattle.q_round.specs.declared.rule.Rule.TheVariants as rules
@@ -33,6 +22,10 @@ use Rattle.scenario_lines.specs.Names.{HasRuleText, rule_text, sel_text, several
 use Rattle.text_fields.specs.WordLists.{IsWordList}
 use Rattle.value_text.specs.ValueText.{locks_text, password_text}
 use Rattle.scenario_lines.specs.Spelling.{flag_text}
+use Rattle.command_text.specs.NameLists.{EachFound, first_named}
+use Rattle.command_text.proofs.NameLists.{found_is, told}
+use Rattle.command_text.proofs.ToldApart.{all_banks, all_codes, all_flags, all_mask_banks, all_sides, bank_found, code_found, flag_found, mask_bank_found, side_found}
+use Rattle.scenario_lines.proofs.ToldNames.{all_sels, sel_found, several_found, all_severals, version_found, all_versions}
 use Rattle.scenario_lines.proofs.Decisions.{Any, Behind, Decided, Spelled, behind_decided, below_decided, both, either, le_decided, nothing_decided, number_decided, same_answer, text_decided}
 
 -- a number in a range
@@ -59,112 +52,63 @@ payload_decided field = spelled_below payload_digits 1048576 field
 pub password_decided : (field : List ℕ) → Decided (Spelled password_text (λ password. password < 2 ^ 32) field)
 password_decided field = spelled_below password_text (2 ^ 32) field
 
--- a value with a word of its own: each word is tried
-pub tried : {V : Type 0} {May : V → Type 0} {word : V → List ℕ} {field : List ℕ} (value : V) → May value
+-- a value with a word of its own, or another
+tried : {V : Type 0} {May : V → Type 0} {word : V → List ℕ} {field : List ℕ} (value : V) → May value
     → (field ≢ word value → Decided (Spelled word May field)) → Decided (Spelled word May field)
 tried {word = word} {field = field} value may others = elim (text_decided field (word value)) [
   | inl is ↦ inl (value, may, is)
   | inr never ↦ others never
 ]
 
-no_flag : (field : List ℕ) → field ≢ flag_word flags.S0 → field ≢ flag_word flags.S1 → field ≢ flag_word flags.S2 → field ≢ flag_word flags.S3
-    → field ≢ flag_word flags.Sl → (flag : FlagName) → field ≡ flag_word flag → ⊥
-no_flag field s0 s1 s2 s3 sl flags.S0 is = s0 is
-no_flag field s0 s1 s2 s3 sl flags.S1 is = s1 is
-no_flag field s0 s1 s2 s3 sl flags.S2 is = s2 is
-no_flag field s0 s1 s2 s3 sl flags.S3 is = s3 is
-no_flag field s0 s1 s2 s3 sl flags.Sl is = sl is
+-- a value by its name, where each value is the first of its name: the first of the name is looked for
+first_decided : {V : Type 0} (word : V → List ℕ) (values : List V) → EachFound word values → (field : List ℕ) (first : Option V)
+    → first_named word field values ≡ first → Decided (Spelled word Any field)
+first_decided word values finds field (Some value) is = inl (value, tt, sym (found_is word field values value is))
+first_decided word values finds field None is =
+    inr (λ some. let there : first_named word field values ≡ Some some.0 = ap (λ name. first_named word name values) some.2 ∙ finds some.0 in cc)
+
+pub named_decided : {V : Type 0} (word : V → List ℕ) (values : List V) → EachFound word values → (field : List ℕ) → Decided (Spelled word Any field)
+named_decided word values finds field = first_decided word values finds field (first_named word field values) refl
+
+-- ... where all values but one may stand
+but_decided : {V : Type 0} (word : V → List ℕ) (values : List V) → EachFound word values → (none : V) (field : List ℕ)
+    → Decided (Spelled word (λ value. value ≢ none) field)
+but_decided word values finds none field = elim (text_decided field (word none)) [
+  | inl is ↦ inr (λ some. some.1 (told word values finds some.0 none (sym some.2 ∙ is)))
+  | inr other ↦ same_answer (λ some. (some.0, (λ same. other (some.2 ∙ ap word same)), some.2)) (λ some. (some.0, tt, some.2))
+      (named_decided word values finds field)
+]
 
 pub flag_decided : (field : List ℕ) → Decided (Spelled flag_word Any field)
-flag_decided field =
-    tried flags.S0 tt (λ s0. tried flags.S1 tt (λ s1. tried flags.S2 tt (λ s2. tried flags.S3 tt (λ s3. tried flags.Sl tt (λ sl.
-    inr (λ found. no_flag field s0 s1 s2 s3 sl found.0 found.2))))))
+flag_decided = named_decided flag_word all_flags flag_found
 
 -- the flags that can expire
 abbrev pub IsLasting : FlagName → Type 0
 IsLasting flag = flag ≢ flags.S0
 
-no_lasting : (field : List ℕ) → field ≢ flag_word flags.S1 → field ≢ flag_word flags.S2 → field ≢ flag_word flags.S3 → field ≢ flag_word flags.Sl
-    → (flag : FlagName) → IsLasting flag → field ≡ flag_word flag → ⊥
-no_lasting field s1 s2 s3 sl flags.S0 lasting is = lasting refl
-no_lasting field s1 s2 s3 sl flags.S1 lasting is = s1 is
-no_lasting field s1 s2 s3 sl flags.S2 lasting is = s2 is
-no_lasting field s1 s2 s3 sl flags.S3 lasting is = s3 is
-no_lasting field s1 s2 s3 sl flags.Sl lasting is = sl is
-
 pub lasting_decided : (field : List ℕ) → Decided (Spelled flag_word IsLasting field)
-lasting_decided field =
-    tried flags.S1 (λ same. cc) (λ s1. tried flags.S2 (λ same. cc) (λ s2. tried flags.S3 (λ same. cc) (λ s3. tried flags.Sl (λ same. cc) (λ sl.
-    inr (λ found. no_lasting field s1 s2 s3 sl found.0 found.1 found.2)))))
-
-no_bank : (field : List ℕ) → field ≢ mask_bank_word banks.Epc → field ≢ mask_bank_word banks.Tid → field ≢ mask_bank_word banks.User
-    → (bank : MaskBank) → field ≡ mask_bank_word bank → ⊥
-no_bank field epc tid user banks.Epc is = epc is
-no_bank field epc tid user banks.Tid is = tid is
-no_bank field epc tid user banks.User is = user is
+lasting_decided = but_decided flag_word all_flags flag_found flags.S0
 
 pub bank_decided : (field : List ℕ) → Decided (Spelled mask_bank_word Any field)
-bank_decided field =
-    tried banks.Epc tt (λ epc. tried banks.Tid tt (λ tid. tried banks.User tt (λ user. inr (λ found. no_bank field epc tid user found.0 found.2))))
-
-no_any_bank : (field : List ℕ) → field ≢ bank_word all_banks.Reserved → field ≢ bank_word all_banks.Epc → field ≢ bank_word all_banks.Tid
-    → field ≢ bank_word all_banks.User → (bank : Bank) → field ≡ bank_word bank → ⊥
-no_any_bank field res epc tid user all_banks.Reserved is = res is
-no_any_bank field res epc tid user all_banks.Epc is = epc is
-no_any_bank field res epc tid user all_banks.Tid is = tid is
-no_any_bank field res epc tid user all_banks.User is = user is
+bank_decided = named_decided mask_bank_word all_mask_banks mask_bank_found
 
 pub any_bank_decided : (field : List ℕ) → Decided (Spelled bank_word Any field)
-any_bank_decided field =
-    tried all_banks.Reserved tt (λ res. tried all_banks.Epc tt (λ epc. tried all_banks.Tid tt (λ tid. tried all_banks.User tt (λ user.
-    inr (λ found. no_any_bank field res epc tid user found.0 found.2)))))
-
-no_code : (field : List ℕ) → field ≢ code_word line_codes.Fm0 → field ≢ code_word line_codes.M2 → field ≢ code_word line_codes.M4
-    → field ≢ code_word line_codes.M8 → (code : Code) → field ≡ code_word code → ⊥
-no_code field fm0 m2 m4 m8 line_codes.Fm0 is = fm0 is
-no_code field fm0 m2 m4 m8 line_codes.M2 is = m2 is
-no_code field fm0 m2 m4 m8 line_codes.M4 is = m4 is
-no_code field fm0 m2 m4 m8 line_codes.M8 is = m8 is
+any_bank_decided = named_decided bank_word all_banks bank_found
 
 pub code_decided : (field : List ℕ) → Decided (Spelled code_word Any field)
-code_decided field =
-    tried line_codes.Fm0 tt (λ fm0. tried line_codes.M2 tt (λ m2. tried line_codes.M4 tt (λ m4. tried line_codes.M8 tt (λ m8.
-    inr (λ found. no_code field fm0 m2 m4 m8 found.0 found.2)))))
-
-no_side : (field : List ℕ) → field ≢ side_word sides.A → field ≢ side_word sides.B → (side : Side) → field ≡ side_word side → ⊥
-no_side field a b sides.A is = a is
-no_side field a b sides.B is = b is
+code_decided = named_decided code_word all_codes code_found
 
 pub side_decided : (field : List ℕ) → Decided (Spelled side_word Any field)
-side_decided field = tried sides.A tt (λ a. tried sides.B tt (λ b. inr (λ found. no_side field a b found.0 found.2)))
-
-no_sel : (field : List ℕ) → field ≢ sel_text sels.All00 → field ≢ sel_text sels.NotSl → field ≢ sel_text sels.Sl
-    → (sel : Sel) → sel ≢ sels.All01 → field ≡ sel_text sel → ⊥
-no_sel field all nsl sl sels.All00 named is = all is
-no_sel field all nsl sl sels.All01 named is = named refl
-no_sel field all nsl sl sels.NotSl named is = nsl is
-no_sel field all nsl sl sels.Sl named is = sl is
+side_decided = named_decided side_word all_sides side_found
 
 pub sel_decided : (field : List ℕ) → Decided (Spelled sel_text (λ sel. sel ≢ sels.All01) field)
-sel_decided field =
-    tried sels.All00 (λ same. cc) (λ all. tried sels.NotSl (λ same. cc) (λ nsl. tried sels.Sl (λ same. cc) (λ sl.
-    inr (λ found. no_sel field all nsl sl found.0 found.1 found.2))))
-
-no_version : (field : List ℕ) → field ≢ version_digit One → field ≢ version_digit Two → (version : Version) → field ≡ version_digit version → ⊥
-no_version field first second One is = first is
-no_version field first second Two is = second is
+sel_decided = but_decided sel_text all_sels sel_found sels.All01
 
 pub version_decided : (field : List ℕ) → Decided (Spelled version_digit Any field)
-version_decided field = tried One tt (λ first. tried Two tt (λ second. inr (λ found. no_version field first second found.0 found.2)))
-
-no_several : (field : List ℕ) → field ≢ several_text severals.Break → field ≢ several_text severals.Capture → (several : Several)
-    → field ≡ several_text several → ⊥
-no_several field break capture severals.Break is = break is
-no_several field break capture severals.Capture is = capture is
+version_decided = named_decided version_digit all_versions version_found
 
 pub several_decided : (field : List ℕ) → Decided (Spelled several_text Any field)
-several_decided field =
-    tried severals.Break tt (λ break. tried severals.Capture tt (λ capture. inr (λ found. no_several field break capture found.0 found.2)))
+several_decided = named_decided several_text all_severals several_found
 
 -- the rule for Q, as a version spells it
 abbrev pub spelled_rule : Version × Rule → List ℕ

@@ -31,29 +31,16 @@ pub number_text : (n : ℕ) → n < 2 ^ 32 → IsFieldText (decimal n)
 number_text n small = IsFieldText-decimal n small
 
 pub sel_text_is : (sel : Sel) → sel ≢ sels.All01 → IsFieldText (sel_text sel)
-sel_text_is sels.All00 named = search (arith, before, IsFieldText-one) depth 12
 sel_text_is sels.All01 named = absurd (named refl)
-sel_text_is sels.NotSl named = search (arith, before, IsFieldText-one) depth 12
-sel_text_is sels.Sl named = search (arith, before, IsFieldText-one) depth 12
+sel_text_is sel named = search (arith, before, IsFieldText-one) depth 12
 
 pub keyword_text_is : (keyword : Keyword) → IsFieldText (keyword_text keyword)
 keyword_text_is keywords.Version = search (arith, before, IsFieldText-one) depth 12
-keyword_text_is keywords.Link = search (arith, before, IsFieldText-one) depth 12
-keyword_text_is keywords.Default = search (arith, before, IsFieldText-one) depth 16
-keyword_text_is keywords.Tag = search (arith, before, IsFieldText-one) depth 12
-keyword_text_is keywords.Copies = search (arith, before, IsFieldText-one) depth 16
-keyword_text_is keywords.Air = search (arith, before, IsFieldText-one) depth 12
-keyword_text_is keywords.Select = search (arith, before, IsFieldText-one) depth 12
-keyword_text_is keywords.Nak = search (arith, before, IsFieldText-one) depth 12
-keyword_text_is keywords.Event = search (arith, before, IsFieldText-one) depth 12
-keyword_text_is keywords.Round = search (arith, before, IsFieldText-one) depth 12
-keyword_text_is keywords.Only = search (arith, before, IsFieldText-one) depth 12
-keyword_text_is keywords.Op = search (arith, before, IsFieldText-one) depth 12
-keyword_text_is keywords.End = search (arith, before, IsFieldText-one) depth 12
+keyword_text_is keyword = search (arith, before, IsFieldText-one) depth 16
 
 pub version_text_is : (version : Version) → IsFieldText (version_digit version)
 version_text_is One = search (arith, before, IsFieldText-one) depth 12
-version_text_is Two = search (arith, before, IsFieldText-one) depth 12
+version_text_is version = search (arith, before, IsFieldText-one) depth 12
 
 pub several_text_is : (several : Several) → IsFieldText (several_text several)
 several_text_is severals.Break = search (arith, before, IsFieldText-one) depth 12
@@ -64,34 +51,21 @@ float_is = search (arith, before, IsFieldText-one) depth 16
 
 pub rule_text_is : (version : Version) (rule : Rule) → IsLegalRule rule → HasRuleText version rule → IsFieldText (rule_text version rule)
 rule_text_is One (rules.Float c) legal has = number_text c (omega (arith, legal.1))
-rule_text_is One rules.Fixed legal has = absurd has
-rule_text_is One rules.Frame legal has = absurd has
-rule_text_is Two rules.Fixed legal has = search (arith, before, IsFieldText-one) depth 12
 rule_text_is Two (rules.Float c) legal has = joined (codes "float-") (decimal c) float_is (number_text c (omega (arith, legal.1)))
-rule_text_is Two rules.Frame legal has = search (arith, before, IsFieldText-one) depth 12
+rule_text_is One rule legal has = absurd has
+rule_text_is Two rule legal has = search (arith, before, IsFieldText-one) depth 12
 
 pub event_word_is : (kind : EventKind) → IsFieldText (event_word kind)
 event_word_is events.Timeout = search (arith, before, IsFieldText-one) depth 12
-event_word_is events.Off = search (arith, before, IsFieldText-one) depth 12
-event_word_is events.On = search (arith, before, IsFieldText-one) depth 12
-event_word_is events.Expire = search (arith, before, IsFieldText-one) depth 12
+event_word_is kind = search (arith, before, IsFieldText-one) depth 12
 
 pub op_word_is : (kind : OpKind) → IsFieldText (op_word kind)
 op_word_is op_kinds.Read = search (arith, before, IsFieldText-one) depth 12
-op_word_is op_kinds.Write = search (arith, before, IsFieldText-one) depth 12
-op_word_is op_kinds.BlockWrite = search (arith, before, IsFieldText-one) depth 24
-op_word_is op_kinds.BlockErase = search (arith, before, IsFieldText-one) depth 24
-op_word_is op_kinds.Lock = search (arith, before, IsFieldText-one) depth 12
-op_word_is op_kinds.Access = search (arith, before, IsFieldText-one) depth 16
-op_word_is op_kinds.Kill = search (arith, before, IsFieldText-one) depth 12
+op_word_is kind = search (arith, before, IsFieldText-one) depth 24
 
 pub air_word_is : (kind : AirKind) → IsFieldText (air_word kind)
 air_word_is (airs.Event kind) = event_word_is kind
-air_word_is airs.Miss = search (arith, before, IsFieldText-one) depth 12
-air_word_is airs.Pick = search (arith, before, IsFieldText-one) depth 12
-air_word_is airs.Silent = search (arith, before, IsFieldText-one) depth 12
-air_word_is airs.Break = search (arith, before, IsFieldText-one) depth 12
-air_word_is airs.Raw = search (arith, before, IsFieldText-one) depth 12
+air_word_is kind = search (arith, before, IsFieldText-one) depth 12
 
 pub password_is : (password : ℕ) → IsFieldText (password_text password)
 password_is password =

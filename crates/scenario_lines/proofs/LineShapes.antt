@@ -1,5 +1,5 @@
 -- The fields of a line begin with its keyword, and have the shape that belongs to it.
-use Rattle.std.proofs.Common.{◌≡◌, ℕ, List, [], ◌∷◌, refl, sym, ◌∙◌}
+use Rattle.std.proofs.Common.{◌≡◌, ℕ, List, ◌∷◌, refl, sym, ◌∙◌}
 use Rattle.std.specs.Fmt.{decimal}
 use Rattle.std.specs.Prelude.{All}
 use Rattle.std.proofs.lemmas.List.Elements.{All-head, All-weaker}
@@ -27,11 +27,10 @@ begins_once fields one other begins begins' =
 pub shaped_known : (keyword : Keyword) (others : List (List ℕ)) → HasShape keyword others → HasKnownKind keyword others
 shaped_known keywords.Air (exchange ∷ kind ∷ others) shape = (shape.1, shape.2)
 shaped_known keywords.Event (kind ∷ others) shape = (shape.0, shape.1)
-shaped_known keywords.Air [] shape = absurd shape
-shaped_known keywords.Air (exchange ∷ []) shape = absurd shape
-shaped_known keywords.Event [] shape = absurd shape
 shaped_known keywords.Op (kind ∷ others) shape = (shape.0, shape.1)
-shaped_known keywords.Op [] shape = absurd shape
+shaped_known keywords.Air others shape = absurd shape
+shaped_known keywords.Event others shape = absurd shape
+shaped_known keywords.Op others shape = absurd shape
 shaped_known keyword others shape = tt
 
 filled : (line : Line) → HasForm line → All Filled (other_fields line)

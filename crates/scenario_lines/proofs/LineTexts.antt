@@ -1,7 +1,7 @@
 -- Each field of a line may stand as a field.
-use Rattle.std.proofs.Common.{ℕ, List, [], ◌∷◌, arith}
+use Rattle.std.proofs.Common.{ℕ, arith}
 use Rattle.std.specs.Prelude.{All}
-use Rattle.std.proofs.lemmas.List.Elements.{All-cons, All-nil}
+use Rattle.std.proofs.lemmas.List.Elements.{All-cons}
 use Rattle.access_ops.specs.declared.Op.{Op}
 use Rattle.access_ops.specs.declared.Op.TheVariants as ops
 use Rattle.access_ops.specs.laws.OperationLaws.{IsLegalOp}
@@ -22,19 +22,7 @@ use Rattle.scenario_lines.specs.Names.{air_kind, event_kind, op_kind}
 use Rattle.scenario_lines.specs.LineForm.{HasForm, IsEvent, IsHappening, IsLine, IsLinkForm, IsRound, IsSelection}
 use Rattle.scenario_lines.specs.Spelling.{event_fields, happening_fields, line_fields, link_fields, op_fields, other_fields, round_fields, select_fields, tag_spec_fields, keyword_of}
 use Rattle.scenario_lines.proofs.Filled.{air_word_is, event_word_is, locks_is, bits_are, number_text, one_word_is, op_word_is, password_is, rule_text_is, sel_text_is, several_text_is, keyword_text_is, version_text_is, words_is}
-use Rattle.command_text.proofs.FieldTexts.{bank_is, bit_is, code_is, flag_is, mask_bank_is, payload_is, side_is}
-
-pub record Texts (fields : List (List ℕ)) : Type 0 where
-  pub are : All IsFieldText fields
-
-no_more : Texts []
-no_more = record { are = All-nil IsFieldText }
-
-with : (field : List ℕ) (fields : List (List ℕ)) → IsFieldText field → Texts fields → Texts (field ∷ fields)
-with field fields is texts = record { are = All-cons IsFieldText field fields is texts.are }
-
-only : (field : List ℕ) → IsFieldText field → Texts (field ∷ [])
-only field is = with field [] is no_more
+use Rattle.command_text.proofs.FieldTexts.{Texts, bank_is, bit_is, code_is, flag_is, mask_bank_is, no_more, only, payload_is, side_is, with}
 
 link_texts : (link : LinkValue) → IsLinkForm link → Texts (link_fields link)
 link_texts link form =
@@ -47,10 +35,8 @@ tag_texts tag =
     (with _ _ (words_is tag.image.tid) (with _ _ (words_is tag.image.user) (only _ (words_is tag.words)))))))
 
 event_texts : (event : Event) (tag : ℕ) → IsEvent event tag → Texts (event_fields event tag)
-event_texts events.Timeout tag is = only _ (number_text tag (omega (arith, is.place)))
-event_texts events.Off tag is = only _ (number_text tag (omega (arith, is.place)))
-event_texts events.On tag is = only _ (number_text tag (omega (arith, is.place)))
 event_texts (events.Expire flag) tag is = with _ _ (flag_is flag) (only _ (number_text tag (omega (arith, is.place))))
+event_texts event tag is = only _ (number_text tag (omega (arith, is.place)))
 
 happening_texts : (happening : Happening) → IsHappening happening → Texts (happening_fields happening)
 happening_texts (happenings.Event event tag) is = event_texts event tag is

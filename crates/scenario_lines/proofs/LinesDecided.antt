@@ -29,7 +29,7 @@ use Rattle.scenario_lines.specs.declared.line.Happening.{Happening}
 use Rattle.scenario_lines.specs.declared.line.Happening.TheVariants as happenings
 use Rattle.scenario_lines.specs.declared.line.Line.{Line}
 use Rattle.scenario_lines.specs.declared.line.Line.TheVariants as lines
-use Rattle.scenario_lines.specs.Names.{air_word, event_kind, event_word, op_word, several_text, version_digit}
+use Rattle.scenario_lines.specs.Names.{air_found, air_word, all_air_kinds, all_event_kinds, all_op_kinds, event_found, event_kind, event_word, op_found, op_word, several_text, version_digit}
 use Rattle.text_fields.specs.NamedFields.{SpellBehind, Vocabulary, spelled_fields}
 use Rattle.text_fields.specs.WordLists.{IsWordList}
 use Rattle.value_text.specs.ValueText.{password_text}
@@ -38,7 +38,7 @@ use Rattle.scenario_lines.specs.LineForm.{HasForm, IsEvent, IsHappening, IsLinkF
 use Rattle.scenario_lines.specs.Spelling.{air_vocabulary, event_vocabulary, link_fields, op_vocabulary, other_fields, round_fields, select_fields, tag_spec_fields, keyword_of}
 use Rattle.scenario_lines.specs.Reading.{IsEventText, IsHappeningText, IsOpText}
 use Rattle.scenario_lines.proofs.Decisions.{Any, Decided, EachDecided, Spelled, behind_decided as then, nothing_decided, only_decided, same_answer, text_decided}
-use Rattle.scenario_lines.proofs.FieldsDecided.{IsLasting, IsWithin, any_bank_decided, bank_decided, bit_decided, bits_decided, code_decided, decimal_decided, flag_decided, lasting_decided, locks_decided, password_decided, payload_decided, rule_decided, sel_decided, several_decided, side_decided, tried, version_decided, word_decided, words_decided}
+use Rattle.scenario_lines.proofs.FieldsDecided.{IsLasting, IsWithin, any_bank_decided, bank_decided, bit_decided, bits_decided, code_decided, decimal_decided, flag_decided, lasting_decided, locks_decided, named_decided, password_decided, payload_decided, rule_decided, sel_decided, several_decided, side_decided, version_decided, word_decided, words_decided}
 use Rattle.scenario_lines.proofs.ToldLines.{same_fields}
 use Rattle.scenario_lines.proofs.ToldNames.{air_word_told, event_word_told, op_word_told}
 use Rattle.command_text.proofs.ToldApart.{block_of_list, list_of_block}
@@ -177,35 +177,12 @@ round_decided =
           ((is.named, ((omega arith, legal.session), (tt, ((omega arith, legal.q), ((legal.rule, is.spelled), (legal.limit, tt)))))), refl);
     })
 
--- the kind of an event
-no_event_kind : (field : List ℕ) → field ≢ event_word event_kinds.Timeout → field ≢ event_word event_kinds.Off → field ≢ event_word event_kinds.On
-    → field ≢ event_word event_kinds.Expire → (kind : EventKind) → field ≡ event_word kind → ⊥
-no_event_kind field timeout off on expire event_kinds.Timeout is = timeout is
-no_event_kind field timeout off on expire event_kinds.Off is = off is
-no_event_kind field timeout off on expire event_kinds.On is = on is
-no_event_kind field timeout off on expire event_kinds.Expire is = expire is
-
+-- the kind of an event, and that of an air line
 pub event_kind_decided : (field : List ℕ) → Decided (Spelled event_word Any field)
-event_kind_decided field =
-    tried event_kinds.Timeout tt (λ timeout. tried event_kinds.Off tt (λ off. tried event_kinds.On tt (λ on. tried event_kinds.Expire tt (λ expire.
-    inr (λ found. no_event_kind field timeout off on expire found.0 found.2)))))
-
--- the kind of an air line
-no_air_kind : (field : List ℕ) → (¬ Spelled event_word Any field) → field ≢ air_word airs.Miss → field ≢ air_word airs.Pick
-    → field ≢ air_word airs.Silent → field ≢ air_word airs.Break → field ≢ air_word airs.Raw → (kind : AirKind) → field ≡ air_word kind → ⊥
-no_air_kind field event miss pick silent break raw (airs.Event kind) is = event (kind, tt, is)
-no_air_kind field event miss pick silent break raw airs.Miss is = miss is
-no_air_kind field event miss pick silent break raw airs.Pick is = pick is
-no_air_kind field event miss pick silent break raw airs.Silent is = silent is
-no_air_kind field event miss pick silent break raw airs.Break is = break is
-no_air_kind field event miss pick silent break raw airs.Raw is = raw is
+event_kind_decided = named_decided event_word all_event_kinds event_found
 
 pub air_kind_decided : (field : List ℕ) → Decided (Spelled air_word Any field)
-air_kind_decided field = elim (event_kind_decided field) [
-  | inl found ↦ inl (airs.Event found.0, tt, found.2)
-  | inr event ↦ tried airs.Miss tt (λ miss. tried airs.Pick tt (λ pick. tried airs.Silent tt (λ silent. tried airs.Break tt (λ break.
-      tried airs.Raw tt (λ raw. inr (λ found. no_air_kind field event miss pick silent break raw found.0 found.2))))))
-]
+air_kind_decided = named_decided air_word all_air_kinds air_found
 
 -- one number
 one_number : (most : ℕ) → FieldsDecided (λ (n : ℕ). decimal n ∷ []) (λ n. n ≤ most)
@@ -228,18 +205,14 @@ HasEvent kind fields = (event : Event × ℕ) × IsEventText kind fields event.0
 
 place_behind : (kind : EventKind) (fields : List (List ℕ)) → kind ≢ event_kinds.Expire → (event : Event) (tag : ℕ) → IsEventText kind fields event tag
     → Spelled (λ (n : ℕ). decimal n ∷ []) IsPlace fields
-place_behind kind fields other events.Timeout tag text = (tag, text.in_range.place, text.spelling)
-place_behind kind fields other events.Off tag text = (tag, text.in_range.place, text.spelling)
-place_behind kind fields other events.On tag text = (tag, text.in_range.place, text.spelling)
 place_behind kind fields other (events.Expire flag) tag text = absurd (other (sym text.same_kind))
+place_behind kind fields other event tag text = (tag, text.in_range.place, text.spelling)
 
 flag_behind : (fields : List (List ℕ)) (event : Event) (tag : ℕ) → IsEventText event_kinds.Expire fields event tag
     → Spelled (with flag_word (with decimal nothing)) (Both IsLasting (Both (IsWithin 0 4095) Any)) fields
 flag_behind fields (events.Expire flag) tag text =
     ((flag, (tag, tt)), (λ same. text.in_range.expires (ap events.Expire same), ((omega arith, text.in_range.place), tt)), text.spelling)
-flag_behind fields events.Timeout tag text = let kind = text.same_kind in cc
-flag_behind fields events.Off tag text = let kind = text.same_kind in cc
-flag_behind fields events.On tag text = let kind = text.same_kind in cc
+flag_behind fields event tag text = let kind = text.same_kind in cc
 
 same_flag : (flag other : FlagName) → events.Expire flag ≡ events.Expire other → flag ≡ other
 same_flag flag other same = cc
@@ -273,39 +246,8 @@ event_behind event_kinds.Expire fields =
 event_decided : FieldsDecided (spelled_fields event_vocabulary) (λ event. IsEvent event.0 event.1)
 event_decided = behind_kind_decided event_vocabulary (λ event. IsEvent event.0 event.1) event_word_told event_kind_decided event_behind
 
--- the kind of an operation
-record IsNoOpKind (field : List ℕ) : Type 0 where
-  reads : field ≢ op_word op_kinds.Read
-  writes : field ≢ op_word op_kinds.Write
-  blocks : field ≢ op_word op_kinds.BlockWrite
-  erases : field ≢ op_word op_kinds.BlockErase
-  locks : field ≢ op_word op_kinds.Lock
-  shows : field ≢ op_word op_kinds.Access
-  kills : field ≢ op_word op_kinds.Kill
-
-no_op_kind : (field : List ℕ) → IsNoOpKind field → (kind : OpKind) → field ≡ op_word kind → ⊥
-no_op_kind field none op_kinds.Read is = none.reads is
-no_op_kind field none op_kinds.Write is = none.writes is
-no_op_kind field none op_kinds.BlockWrite is = none.blocks is
-no_op_kind field none op_kinds.BlockErase is = none.erases is
-no_op_kind field none op_kinds.Lock is = none.locks is
-no_op_kind field none op_kinds.Access is = none.shows is
-no_op_kind field none op_kinds.Kill is = none.kills is
-
 pub op_kind_decided : (field : List ℕ) → Decided (Spelled op_word Any field)
-op_kind_decided field =
-    tried op_kinds.Read tt (λ reads. tried op_kinds.Write tt (λ writes. tried op_kinds.BlockWrite tt (λ blocks. tried op_kinds.BlockErase tt (λ erases.
-    tried op_kinds.Lock tt (λ locks. tried op_kinds.Access tt (λ shows. tried op_kinds.Kill tt (λ kills.
-    let none : IsNoOpKind field = record {
-      reads = reads;
-      writes = writes;
-      blocks = blocks;
-      erases = erases;
-      locks = locks;
-      shows = shows;
-      kills = kills;
-    } in
-    inr (λ found. no_op_kind field none found.0 found.2))))))))
+op_kind_decided = named_decided op_word all_op_kinds op_found
 
 -- what stands behind the kind of an operation
 abbrev HasOp : OpKind → List (List ℕ) → Type 0
@@ -403,53 +345,29 @@ same_event_kind kind other same = cc
 event_there : (kind : EventKind) (fields : List (List ℕ)) (happening : Happening) → IsHappeningText (airs.Event kind) fields happening → HasEvent kind fields
 event_there kind fields (happenings.Event event tag) text =
     ((event, tag), record { same_kind = same_event_kind (event_kind event) kind text.same_kind; spelling = text.spelling; in_range = text.in_range })
-event_there kind fields (happenings.Miss tag) text = let is = text.same_kind in cc
-event_there kind fields (happenings.Choice (choices.Pick reply)) text = let is = text.same_kind in cc
-event_there kind fields (happenings.Choice choices.Silent) text = let is = text.same_kind in cc
-event_there kind fields (happenings.Choice (choices.Break place)) text = let is = text.same_kind in cc
-event_there kind fields (happenings.Choice (choices.Raw levels)) text = let is = text.same_kind in cc
+event_there kind fields happening text = let is = text.same_kind in cc
 
 miss_there : (fields : List (List ℕ)) (happening : Happening) → IsHappeningText airs.Miss fields happening → Spelled (λ (n : ℕ). decimal n ∷ []) IsPlace fields
 miss_there fields (happenings.Miss tag) text = (tag, text.in_range, text.spelling)
-miss_there fields (happenings.Event event tag) text = let is = text.same_kind in cc
-miss_there fields (happenings.Choice (choices.Pick reply)) text = let is = text.same_kind in cc
-miss_there fields (happenings.Choice choices.Silent) text = let is = text.same_kind in cc
-miss_there fields (happenings.Choice (choices.Break place)) text = let is = text.same_kind in cc
-miss_there fields (happenings.Choice (choices.Raw levels)) text = let is = text.same_kind in cc
+miss_there fields happening text = let is = text.same_kind in cc
 
 pick_there : (fields : List (List ℕ)) (happening : Happening) → IsHappeningText airs.Pick fields happening → Spelled (λ (n : ℕ). decimal n ∷ []) IsPlace fields
 pick_there fields (happenings.Choice (choices.Pick reply)) text = (reply, text.in_range, text.spelling)
-pick_there fields (happenings.Event event tag) text = let is = text.same_kind in cc
-pick_there fields (happenings.Miss tag) text = let is = text.same_kind in cc
-pick_there fields (happenings.Choice choices.Silent) text = let is = text.same_kind in cc
-pick_there fields (happenings.Choice (choices.Break place)) text = let is = text.same_kind in cc
-pick_there fields (happenings.Choice (choices.Raw levels)) text = let is = text.same_kind in cc
+pick_there fields happening text = let is = text.same_kind in cc
 
 silent_there : (fields : List (List ℕ)) (happening : Happening) → IsHappeningText airs.Silent fields happening → Spelled nothing Any fields
 silent_there fields (happenings.Choice choices.Silent) text = (tt, tt, text.spelling)
-silent_there fields (happenings.Event event tag) text = let is = text.same_kind in cc
-silent_there fields (happenings.Miss tag) text = let is = text.same_kind in cc
-silent_there fields (happenings.Choice (choices.Pick reply)) text = let is = text.same_kind in cc
-silent_there fields (happenings.Choice (choices.Break place)) text = let is = text.same_kind in cc
-silent_there fields (happenings.Choice (choices.Raw levels)) text = let is = text.same_kind in cc
+silent_there fields happening text = let is = text.same_kind in cc
 
 break_there : (fields : List (List ℕ)) (happening : Happening) → IsHappeningText airs.Break fields happening
     → Spelled (λ (n : ℕ). decimal n ∷ []) (λ n. n ≤ most_level) fields
 break_there fields (happenings.Choice (choices.Break place)) text = (place, text.in_range, text.spelling)
-break_there fields (happenings.Event event tag) text = let is = text.same_kind in cc
-break_there fields (happenings.Miss tag) text = let is = text.same_kind in cc
-break_there fields (happenings.Choice (choices.Pick reply)) text = let is = text.same_kind in cc
-break_there fields (happenings.Choice choices.Silent) text = let is = text.same_kind in cc
-break_there fields (happenings.Choice (choices.Raw levels)) text = let is = text.same_kind in cc
+break_there fields happening text = let is = text.same_kind in cc
 
 raw_there : (fields : List (List ℕ)) (happening : Happening) → IsHappeningText airs.Raw fields happening
     → Spelled (λ (levels : List Bool). binary levels ∷ []) HasStreamLength fields
 raw_there fields (happenings.Choice (choices.Raw levels)) text = (levels, text.in_range, text.spelling)
-raw_there fields (happenings.Event event tag) text = let is = text.same_kind in cc
-raw_there fields (happenings.Miss tag) text = let is = text.same_kind in cc
-raw_there fields (happenings.Choice (choices.Pick reply)) text = let is = text.same_kind in cc
-raw_there fields (happenings.Choice choices.Silent) text = let is = text.same_kind in cc
-raw_there fields (happenings.Choice (choices.Break place)) text = let is = text.same_kind in cc
+raw_there fields happening text = let is = text.same_kind in cc
 
 happening_behind : (kind : AirKind) (fields : List (List ℕ)) → Decided (HasHappening kind fields)
 happening_behind (airs.Event kind) fields =

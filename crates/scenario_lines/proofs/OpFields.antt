@@ -76,9 +76,7 @@ placed_op (ops.BlockErase bank pointer count) three is = record {
   filled = (number_text count (omega (arith, is.2))).filled;
   fields = refl;
 }
-placed_op (ops.Lock payload) three is = absurd (omega (arith, three))
-placed_op (ops.Access password) three is = absurd (omega (arith, three))
-placed_op (ops.Kill password) three is = absurd (omega (arith, three))
+placed_op op three is = absurd (omega (arith, three))
 
 pub at_place : (op : Op) (kind : OpKind) → op_kind op ≡ kind → op_field_count kind ≡ 3 → IsLegalOp op → AtPlace op
 at_place op kind same three is = placed_op op (ap op_field_count same ∙ three) is

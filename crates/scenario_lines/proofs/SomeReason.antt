@@ -1,5 +1,5 @@
 -- Fields spell a line, or there is a reason for which they spell none.
-use Rattle.std.proofs.Common.{◌≡◌, ◌≢◌, ◌≤◌, ◌*◌, ◌⊎◌, ℕ, Bool, true, false, List, [], ◌∷◌, length, refl, sym, ◌∙◌, ap, subst, inl, inr}
+use Rattle.std.proofs.Common.{◌≡◌, ◌≤◌, ◌*◌, ◌⊎◌, ℕ, Bool, true, false, List, [], ◌∷◌, length, refl, sym, ◌∙◌, ap, subst, inl, inr}
 use Rattle.std.specs.Prelude.{All}
 use Rattle.std.proofs.lemmas.List.Elements.{All-cons, All-head, All-nil, All-tail}
 use Rattle.tag_memory.specs.Image.{pc_fits}
@@ -15,7 +15,7 @@ use Rattle.scenario_lines.specs.declared.line.Line.{Line}
 use Rattle.scenario_lines.specs.declared.line.Line.TheVariants as lines
 use Rattle.scenario_lines.specs.declared.fault.LineFault.{LineFault}
 use Rattle.scenario_lines.specs.declared.fault.LineFault.TheVariants.{Word as WordFault, Shape, Number, Pc}
-use Rattle.scenario_lines.specs.Names.{air_field_count, air_word, event_field_count, op_field_count, keyword_text}
+use Rattle.scenario_lines.specs.Names.{air_field_count, air_word, all_keywords, event_field_count, op_field_count, keyword_found, keyword_text}
 use Rattle.scenario_lines.specs.LineForm.{HasForm, IsCoherent, IsLinkForm}
 use Rattle.scenario_lines.specs.TagForm.{IsTagForm}
 use Rattle.scenario_lines.specs.LineFaults.{BeginsWithKeyword, BreaksPc, BreaksPcOfCopies, HasKnownKind, HasShape, IsFaultyLine, SpellsLine}
@@ -24,75 +24,20 @@ use Rattle.text_fields.proofs.FilledFields.{Filled}
 use Rattle.scenario_lines.specs.Reading.{link_fault}
 use Rattle.scenario_lines.specs.Spelling.{copies_fields, line_fields, link_fields, tag_spec_fields, keyword_of}
 use Rattle.scenario_lines.proofs.Decisions.{Any, Decided, Spelled, both, le_decided, number_decided, same_answer}
-use Rattle.scenario_lines.proofs.FieldsDecided.{tried}
+use Rattle.scenario_lines.proofs.FieldsDecided.{named_decided}
 use Rattle.scenario_lines.proofs.LinesDecided.{air_kind_decided, event_kind_decided, formed_behind, op_kind_decided}
 use Rattle.scenario_lines.proofs.ToldLines.{same_fields}
 use Rattle.scenario_lines.proofs.ToldNames.{air_word_told, event_word_told, op_word_told, keyword_told}
 
--- the first field of a line
-record IsNoKeyword (field : List ℕ) : Type 0 where
-  version : field ≢ keyword_text keywords.Version
-  link : field ≢ keyword_text keywords.Link
-  default : field ≢ keyword_text keywords.Default
-  tag : field ≢ keyword_text keywords.Tag
-  copies : field ≢ keyword_text keywords.Copies
-  air : field ≢ keyword_text keywords.Air
-  select : field ≢ keyword_text keywords.Select
-  nak : field ≢ keyword_text keywords.Nak
-  event : field ≢ keyword_text keywords.Event
-  round : field ≢ keyword_text keywords.Round
-  epc : field ≢ keyword_text keywords.Only
-  op : field ≢ keyword_text keywords.Op
-  end : field ≢ keyword_text keywords.End
-
-no_keyword : (field : List ℕ) → IsNoKeyword field → (keyword : Keyword) → field ≡ keyword_text keyword → ⊥
-no_keyword field none keywords.Version is = none.version is
-no_keyword field none keywords.Link is = none.link is
-no_keyword field none keywords.Default is = none.default is
-no_keyword field none keywords.Tag is = none.tag is
-no_keyword field none keywords.Copies is = none.copies is
-no_keyword field none keywords.Air is = none.air is
-no_keyword field none keywords.Select is = none.select is
-no_keyword field none keywords.Nak is = none.nak is
-no_keyword field none keywords.Event is = none.event is
-no_keyword field none keywords.Round is = none.round is
-no_keyword field none keywords.Only is = none.epc is
-no_keyword field none keywords.Op is = none.op is
-no_keyword field none keywords.End is = none.end is
-
 keyword_decided : (field : List ℕ) → Decided (Spelled keyword_text Any field)
-keyword_decided field =
-    tried keywords.Version tt (λ version. tried keywords.Link tt (λ link. tried keywords.Default tt (λ default. tried keywords.Tag tt (λ tag.
-    tried keywords.Copies tt (λ copies. tried keywords.Air tt (λ air.
-    tried keywords.Select tt (λ select. tried keywords.Nak tt (λ nak. tried keywords.Event tt (λ event. tried keywords.Round tt (λ round.
-    tried keywords.Only tt (λ epc. tried keywords.Op tt (λ op. tried keywords.End tt (λ end.
-    let none : IsNoKeyword field = record {
-      version = version;
-      link = link;
-      default = default;
-      tag = tag;
-      copies = copies;
-      air = air;
-      select = select;
-      nak = nak;
-      event = event;
-      round = round;
-      epc = epc;
-      op = op;
-      end = end;
-    } in
-    inr (λ found. no_keyword field none found.0 found.2))))))))))))))
+keyword_decided = named_decided keyword_text all_keywords keyword_found
 
 -- the kind, where one is there
 kind_decided : (first : Keyword) (others : List (List ℕ)) → Decided (HasKnownKind first others)
 kind_decided keywords.Air (exchange ∷ kind ∷ others) =
     same_answer (λ found. (found.0, found.2)) (λ known. (known.0, tt, known.1)) (air_kind_decided kind)
 kind_decided keywords.Event (kind ∷ others) = same_answer (λ found. (found.0, found.2)) (λ known. (known.0, tt, known.1)) (event_kind_decided kind)
-kind_decided keywords.Air [] = inl tt
-kind_decided keywords.Air (exchange ∷ []) = inl tt
-kind_decided keywords.Event [] = inl tt
 kind_decided keywords.Op (kind ∷ others) = same_answer (λ found. (found.0, found.2)) (λ known. (known.0, tt, known.1)) (op_kind_decided kind)
-kind_decided keywords.Op [] = inl tt
 kind_decided keyword others = inl tt
 
 -- so many fields, none of them empty

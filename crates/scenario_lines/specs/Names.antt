@@ -1,6 +1,7 @@
 -- Profile: the words of a scenario. Those for flags, banks and sides are the ones that commands have in a text.
-use Rattle.std.specs.Prelude.{ℕ, List, [], ◌++◌, codes}
+use Rattle.std.specs.Prelude.{ℕ, List, [], ◌∷◌, ◌++◌, codes, refl}
 use Rattle.std.specs.Fmt.{decimal}
+use Rattle.command_text.specs.NameLists.{EachFound}
 use Rattle.command_fields.specs.declared.choices.Sel.{Sel}
 use Rattle.command_fields.specs.declared.choices.Sel.TheVariants as sels
 use Rattle.access_ops.specs.declared.Op.{Op}
@@ -41,6 +42,15 @@ keyword_text keywords.Only = codes "only"
 keyword_text keywords.Op = codes "op"
 keyword_text keywords.End = codes "end"
 
+abbrev pub all_keywords : List Keyword
+all_keywords =
+    keywords.Version ∷ keywords.Link ∷ keywords.Default ∷ keywords.Tag ∷ keywords.Copies ∷ keywords.Air ∷ keywords.Select ∷ keywords.Nak
+    ∷ keywords.Event ∷ keywords.Round ∷ keywords.Only ∷ keywords.Op ∷ keywords.End ∷ []
+
+pub keyword_found : EachFound keyword_text all_keywords
+keyword_found keywords.Version = refl
+keyword_found keyword = refl
+
 -- the version of the text
 abbrev pub version_digit : Version → List ℕ
 version_digit One = codes "1"
@@ -72,6 +82,13 @@ event_word Off = codes "off"
 event_word On = codes "on"
 event_word Expire = codes "expire"
 
+abbrev pub all_event_kinds : List EventKind
+all_event_kinds = Timeout ∷ Off ∷ On ∷ Expire ∷ []
+
+pub event_found : EachFound event_word all_event_kinds
+event_found Timeout = refl
+event_found kind = refl
+
 -- the kind of an operation
 abbrev pub op_word : OpKind → List ℕ
 op_word op_kinds.Read = codes "read"
@@ -82,6 +99,13 @@ op_word op_kinds.Lock = codes "lock"
 op_word op_kinds.Access = codes "access"
 op_word op_kinds.Kill = codes "kill"
 
+abbrev pub all_op_kinds : List OpKind
+all_op_kinds = op_kinds.Read ∷ op_kinds.Write ∷ op_kinds.BlockWrite ∷ op_kinds.BlockErase ∷ op_kinds.Lock ∷ op_kinds.Access ∷ op_kinds.Kill ∷ []
+
+pub op_found : EachFound op_word all_op_kinds
+op_found op_kinds.Read = refl
+op_found kind = refl
+
 -- the kind of an air line
 abbrev pub air_word : AirKind → List ℕ
 air_word (airs.Event kind) = event_word kind
@@ -90,6 +114,14 @@ air_word airs.Pick = codes "pick"
 air_word airs.Silent = codes "silent"
 air_word airs.Break = codes "break"
 air_word airs.Raw = codes "raw"
+
+abbrev pub all_air_kinds : List AirKind
+all_air_kinds =
+    airs.Event Timeout ∷ airs.Event Off ∷ airs.Event On ∷ airs.Event Expire ∷ airs.Miss ∷ airs.Pick ∷ airs.Silent ∷ airs.Break ∷ airs.Raw ∷ []
+
+pub air_found : EachFound air_word all_air_kinds
+air_found (airs.Event Timeout) = refl
+air_found kind = refl
 
 -- how many fields stand behind the kind of an event
 abbrev pub event_field_count : EventKind → ℕ

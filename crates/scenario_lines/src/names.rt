@@ -1,33 +1,54 @@
 //! The names in a line, read; and written where one stands for a value of several.
 ghost use Rattle.std.specs.Prelude.{◌≡◌, ◌≢◌, IfSome};
 ghost use Rattle.command_text.specs.CommandText.{flag_word};
-ghost use Rattle.scenario_lines.specs.Names.{air_word, event_kind, event_word, keyword_text, op_word, sel_text, several_text, version_digit};
+ghost use Rattle.scenario_lines.specs.Names.{air_found, all_air_kinds, air_word, all_keywords, event_found, event_kind, all_event_kinds, event_word, keyword_found, keyword_text, op_found, all_op_kinds, op_word, sel_text, several_text, version_digit};
 
 use crate::{AirKind, EventKind, Keyword, OpKind, Version};
 use air_events::{Event, Several};
 use command_grammar::{FlagName, Sel};
-use command_text::flag_named;
+use command_text::{Named, flag_named, value_named};
 
-/// The keyword that a first field is.
-pub(crate) fn keyword_named(field: &[u8]) -> Option<Keyword>
-    ensures value { IfSome result (λ keyword. field.now ≡ keyword_text keyword) }
-    ensures only { (keyword : Keyword) → field.now ≡ keyword_text keyword → result ≡ Some keyword }
-{
-    match field {
-        b"gen2" => Some(Keyword::Version),
-        b"link" => Some(Keyword::Link),
-        b"default" => Some(Keyword::Default),
-        b"tag" => Some(Keyword::Tag),
-        b"copies" => Some(Keyword::Copies),
-        b"air" => Some(Keyword::Air),
-        b"select" => Some(Keyword::Select),
-        b"nak" => Some(Keyword::Nak),
-        b"event" => Some(Keyword::Event),
-        b"round" => Some(Keyword::Round),
-        b"only" => Some(Keyword::Only),
-        b"op" => Some(Keyword::Op),
-        b"end" => Some(Keyword::End),
-        _ => None,
+impl Named for Keyword {
+    ghost word = { keyword_text };
+
+    ghost values = { all_keywords };
+
+    ghost finds = { keyword_found };
+
+    fn all() -> &'static [Keyword] {
+        &[
+            Keyword::Version,
+            Keyword::Link,
+            Keyword::Default,
+            Keyword::Tag,
+            Keyword::Copies,
+            Keyword::Air,
+            Keyword::Select,
+            Keyword::Nak,
+            Keyword::Event,
+            Keyword::Round,
+            Keyword::Only,
+            Keyword::Op,
+            Keyword::End,
+        ]
+    }
+
+    fn name(self) -> &'static str {
+        match self {
+            Keyword::Version => "gen2",
+            Keyword::Link => "link",
+            Keyword::Default => "default",
+            Keyword::Tag => "tag",
+            Keyword::Copies => "copies",
+            Keyword::Air => "air",
+            Keyword::Select => "select",
+            Keyword::Nak => "nak",
+            Keyword::Event => "event",
+            Keyword::Round => "round",
+            Keyword::Only => "only",
+            Keyword::Op => "op",
+            Keyword::End => "end",
+        }
     }
 }
 
@@ -46,10 +67,12 @@ pub(crate) fn several_named(field: &[u8]) -> Option<Several>
     ensures value { IfSome result (λ several. field.now ≡ several_text several) }
     ensures only { (several : Several) → field.now ≡ several_text several → result ≡ Some several }
 {
-    match field {
-        b"break" => Some(Several::Break),
-        b"capture" => Some(Several::Capture),
-        _ => None,
+    if field == b"break".as_slice() {
+        Some(Several::Break)
+    } else if field == b"capture".as_slice() {
+        Some(Several::Capture)
+    } else {
+        None
     }
 }
 
@@ -63,18 +86,38 @@ pub(crate) fn several_name(several: Several) -> &'static str
     }
 }
 
+impl Named for EventKind {
+    ghost word = { event_word };
+
+    ghost values = { all_event_kinds };
+
+    ghost finds = { event_found };
+
+    fn all() -> &'static [EventKind] {
+        &[
+            EventKind::Timeout,
+            EventKind::Off,
+            EventKind::On,
+            EventKind::Expire,
+        ]
+    }
+
+    fn name(self) -> &'static str {
+        match self {
+            EventKind::Timeout => "timeout",
+            EventKind::Off => "off",
+            EventKind::On => "on",
+            EventKind::Expire => "expire",
+        }
+    }
+}
+
 /// The kind of an event of this name.
 pub fn event_kind_named(field: &[u8]) -> Option<EventKind>
     ensures value { IfSome result (λ kind. field.now ≡ event_word kind) }
     ensures only { (kind : EventKind) → field.now ≡ event_word kind → result ≡ Some kind }
 {
-    match field {
-        b"timeout" => Some(EventKind::Timeout),
-        b"off" => Some(EventKind::Off),
-        b"on" => Some(EventKind::On),
-        b"expire" => Some(EventKind::Expire),
-        _ => None,
-    }
+    value_named(field)
 }
 
 /// The name of the kind of an event.
@@ -89,35 +132,68 @@ pub(crate) fn event_name(event: Event) -> &'static str
     }
 }
 
-/// The kind of an air line of this name.
-pub(crate) fn air_kind_named(field: &[u8]) -> Option<AirKind>
-    ensures value { IfSome result (λ kind. field.now ≡ air_word kind) }
-    ensures only { (kind : AirKind) → field.now ≡ air_word kind → result ≡ Some kind }
-{
-    match field {
-        b"miss" => Some(AirKind::Miss),
-        b"pick" => Some(AirKind::Pick),
-        b"silent" => Some(AirKind::Silent),
-        b"break" => Some(AirKind::Break),
-        b"raw" => Some(AirKind::Raw),
-        _ => Some(AirKind::Event(event_kind_named(field)?)),
+impl Named for AirKind {
+    ghost word = { air_word };
+
+    ghost values = { all_air_kinds };
+
+    ghost finds = { air_found };
+
+    fn all() -> &'static [AirKind] {
+        &[
+            AirKind::Event(EventKind::Timeout),
+            AirKind::Event(EventKind::Off),
+            AirKind::Event(EventKind::On),
+            AirKind::Event(EventKind::Expire),
+            AirKind::Miss,
+            AirKind::Pick,
+            AirKind::Silent,
+            AirKind::Break,
+            AirKind::Raw,
+        ]
+    }
+
+    fn name(self) -> &'static str {
+        match self {
+            AirKind::Event(kind) => kind.name(),
+            AirKind::Miss => "miss",
+            AirKind::Pick => "pick",
+            AirKind::Silent => "silent",
+            AirKind::Break => "break",
+            AirKind::Raw => "raw",
+        }
     }
 }
 
-/// The kind of an operation of this name.
-pub(crate) fn op_kind_named(field: &[u8]) -> Option<OpKind>
-    ensures value { IfSome result (λ kind. field.now ≡ op_word kind) }
-    ensures only { (kind : OpKind) → field.now ≡ op_word kind → result ≡ Some kind }
-{
-    match field {
-        b"read" => Some(OpKind::Read),
-        b"write" => Some(OpKind::Write),
-        b"blockwrite" => Some(OpKind::BlockWrite),
-        b"blockerase" => Some(OpKind::BlockErase),
-        b"lock" => Some(OpKind::Lock),
-        b"access" => Some(OpKind::Access),
-        b"kill" => Some(OpKind::Kill),
-        _ => None,
+impl Named for OpKind {
+    ghost word = { op_word };
+
+    ghost values = { all_op_kinds };
+
+    ghost finds = { op_found };
+
+    fn all() -> &'static [OpKind] {
+        &[
+            OpKind::Read,
+            OpKind::Write,
+            OpKind::BlockWrite,
+            OpKind::BlockErase,
+            OpKind::Lock,
+            OpKind::Access,
+            OpKind::Kill,
+        ]
+    }
+
+    fn name(self) -> &'static str {
+        match self {
+            OpKind::Read => "read",
+            OpKind::Write => "write",
+            OpKind::BlockWrite => "blockwrite",
+            OpKind::BlockErase => "blockerase",
+            OpKind::Lock => "lock",
+            OpKind::Access => "access",
+            OpKind::Kill => "kill",
+        }
     }
 }
 

@@ -14,9 +14,9 @@ mod round;
 mod select;
 mod tag;
 
-use crate::names::{air_kind_named, event_kind_named, keyword_named, op_kind_named};
-use crate::{Keyword, Line, LineFault};
+use crate::{AirKind, EventKind, Keyword, Line, LineFault, OpKind};
 use air::read_air;
+use command_text::value_named;
 use event::read_event;
 use head::{read_default, read_version};
 use link::read_link;
@@ -36,7 +36,7 @@ fn has_air_kind(mut others: Fields) -> bool
         return true;
     }
     match others.next() {
-        Some(kind) => air_kind_named(kind).is_some(),
+        Some(kind) => value_named::<AirKind>(kind).is_some(),
         None => true,
     }
 }
@@ -46,7 +46,7 @@ fn has_event_kind(mut others: Fields) -> bool
     ensures { IsTrue result ↔ HasKnownKind Keyword.Event others.entry }
 {
     match others.next() {
-        Some(kind) => event_kind_named(kind).is_some(),
+        Some(kind) => value_named::<EventKind>(kind).is_some(),
         None => true,
     }
 }
@@ -56,7 +56,7 @@ fn has_op_kind(mut others: Fields) -> bool
     ensures { IsTrue result ↔ HasKnownKind Keyword.Op others.entry }
 {
     match others.next() {
-        Some(kind) => op_kind_named(kind).is_some(),
+        Some(kind) => value_named::<OpKind>(kind).is_some(),
         None => true,
     }
 }
@@ -158,7 +158,7 @@ impl<'a> BegunLine<'a> {
         ensures none { IfNone result (IsFaultyLine (fields_of line.now) LineFault.Word) }
     {
         let mut fields = Fields::new(line);
-        let keyword = keyword_named(fields.next()?)?;
+        let keyword = value_named(fields.next()?)?;
         if has_known_kind(keyword, fields) {
             Some(BegunLine { line, keyword })
         } else {

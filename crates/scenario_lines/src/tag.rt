@@ -96,26 +96,31 @@ impl<'a> TagText<'a> {
         }
     }
 
-    /// The tag, in memory of its own.
-    pub fn to_spec(&self, alloc: Global) -> Result<TagSpec, OutOfMemory>
-        ensures { IfOk result (λ tag. tag ≡ self.now) }
+    /// What its memory is made with, in memory of its own.
+    fn image(&self, alloc: Global) -> Result<BankImage, OutOfMemory>
+        ensures { IfOk result (λ image. image ≡ self.now.image) }
     {
         let epc = self.epc.to_vec(alloc)?;
         let tid = self.tid.to_vec(alloc)?;
         let user = self.user.to_vec(alloc)?;
-        let draws = self.words.to_vec(alloc)?;
-        let image = BankImage {
+        Ok(BankImage {
             kill: self.kill,
             access: self.access,
             epc: List::new(epc),
             tid: List::new(tid),
             user: List::new(user),
-        };
-        let words = DrawWords::new(alloc, draws.as_slice())?;
+        })
+    }
+
+    /// The tag, in memory of its own.
+    pub fn to_spec(&self, alloc: Global) -> Result<TagSpec, OutOfMemory>
+        ensures { IfOk result (λ tag. tag ≡ self.now) }
+    {
+        let words = self.words.to_vec(alloc)?;
         Ok(TagSpec {
-            image,
+            image: self.image(alloc)?,
             locks: self.locks,
-            words,
+            words: DrawWords::of(words),
         })
     }
 }

@@ -1,6 +1,6 @@
 -- What a scenario has settled behind some lines says the same of the next line as those lines do.
 use Rattle.std.proofs.Common.{◌≡◌, ◌≢◌, ℕ, zero, suc, ◌+◌, ◌<◌, ◌≤◌, ◌==◌, ◌↔◌, Bool, true, false, List, [], ◌∷◌, ◌++◌, length, filter, Option, Some, None, if◌then◌else◌, inl, inr, refl, sym, ◌∙◌, ap, subst, arith, append_assoc, append-nil}
-use Rattle.std.proofs.lemmas.Bool.{eqb-true, eqb-false}
+use Rattle.std.proofs.lemmas.Bool.{cases_lt, eqb-true, eqb-false}
 use Rattle.std.proofs.lemmas.List.{length-append, nil_from_length}
 use Rattle.std.proofs.lemmas.List.Elements.{filter-append}
 use Rattle.std.specs.List.{AllByRecursion}
@@ -92,22 +92,18 @@ some-none choice same = cc
 
 -- ... and what may follow it comes no earlier
 turn-kept : (entry : Entry) (said happening : Happening) → MayFollow (with_happening entry said) happening → happening_turn said ≤ happening_turn happening
-turn-kept entry (happenings.Event event tag) happening may = omega arith
 turn-kept entry (happenings.Miss tag) (happenings.Event event' tag') may = absurd (not_empty entry.missed tag may.0)
-turn-kept entry (happenings.Miss tag) (happenings.Miss tag') may = omega arith
-turn-kept entry (happenings.Miss tag) (happenings.Choice choice') may = omega arith
 turn-kept entry (happenings.Choice choice) (happenings.Event event' tag') may = absurd (some-none choice may.1)
 turn-kept entry (happenings.Choice choice) (happenings.Miss tag') may = absurd (some-none choice may)
-turn-kept entry (happenings.Choice choice) (happenings.Choice choice') may = omega arith
+turn-kept entry said happening may = omega arith
 
 -- ... and could follow before
 may-before : (entry : Entry) (said happening : Happening) → MayFollow (with_happening entry said) happening → MayFollow entry happening
-may-before entry (happenings.Event event tag) (happenings.Event event' tag') may = may
 may-before entry (happenings.Miss tag) (happenings.Event event' tag') may = absurd (not_empty entry.missed tag may.0)
 may-before entry (happenings.Choice choice) (happenings.Event event' tag') may = absurd (some-none choice may.1)
 may-before entry (happenings.Choice choice) (happenings.Miss tag') may = absurd (some-none choice may)
-may-before entry said (happenings.Miss tag') may = may
 may-before entry said (happenings.Choice choice') may = tt
+may-before entry said happening may = may
 
 nothing-said : (happening : Happening) → MayFollow no_entry happening
 nothing-said (happenings.Event event tag) = (refl, refl)
@@ -116,20 +112,17 @@ nothing-said (happenings.Choice choice) = tt
 
 -- an exchange has no choice with one thing more where it had none, and that is none
 choice-of : (entry : Entry) (said : Happening) (exchange number : ℕ) → exchange ≡ number → entry.choice ≡ None → ChoosesOther number (lines.Air exchange said) → (with_happening entry said).choice ≡ None
-choice-of entry (happenings.Event event tag) exchange number same none other = none
-choice-of entry (happenings.Miss tag) exchange number same none other = none
 choice-of entry (happenings.Choice choice) exchange number same none other = absurd (other same)
+choice-of entry said exchange number same none other = none
 
 -- ... and where it has none, that was none
 no-choice : (entry : Entry) (said : Happening) (exchange number : ℕ) → (number ≡ exchange → (with_happening entry said).choice ≡ None) → ChoosesOther number (lines.Air exchange said)
-no-choice entry (happenings.Event event tag) exchange number none = tt
-no-choice entry (happenings.Miss tag) exchange number none = tt
 no-choice entry (happenings.Choice choice) exchange number none = λ same. some-none choice (none (sym same))
+no-choice entry said exchange number none = tt
 
 choice-before : (entry : Entry) (said : Happening) → (with_happening entry said).choice ≡ None → entry.choice ≡ None
-choice-before entry (happenings.Event event tag) none = none
-choice-before entry (happenings.Miss tag) none = none
 choice-before entry (happenings.Choice choice) none = absurd (some-none choice none)
+choice-before entry said none = none
 
 -- What the number of the last exchange and what is said of it tell of the next air line, and what the lines before it do.
 record TellsAirs (before : List Line) (last : ℕ) (latest : Entry) : Type 0 where
@@ -513,28 +506,21 @@ head-long Two = omega arith
 -- Which line may stand behind these lines: at the head it is by their number alone.
 stand-first : (keyword : Keyword) → MayStand start keyword ↔ MayStandBehind [] keyword
 stand-first keywords.Version = (λ may. record { goes_on = tt; place = refl; order = tt }, λ may. tt)
-stand-first keywords.Link = (λ may. absurd may, λ may. absurd (omega (arith, may.place)))
 stand-first keywords.Default = (λ may. absurd may, λ may. absurd (omega (arith, may.place.1)))
 stand-first keyword = (λ may. absurd may, λ may. absurd (omega (arith, may.place)))
 
 stand-second : (version : Version) (keyword : Keyword) → MayStand (begun version) keyword ↔ MayStandBehind (lines.Version version ∷ []) keyword
-stand-second version keywords.Version = (λ may. absurd may, λ may. absurd (omega (arith, may.place)))
 stand-second version keywords.Link = (λ may. record { goes_on = (tt, tt); place = refl; order = tt }, λ may. tt)
 stand-second version keywords.Default = (λ may. absurd may, λ may. absurd (omega (arith, may.place.1)))
 stand-second version keyword = (λ may. absurd may, λ may. absurd (omega (arith, head-long version, may.place)))
 
 stand-third : (link : _) (keyword : Keyword) → MayStand (linked link) keyword ↔ MayStandBehind (lines.Version Two ∷ lines.Link link ∷ []) keyword
-stand-third link keywords.Version = (λ may. absurd may, λ may. absurd (omega (arith, may.place)))
-stand-third link keywords.Link = (λ may. absurd may, λ may. absurd (omega (arith, may.place)))
 stand-third link keywords.Default = (λ may. record { goes_on = (tt, (tt, tt)); place = (refl, refl); order = tt }, λ may. tt)
 stand-third link keyword = (λ may. absurd may, λ may. absurd (omega (arith, may.place)))
 
 -- there is room exactly where the lines before are not full
 less-or-not : (count most : ℕ) → (¬ (most ≤ count)) → count < most
-less-or-not zero zero few = absurd (few (omega arith))
-less-or-not zero (suc most) few = omega arith
-less-or-not (suc count) zero few = absurd (few (omega arith))
-less-or-not (suc count) (suc most) few = let less = less-or-not count most (λ full. few (omega (arith, full))) in omega (arith, less)
+less-or-not count most few = elim (cases_lt count most) [ inl less ↦ less | inr full ↦ absurd (few full) ]
 
 room-or-full : (count counted most : ℕ) → count ≡ counted → (count < most) ↔ (¬ (most ≤ counted))
 room-or-full count counted most same =

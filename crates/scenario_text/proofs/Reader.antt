@@ -97,11 +97,9 @@ few_in_draft draft keeps =
     )
 
 few_lines : (standing : ScenarioStanding) → StandingKeeps standing → length (standing_lines standing) ≤ 43012
-few_lines start keeps = omega arith
-few_lines (begun version) keeps = omega arith
-few_lines (linked link) keeps = omega arith
 few_lines (within draft) keeps = let few = few_in_draft draft keeps in omega arith
 few_lines (ended draft) keeps = omega (arith, few_in_draft draft keeps, length-append (draft_lines draft) (lines.End ∷ []))
+few_lines standing keeps = omega arith
 
 -- of the lines of a text these are left, and those before them lead there
 pub record IsRead (text rest : List ℕ) (standing : ScenarioStanding) (number : ℕ) : Type 0 where

@@ -549,15 +549,13 @@ air_settles draft number happening keeps air =
     ]
 
 names_tag_of : (tags number : ℕ) (happening : Happening) → NamesTag tags (lines.Air number happening) → NamesTagOf tags happening
-names_tag_of tags number (happenings.Event event tag) names = names
-names_tag_of tags number (happenings.Miss tag) names = names
 names_tag_of tags number (happenings.Choice choice) names = tt
+names_tag_of tags number happening names = names
 
 chooses_once : (draft : DraftValue) (number : ℕ) (happening : Happening) → ChoosesOnce draft.air (lines.Air number happening) → number ≡ draft.air.exchange
     → MayChoose draft.air.latest happening
-chooses_once draft number (happenings.Event event tag) once is = tt
-chooses_once draft number (happenings.Miss tag) once is = tt
 chooses_once draft number (happenings.Choice choice) once is = once is
+chooses_once draft number happening once is = tt
 
 air_follows : (draft : DraftValue) (number : ℕ) (happening : Happening) → MayStandNext (within draft) (lines.Air number happening) → AirFollows draft number happening
 air_follows draft number happening follows = record {

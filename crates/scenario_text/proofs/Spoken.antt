@@ -242,9 +242,8 @@ speak_on_exchange draft entry no_steps is few =
     (leads_on _ _ _ (event_lines ++ miss_lines) (choice_lines entry.0 choice) (leads_on _ _ _ event_lines miss_lines first second) third)
 
 chooses_other : (draft : DraftValue) (number : ℕ) (happening : Happening) → number ≢ draft.air.exchange → ChoosesOnce draft.air (lines.Air number happening)
-chooses_other draft number (happenings.Event event tag) differs = tt
-chooses_other draft number (happenings.Miss tag) differs = tt
 chooses_other draft number (happenings.Choice choice) differs = λ same. absurd (differs same)
+chooses_other draft number happening differs = tt
 
 -- the first line on another exchange than the last one
 air_turns : (draft : DraftValue) (number : ℕ) (happening : Happening) (said : List Line) (to : ScenarioStanding) → draft.air.exchange < number

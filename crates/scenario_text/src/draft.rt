@@ -30,12 +30,23 @@ struct Head {
 }
 
 /// A scenario, line by line.
-#[derive(Drop)]
 pub(crate) struct Draft {
     head: Head,
     tags: TagLines,
     air: AirLines,
     steps: StepLines,
+}
+
+// A draft is dropped by one call, wherever one is: the lists of its parts aren't named there.
+impl Drop for Draft {
+    fn drop(self) {
+        let Draft {
+            head: _,
+            tags: _,
+            air: _,
+            steps: _,
+        } = self;
+    }
 }
 
 impl Model for Draft {

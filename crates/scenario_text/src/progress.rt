@@ -41,10 +41,12 @@ fn said_version(line: &[u8]) -> Result<Version, Fault>
     ensures ok { IfOk result (λ version. line.now ≡ line_text (Line.Version version)) }
     ensures refused { IfErr result (IsFaultyInScenario start line.now) }
 {
-    match line {
-        b"gen2 1" => Ok(Version::One),
-        b"gen2 2" => Ok(Version::Two),
-        _ => Err(Fault::Version),
+    if line == b"gen2 1".as_slice() {
+        Ok(Version::One)
+    } else if line == b"gen2 2".as_slice() {
+        Ok(Version::Two)
+    } else {
+        Err(Fault::Version)
     }
 }
 

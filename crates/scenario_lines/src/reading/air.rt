@@ -12,9 +12,9 @@ ghost use Rattle.scenario_lines.specs.Reading.{IsHappeningText, Misreads, Misrea
 
 use super::event::{MOST_PLACE, event_behind, one_number};
 use crate::choice::{ChoiceFields, ChoiceText};
-use crate::names::air_kind_named;
 use crate::{AirKind, Happening, LineFault};
 use air_events::LONGEST_STREAM;
+use command_text::value_named;
 use text_fields::{Digits, Fields, is_at_end, number_from, one_field};
 
 /// The greatest number of an exchange in a line.
@@ -98,7 +98,7 @@ pub(crate) fn read_air<'a>(mut others: Fields<'a>) -> Result<(u32, Happening<'a>
     let Some(kind) = others.next() else {
         return Err(LineFault::Shape);
     };
-    let Some(kind) = air_kind_named(kind) else {
+    let Some(kind) = value_named(kind) else {
         return Err(LineFault::Word);
     };
     if exchange.is_empty() {

@@ -11,12 +11,11 @@ ghost use Rattle.scenario_lines.specs.Spelling.{op_fields};
 ghost use Rattle.text_fields.specs.NamedFields.{AreFilled};
 ghost use Rattle.scenario_lines.specs.Reading.{IsOpText, Misreads, MisreadsOp, MisreadsOpLine};
 
-use crate::names::op_kind_named;
 use crate::{LineFault, OpKind};
 use access_ops::Op;
 use bit_strings::Pointer;
 use command_grammar::Bank;
-use command_text::{bank_named, block_of, payload_of};
+use command_text::{bank_named, block_of, payload_of, value_named};
 use reply_grammar::EpcWords;
 use reply_text::epc_of;
 use text_fields::{Fields, count_of, number, one_field, pointer_of, three_fields, word};
@@ -178,7 +177,7 @@ pub(crate) fn read_op(mut others: Fields) -> Result<Op, LineFault>
     let Some(kind) = others.next() else {
         return Err(LineFault::Shape);
     };
-    let Some(kind) = op_kind_named(kind) else {
+    let Some(kind) = value_named(kind) else {
         return Err(LineFault::Word);
     };
     op_behind(kind, others)

@@ -40,10 +40,12 @@ fn rule_named(field: &[u8]) -> Option<Rule>
     ensures only { (rule : Rule) → IsLegalRule rule → field.now ≡ rule_text Version.Two rule
         → result ≡ Some rule }
 {
-    match field {
-        b"fixed" => Some(Rule::Fixed),
-        b"frame" => Some(Rule::Frame),
-        _ => Some(Rule::Float(float_of(field)?)),
+    if field == b"fixed".as_slice() {
+        Some(Rule::Fixed)
+    } else if field == b"frame".as_slice() {
+        Some(Rule::Frame)
+    } else {
+        Some(Rule::Float(float_of(field)?))
     }
 }
 

@@ -10,16 +10,16 @@ use Rattle.command_text.proofs.reading.read_named_to.Goals as goal
 
 pub returns-in-Some-read_behind_to-clause-only : goal.returns-in-Some-read_behind_to-clause-only
 returns-in-Some-read_behind_to-clause-only c = λ spelled is.
-    let first : c.args.fields ≡ command_name c.in-Some-command_named.kind ∷ c.next.new.self = search rules in (
+    let first : c.args.fields ≡ command_name c.in-Some-value_named.kind ∷ c.next.new.self = search rules in (
       refl,
       command_told c.args.fields c.read_behind_to.new.command spelled
-          (rw first (spelled_behind commands IsLegalCommand c.in-Some-command_named.kind c.next.new.self c.read_behind_to.new.command
+          (rw first (spelled_behind commands IsLegalCommand c.in-Some-value_named.kind c.next.new.self c.read_behind_to.new.command
           (rw c.again.ensures at (c.in-Some-read_behind_to.ensures.value refl)))) is,
     )
 
 pub returns-in-None-2-clause-only : goal.returns-in-None-2-clause-only
 returns-in-None-2-clause-only c = λ spelled is.
-    let first : c.args.fields ≡ command_name c.in-Some-command_named.kind ∷ c.next.new.self = search rules in
-    let wrong : AreFilled (command_field_count c.in-Some-command_named.kind) c.next.new.self → ⊥ = λ are. search rules in
+    let first : c.args.fields ≡ command_name c.in-Some-value_named.kind ∷ c.next.new.self = search rules in
+    let wrong : AreFilled (command_field_count c.in-Some-value_named.kind) c.next.new.self → ⊥ = λ are. search rules in
     absurd (command_is_not_faulty c.args.fields spelled Shape is
-    (rw first (wrong_shape commands IsLegalCommand commands_are c.in-Some-command_named.kind c.next.new.self wrong)))
+    (rw first (wrong_shape commands IsLegalCommand commands_are c.in-Some-value_named.kind c.next.new.self wrong)))
