@@ -345,10 +345,12 @@ same_event_kind kind other same = cc
 event_there : (kind : EventKind) (fields : List (List ℕ)) (happening : Happening) → IsHappeningText (airs.Event kind) fields happening → HasEvent kind fields
 event_there kind fields (happenings.Event event tag) text =
     ((event, tag), record { same_kind = same_event_kind (event_kind event) kind text.same_kind; spelling = text.spelling; in_range = text.in_range })
+event_there kind fields (happenings.Choice choices.Silent) text = let is = text.same_kind in cc
 event_there kind fields happening text = let is = text.same_kind in cc
 
 miss_there : (fields : List (List ℕ)) (happening : Happening) → IsHappeningText airs.Miss fields happening → Spelled (λ (n : ℕ). decimal n ∷ []) IsPlace fields
 miss_there fields (happenings.Miss tag) text = (tag, text.in_range, text.spelling)
+miss_there fields (happenings.Choice choices.Silent) text = let is = text.same_kind in cc
 miss_there fields happening text = let is = text.same_kind in cc
 
 pick_there : (fields : List (List ℕ)) (happening : Happening) → IsHappeningText airs.Pick fields happening → Spelled (λ (n : ℕ). decimal n ∷ []) IsPlace fields
