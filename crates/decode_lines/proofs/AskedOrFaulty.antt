@@ -12,7 +12,7 @@ use Rattle.decode_lines.specs.Answer.{decode_rules}
 use Rattle.decode_lines.specs.declared.request.RequestKind.{RequestKind}
 use Rattle.decode_lines.specs.declared.request.RequestKind.TheVariants.{Pie as PieKind}
 use Rattle.decode_lines.specs.declared.request.Request.{Request}
-use Rattle.decode_lines.specs.declared.request.Request.TheVariants.{Stream, Samples, Reply, Heard, Pie, Command, Sgtin, Uri}
+use Rattle.decode_lines.specs.declared.request.Request.TheVariants.{Pie}
 use Rattle.checked_lines.specs.declared.fault.FaultReason.{FaultReason}
 use Rattle.checked_lines.specs.declared.fault.FaultReason.TheVariants.{Shape, Number}
 
@@ -34,13 +34,7 @@ by_others line kind others (Err reason) fields asks faulty = inr (reason, faulty
 
 no_other : (others : List (List ℕ)) → RefusesNumbers reasons.Number most_intervals longest_interval others → (request : Request) → ¬ AsksToDecodeBehind PieKind others request
 no_other others refused (Pie intervals) asks = refused.1 intervals asks.limits.2 asks.spelling
-no_other others refused (Stream code trext levels) asks = let same = asks.same_kind in cc
-no_other others refused (Samples threshold per_level samples) asks = let same = asks.same_kind in cc
-no_other others refused (Reply expect bits) asks = let same = asks.same_kind in cc
-no_other others refused (Heard code trext expect levels) asks = let same = asks.same_kind in cc
-no_other others refused (Command bits) asks = let same = asks.same_kind in cc
-no_other others refused (Sgtin words) asks = let same = asks.same_kind in cc
-no_other others refused (Uri text) asks = let same = asks.same_kind in cc
+no_other others refused request asks = let same = asks.same_kind in cc
 
 -- ... and the intervals of a frame are numbers, or are refused
 pub by_intervals : (line : List ℕ) (others : List (List ℕ)) → fields_of line ≡ request_word PieKind ∷ others

@@ -1,19 +1,17 @@
 -- A line `heard` asks for nothing where one of its first fields spells nothing.
 use Rattle.std.proofs.Common.{◌≡◌, ◌≢◌, ℕ, Bool, List, [], ◌∷◌, refl}
-use Rattle.std.proofs.lemmas.List.Elements.{All-cons, All-nil}
+use Rattle.std.proofs.lemmas.List.Elements.{All-cons}
 use Rattle.bit_strings.specs.declared.code.Code.{Code}
 use Rattle.text_fields.specs.Binary.{binary, binary_digit}
 use Rattle.text_fields.specs.CodeNames.{code_word}
 use Rattle.reply_grammar.specs.declared.expected.Expect.{Expect}
 use Rattle.reply_text.specs.ReplyText.{expect_word, IsExpect}
 use Rattle.checked_lines.specs.declared.fault.FaultReason.TheVariants.{Number}
+use Rattle.decode_lines.proofs.OneReading.{Filled, three_filled}
 use Rattle.decode_lines.specs.Request.{AreFaultyToDecode, AsksToDecodeBehind}
 use Rattle.decode_lines.specs.declared.request.RequestKind.TheVariants as kinds
 use Rattle.decode_lines.specs.declared.request.Request.{Request}
-use Rattle.decode_lines.specs.declared.request.Request.TheVariants.{Stream, Samples, Reply, Heard, Pie, Command, Sgtin, Uri}
-
-abbrev IsFilled : List ℕ → Type 0
-IsFilled field = field ≢ []
+use Rattle.decode_lines.specs.declared.request.Request.TheVariants.{Heard}
 
 -- no line code, TRext and expectation have these three spellings
 abbrev pub SpellNone : (code trext expect : List ℕ) → Type 0
@@ -27,20 +25,9 @@ asks_none code trext expect levels none (Heard named extended expected bits) ask
     let second : trext ≡ binary_digit extended ∷ [] = cc in
     let third : expect ≡ expect_word expected = cc in
     none named extended expected first second asks.limits.0 third
-asks_none code trext expect levels none (Stream named extended bits) asks = let same = asks.same_kind in cc
-asks_none code trext expect levels none (Samples threshold per_level samples) asks = let same = asks.same_kind in cc
-asks_none code trext expect levels none (Reply expected bits) asks = let same = asks.same_kind in cc
-asks_none code trext expect levels none (Pie intervals) asks = let same = asks.same_kind in cc
-asks_none code trext expect levels none (Command bits) asks = let same = asks.same_kind in cc
-asks_none code trext expect levels none (Sgtin words) asks = let same = asks.same_kind in cc
-asks_none code trext expect levels none (Uri text) asks = let same = asks.same_kind in cc
+asks_none code trext expect levels none request asks = let same = asks.same_kind in cc
 
 pub heard_unnamed : (code trext expect levels : List ℕ) → code ≢ [] → trext ≢ [] → expect ≢ [] → levels ≢ [] → SpellNone code trext expect
     → AreFaultyToDecode kinds.Heard (code ∷ trext ∷ expect ∷ levels ∷ []) Number
-heard_unnamed code trext expect levels some some' some'' some''' none = (
-  (
-    refl,
-    All-cons IsFilled code (trext ∷ expect ∷ levels ∷ []) some (All-cons IsFilled trext (expect ∷ levels ∷ []) some' (All-cons IsFilled expect (levels ∷ []) some'' (All-cons IsFilled levels [] some''' (All-nil IsFilled)))),
-  ),
-  asks_none code trext expect levels none,
-)
+heard_unnamed code trext expect levels some some' some'' some''' none =
+    ((refl, All-cons Filled code (trext ∷ expect ∷ levels ∷ []) some (three_filled trext expect levels some' some'' some''')), asks_none code trext expect levels none)

@@ -10,8 +10,8 @@ use Rattle.std.specs.List.{All}
 use Rattle.text_fields.specs.Lines.{fields_of}
 use Rattle.text_fields.specs.Binary.{binary, binary_digit}
 use Rattle.text_fields.specs.CodeNames.{code_word}
-use Rattle.bit_strings.specs.declared.code.Code.{Code}
 use Rattle.bit_strings.specs.declared.code.Code.TheVariants.{Fm0, M2, M4, M8}
+use Rattle.command_text.proofs.FieldTexts.{bit_is, code_is}
 use Rattle.hex.specs.Hex.{decode_of}
 use Rattle.hex.proofs.OnLiterals.{hex_on_literals}
 use Rattle.std.specs.Fmt.{decimal}
@@ -56,23 +56,17 @@ kind_read_word SgtinKind = refl
 kind_read_word UriKind = refl
 
 -- a first field says one kind
-pub kind_word-injective : (a b : RequestKind) → request_word a ≡ request_word b → a ≡ b
-kind_word-injective a b same = let e : Some a ≡ Some b = sym (kind_read_word a) ∙ ap kind_read same ∙ kind_read_word b in cc
+pub kind_told : (a b : RequestKind) → request_word a ≡ request_word b → a ≡ b
+kind_told a b same = let e : Some a ≡ Some b = sym (kind_read_word a) ∙ ap kind_read same ∙ kind_read_word b in cc
 
-abbrev Filled : List ℕ → Type 0
+abbrev pub Filled : List ℕ → Type 0
 Filled field = field ≢ []
 
 two_filled : (a b : List ℕ) → Filled a → Filled b → All Filled (a ∷ b ∷ [])
 two_filled a b p q = All-cons Filled a (b ∷ []) p (All-cons Filled b [] q (All-nil Filled))
 
-three_filled : (a b c : List ℕ) → Filled a → Filled b → Filled c → All Filled (a ∷ b ∷ c ∷ [])
+pub three_filled : (a b c : List ℕ) → Filled a → Filled b → Filled c → All Filled (a ∷ b ∷ c ∷ [])
 three_filled a b c p q r = All-cons Filled a (b ∷ c ∷ []) p (two_filled b c q r)
-
-code_filled : (code : Code) → Filled (code_word code)
-code_filled Fm0 e = cc
-code_filled M2 e = cc
-code_filled M4 e = cc
-code_filled M8 e = cc
 
 numbers_filled : (numbers : List ℕ) → All (λ number. number ≤ longest_interval) numbers → All Filled (map decimal numbers)
 numbers_filled [] within = All-nil Filled
@@ -91,8 +85,7 @@ no_samples digits (s ∷ samples) none spelled some =
 -- the fields of a request have the shape that its kind wants
 request_shape : (request : Request) (others : List (List ℕ)) → AreSpelled request others → IsWithinDecodeLimits request → HasDecodeShape (decode_request_kind request) others
 request_shape (Stream code trext levels) others spelling limits =
-    let digit : Filled (binary_digit trext ∷ []) = λ e. cc in
-    rw spelling (refl, two_filled (binary_digit trext ∷ []) (binary levels) digit (IsFieldText-binary levels).filled)
+    rw spelling (refl, two_filled (binary_digit trext ∷ []) (binary levels) (bit_is trext).filled (IsFieldText-binary levels).filled)
 request_shape (Samples threshold per_level samples) others spelling limits =
     let digits : Filled spelling.0 = λ e. no_samples spelling.0 samples e spelling.2 limits.3 in
     rw spelling.1 (
@@ -103,11 +96,10 @@ request_shape (Samples threshold per_level samples) others spelling limits =
 request_shape (Reply expect bits) others spelling limits =
     rw spelling (refl, two_filled (expect_word expect) (binary bits) (expect_word_is_field_text expect limits.0).filled (IsFieldText-binary bits).filled)
 request_shape (Heard code trext expect levels) others spelling limits =
-    let digit : Filled (binary_digit trext ∷ []) = λ e. cc in
     rw spelling (
       refl,
-      All-cons Filled (code_word code) ((binary_digit trext ∷ []) ∷ expect_word expect ∷ binary levels ∷ []) (code_filled code)
-          (three_filled (binary_digit trext ∷ []) (expect_word expect) (binary levels) digit (expect_word_is_field_text expect limits.0).filled (IsFieldText-binary levels).filled),
+      All-cons Filled (code_word code) ((binary_digit trext ∷ []) ∷ expect_word expect ∷ binary levels ∷ []) (code_is code).filled
+          (three_filled (binary_digit trext ∷ []) (expect_word expect) (binary levels) (bit_is trext).filled (expect_word_is_field_text expect limits.0).filled (IsFieldText-binary levels).filled),
     )
 request_shape (Pie intervals) others spelling limits =
     let some : 1 ≤ length (map decimal intervals) = rw length-map limits.0 in
@@ -134,7 +126,7 @@ same_fields a b xs ys e = (cc, cc)
 behind_not_faulty : (line : List ℕ) (request : Request) (reason : FaultReason) (kind : RequestKind) (others : List (List ℕ)) → AsksToDecode line request → fields_of line ≡ request_word kind ∷ others → AreFaultyToDecode kind others reason → ⊥
 behind_not_faulty line request reason kind others spells fields faulty =
     let parts = same_fields _ _ _ _ (sym spells.fields ∙ fields) in
-    let same_kind = kind_word-injective spells.kind kind parts.0 in
+    let same_kind = kind_told spells.kind kind parts.0 in
     asked_not_faulty request kind others reason
     (subst (λ k. AsksToDecodeBehind k others request) same_kind (subst (λ o. AsksToDecodeBehind spells.kind o request) parts.1 spells.asks)) faulty
 

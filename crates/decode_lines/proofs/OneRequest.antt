@@ -1,5 +1,5 @@
 -- A line asks for one thing at most.
-use Rattle.std.proofs.Common.{◌≡◌, ◌≤◌, ℕ, Bool, true, false, List, [], ◌∷◌, map, refl, sym, ◌∙◌, subst, arith}
+use Rattle.std.proofs.Common.{◌≡◌, ◌≤◌, ℕ, List, [], ◌∷◌, map, refl, sym, ◌∙◌, subst, arith}
 use Rattle.std.specs.List.{All}
 use Rattle.std.specs.Fmt.{decimal}
 use Rattle.std.proofs.lemmas.List.Elements.{All-head, All-tail}
@@ -7,24 +7,14 @@ use Rattle.text_fields.specs.Binary.{binary, binary_digit}
 use Rattle.text_fields.specs.CodeNames.{code_word}
 use Rattle.text_fields.proofs.ToldApart.{decimal_told, binary_told, hex_words_told}
 use Rattle.text_fields.specs.Hexadecimal.{hex_words}
-use Rattle.bit_strings.specs.declared.code.Code.{Code}
+use Rattle.command_text.proofs.ToldApart.{code_told, digit_told}
 use Rattle.reply_text.specs.ReplyText.{expect_word}
 use Rattle.reply_text.proofs.ToldApart.{expect_told}
 use Rattle.decode_lines.specs.Request.{decode_request_kind, AreSpelled, IsWithinDecodeLimits, AsksToDecode}
-use Rattle.decode_lines.specs.declared.request.RequestKind.TheVariants.{Stream as StreamKind}
 use Rattle.decode_lines.specs.declared.request.Request.{Request}
 use Rattle.decode_lines.specs.declared.request.Request.TheVariants.{Stream, Samples, Reply, Heard, Pie, Command, Sgtin, Uri}
-use Rattle.decode_lines.proofs.OneReading.{kind_word-injective, same_fields}
+use Rattle.decode_lines.proofs.OneReading.{kind_told, same_fields}
 use Rattle.pie_line.specs.Pie.{longest_interval}
-
-digit_told : (one other : Bool) → binary_digit one ≡ binary_digit other → one ≡ other
-digit_told true true same = refl
-digit_told false false same = refl
-digit_told true false same = absurd (omega arith)
-digit_told false true same = absurd (omega arith)
-
-code_told : (one other : Code) → code_word one ≡ code_word other → one ≡ other
-code_told one other same = let kinds : StreamKind one ≡ StreamKind other = kind_word-injective (StreamKind one) (StreamKind other) same in cc
 
 -- the range of an interval in a line
 abbrev IsInterval : ℕ → Type 0
@@ -94,6 +84,6 @@ same_behind one other others kinds spelled spelled' within within' = cc
 pub same_request : (line : List ℕ) (one other : Request) → AsksToDecode line one → AsksToDecode line other → one ≡ other
 same_request line one other left right =
     let parts = same_fields _ _ _ _ (sym left.fields ∙ right.fields) in
-    let kinds : left.kind ≡ right.kind = kind_word-injective left.kind right.kind parts.0 in
+    let kinds : left.kind ≡ right.kind = kind_told left.kind right.kind parts.0 in
     same_behind one other left.others (sym left.asks.same_kind ∙ kinds ∙ right.asks.same_kind)
     left.asks.spelling (subst (AreSpelled other) (sym parts.1) right.asks.spelling) left.asks.limits right.asks.limits

@@ -6,7 +6,7 @@ use Rattle.checked_lines.specs.laws.OneLine.{TellLines, HaveOneAnswer}
 use Rattle.decode_lines.specs.Request.{request_word, HasDecodeShape, IsFaultyToDecode}
 use Rattle.decode_lines.specs.Answer.{decode_rules}
 use Rattle.decode_lines.specs.declared.request.RequestKind.{RequestKind}
-use Rattle.decode_lines.proofs.OneReading.{kind_word-injective, same_fields, spelled_not_faulty}
+use Rattle.decode_lines.proofs.OneReading.{kind_told, same_fields, spelled_not_faulty}
 use Rattle.decode_lines.proofs.OneRequest.{same_request}
 use Rattle.decode_lines.proofs.OneAnswer.{TellAnswers, same_answer}
 
@@ -15,7 +15,7 @@ one_reading : (fields : List (List ℕ)) (kind kind' : RequestKind) (others othe
     → HasDecodeShape kind others → HasDecodeShape kind' others'
 one_reading fields kind kind' others others' read read' shape =
     let parts = same_fields _ _ _ _ (sym read ∙ read') in
-    let kinds : kind ≡ kind' = kind_word-injective kind kind' parts.0 in
+    let kinds : kind ≡ kind' = kind_told kind kind' parts.0 in
     subst (λ k. HasDecodeShape k others') kinds (subst (λ o. HasDecodeShape kind o) parts.1 shape)
 
 -- fields have one first reason

@@ -35,11 +35,20 @@ use std::alloc::Global;
 use text_fields::{Digits, Fields, HexBytes, Words};
 
 /// Room for the intervals, and for what an answer needs, of the longest line, taken once for all lines.
-#[derive(Drop)]
 pub struct Workspace {
     intervals: Intervals,
     rooms: Rooms,
     ghost intervals_room: { intervals.capacity ≡ most_intervals },
+}
+
+// By this each place that drops the room makes one call, which keeps the proofs of those functions short.
+impl Drop for Workspace {
+    fn drop(self) {
+        let Workspace {
+            intervals: _,
+            rooms: _,
+        } = self;
+    }
 }
 
 impl Workspace {
@@ -87,10 +96,8 @@ impl Workspace {
         if let Err(reason) = read_intervals(others, &mut self.intervals) {
             return Ok(Err(reason));
         }
-        let request = Request::Pie {
-            intervals: Numbers::new(&self.intervals),
-        };
-        self.rooms.answer(&request, text)?;
+        let intervals = Numbers::new(&self.intervals);
+        self.rooms.answer_frame(&intervals, text)?;
         Ok(Ok(()))
     }
 

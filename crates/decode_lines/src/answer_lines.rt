@@ -1,6 +1,9 @@
 //! What was read of a line, as the line that answers it.
-ghost use Rattle.std.specs.Prelude.{◌≡◌, ◌++◌, OnOk};
+ghost use Rattle.std.specs.Prelude.{◌≡◌, [], ◌∷◌, ◌++◌, OnOk};
+ghost use Rattle.std.specs.Fmt.{decimal};
 ghost use Rattle.std.specs.String.{string_bytes};
+ghost use Rattle.text_fields.specs.Binary.{binary};
+ghost use Rattle.text_fields.specs.Lines.{line_feed};
 ghost use Rattle.decode_lines.specs.Answer.{line_of_answer, streamed, sliced, replied, heard, framed, commanded, named, worded, with_left};
 
 use bit_strings::{Bits, Levels, OutOfMemory};
@@ -16,6 +19,26 @@ use sample_slicer::SliceRefusal;
 use sgtin_text::{push_epc_fault, push_name, push_sgtin_words, push_uri_fault};
 use text_fields::{push_bits, push_number};
 
+/// Adds a word and bits, as a line.
+fn push_bits_line(text: &mut String, word: &str, bits: &[bool]) -> Result<(), OutOfMemory>
+    ensures { OnOk result (string_bytes text.new ≡ string_bytes text.old
+        ++ (word.now ++ binary bits.now ++ line_feed ∷ [])) }
+{
+    text.push_str(word)?;
+    push_bits(text, bits)?;
+    text.push_str("\n")
+}
+
+/// Adds a word and a number, as a line.
+fn push_number_line(text: &mut String, word: &str, number: u32) -> Result<(), OutOfMemory>
+    ensures { OnOk result (string_bytes text.new ≡ string_bytes text.old
+        ++ (word.now ++ decimal number ++ line_feed ∷ [])) }
+{
+    text.push_str(word)?;
+    push_number(text, number)?;
+    text.push_str("\n")
+}
+
 /// Adds what a line decoder answered, as a line.
 pub(crate) fn push_outcome(
     text: &mut String,
@@ -26,20 +49,10 @@ pub(crate) fn push_outcome(
         ++ line_of_answer (streamed (with_left (λ done. bits.now.items) outcome))) }
 {
     match outcome {
-        Ok(()) => {
-            text.push_str("bits ")?;
-            push_bits(text, bits.as_slice())?;
-        }
-        Err(LineRefusal::Invalid(place)) => {
-            text.push_str("invalid ")?;
-            push_number(text, place)?;
-        }
-        Err(LineRefusal::Unfinished(count)) => {
-            text.push_str("unfinished ")?;
-            push_number(text, count)?;
-        }
+        Ok(()) => push_bits_line(text, "bits ", bits.as_slice()),
+        Err(LineRefusal::Invalid(place)) => push_number_line(text, "invalid ", place),
+        Err(LineRefusal::Unfinished(count)) => push_number_line(text, "unfinished ", count),
     }
-    text.push_str("\n")
 }
 
 /// Adds what the slicer answered, as a line.
@@ -52,20 +65,10 @@ pub(crate) fn push_slicing(
         ++ line_of_answer (sliced (with_left (λ done. levels.now.items) outcome))) }
 {
     match outcome {
-        Ok(()) => {
-            text.push_str("levels ")?;
-            push_bits(text, levels.as_slice())?;
-        }
-        Err(SliceRefusal::Mixed(place)) => {
-            text.push_str("mixed ")?;
-            push_number(text, place)?;
-        }
-        Err(SliceRefusal::Rest(place)) => {
-            text.push_str("rest ")?;
-            push_number(text, place)?;
-        }
+        Ok(()) => push_bits_line(text, "levels ", levels.as_slice()),
+        Err(SliceRefusal::Mixed(place)) => push_number_line(text, "mixed ", place),
+        Err(SliceRefusal::Rest(place)) => push_number_line(text, "rest ", place),
     }
-    text.push_str("\n")
 }
 
 /// Adds what the reply grammar answered, as a line.
@@ -89,13 +92,12 @@ pub(crate) fn push_received(text: &mut String, received: &Received) -> Result<()
         ++ line_of_answer (heard received.now)) }
 {
     match received {
-        Received::Whole(reply) => push_reply(text, reply)?,
-        Received::Refused(place) => {
-            text.push_str("refused ")?;
-            push_number(text, *place)?;
+        Received::Whole(reply) => {
+            push_reply(text, reply)?;
+            text.push_str("\n")
         }
+        Received::Refused(place) => push_number_line(text, "refused ", *place),
     }
-    text.push_str("\n")
 }
 
 /// Adds what the decoder of frames answered, as a line.

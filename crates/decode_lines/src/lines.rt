@@ -15,7 +15,6 @@ use text_fields::split_line;
 
 /// The answers to the lines of an input that comes in pieces. Each line is answered as soon as its line
 /// feed comes, and nothing is kept of the lines before.
-#[derive(Drop)]
 pub(crate) struct Answering {
     workspace: Workspace,
     /// The answers to the lines so far, each on a line of its own.
@@ -26,6 +25,19 @@ pub(crate) struct Answering {
     number: u32,
     /// The first faulty line. What comes behind it is not looked at.
     fault: Option<FaultyLine>,
+}
+
+// As for `Workspace`.
+impl Drop for Answering {
+    fn drop(self) {
+        let Answering {
+            workspace: _,
+            text: _,
+            part: _,
+            number: _,
+            fault: _,
+        } = self;
+    }
 }
 
 impl Answering {

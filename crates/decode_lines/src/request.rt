@@ -119,15 +119,22 @@ fn other_kind(word: &[u8]) -> Option<RequestKind>
     ensures none { IfNone result
         ((kind : RequestKind) → NamesNoCode kind → word.now ≢ request_word kind) }
 {
-    match word {
-        b"samples" => Some(RequestKind::Samples),
-        b"reply" => Some(RequestKind::Reply),
-        b"heard" => Some(RequestKind::Heard),
-        b"pie" => Some(RequestKind::Pie),
-        b"command" => Some(RequestKind::Command),
-        b"sgtin" => Some(RequestKind::Sgtin),
-        b"uri" => Some(RequestKind::Uri),
-        _ => None,
+    if word == b"samples".as_slice() {
+        Some(RequestKind::Samples)
+    } else if word == b"reply".as_slice() {
+        Some(RequestKind::Reply)
+    } else if word == b"heard".as_slice() {
+        Some(RequestKind::Heard)
+    } else if word == b"pie".as_slice() {
+        Some(RequestKind::Pie)
+    } else if word == b"command".as_slice() {
+        Some(RequestKind::Command)
+    } else if word == b"sgtin".as_slice() {
+        Some(RequestKind::Sgtin)
+    } else if word == b"uri".as_slice() {
+        Some(RequestKind::Uri)
+    } else {
+        None
     }
 }
 
