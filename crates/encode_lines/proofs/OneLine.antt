@@ -1,5 +1,5 @@
 -- For a request one line is written.
-use Rattle.std.proofs.Common.{◌≡◌, ℕ, List, refl, sym, ◌∙◌, ap, inl, inr}
+use Rattle.std.proofs.Common.{rules, ◌≡◌, ℕ, List, refl, sym, ◌∙◌, ap, inl, inr}
 use Rattle.pie_line.specs.Link.{IsLegalLink, LinkValue}
 use Rattle.pie_line.specs.LinkRefusal.{IsFirstBroken}
 use Rattle.pie_line.specs.declared.link.LinkRefusal.{LinkRefusal}
@@ -9,27 +9,18 @@ use Rattle.reply_grammar.specs.declared.expected.Reply.{Reply}
 use Rattle.checked_lines.specs.laws.OneLine.{HaveOneAnswer}
 use Rattle.encode_lines.specs.EncodeLines.{encode_rules}
 use Rattle.encode_lines.specs.Written.{AreWritten, AreOfReply, link_of, refusal_word, refused_fields}
+use Rattle.encode_lines.specs.declared.request.Durations.{Durations}
 use Rattle.encode_lines.specs.declared.request.Request.{Request}
 use Rattle.encode_lines.specs.declared.request.Request.TheVariants.{Stream, Pie, Command, Reply as ReplyLine, Heard}
 
 -- durations break one range first
-same_broken : (tari rtcal trcal pw : ℕ) (one other : LinkRefusal) → IsFirstBroken one tari rtcal trcal pw → IsFirstBroken other tari rtcal trcal pw → one ≡ other
-same_broken tari rtcal trcal pw Tari Tari left right = refl
-same_broken tari rtcal trcal pw Tari RtCal left right = absurd (left right.0)
-same_broken tari rtcal trcal pw Tari TrCal left right = absurd (left right.0)
-same_broken tari rtcal trcal pw Tari Pw left right = absurd (left right.0)
-same_broken tari rtcal trcal pw RtCal Tari left right = absurd (right left.0)
-same_broken tari rtcal trcal pw RtCal RtCal left right = refl
-same_broken tari rtcal trcal pw RtCal TrCal left right = absurd (left.1 right.1)
-same_broken tari rtcal trcal pw RtCal Pw left right = absurd (left.1 right.1)
-same_broken tari rtcal trcal pw TrCal Tari left right = absurd (right left.0)
-same_broken tari rtcal trcal pw TrCal RtCal left right = absurd (right.1 left.1)
-same_broken tari rtcal trcal pw TrCal TrCal left right = refl
-same_broken tari rtcal trcal pw TrCal Pw left right = absurd (left.2 right.2)
-same_broken tari rtcal trcal pw Pw Tari left right = absurd (right left.0)
-same_broken tari rtcal trcal pw Pw RtCal left right = absurd (right.1 left.1)
-same_broken tari rtcal trcal pw Pw TrCal left right = absurd (right.2 left.2)
-same_broken tari rtcal trcal pw Pw Pw left right = refl
+same_broken : (link : Durations) (one other : LinkRefusal) → IsFirstBroken one link.tari link.rtcal link.trcal link.pw
+    → IsFirstBroken other link.tari link.rtcal link.trcal link.pw → one ≡ other
+same_broken link Tari Tari left right = refl
+same_broken link RtCal RtCal left right = refl
+same_broken link TrCal TrCal left right = refl
+same_broken link Pw Pw left right = refl
+same_broken link one other left right = absurd (search rules)
 
 -- a legal link is not refused
 legal_apart : (link : LinkValue) → IsLegalLink link → (refusal : LinkRefusal) → ¬ IsFirstBroken refusal link.tari link.rtcal link.trcal link.pw
@@ -46,11 +37,11 @@ same_of_reply expect reply written one other (inr left) (inr right) = left.1 ∙
 
 same_written : (request : Request) (one other : List (List ℕ)) → AreWritten request one → AreWritten request other → one ≡ other
 same_written (Stream code trext bits) one other left right = left ∙ sym right
-same_written (Pie tari rtcal trcal pw lead bits) one other (inl left) (inl right) = left.wave ∙ sym right.wave
-same_written (Pie tari rtcal trcal pw lead bits) one other (inl left) (inr right) = absurd (legal_apart (link_of tari rtcal trcal pw) left.legal right.refusal right.broken)
-same_written (Pie tari rtcal trcal pw lead bits) one other (inr left) (inl right) = absurd (legal_apart (link_of tari rtcal trcal pw) right.legal left.refusal left.broken)
-same_written (Pie tari rtcal trcal pw lead bits) one other (inr left) (inr right) =
-    left.refused ∙ ap (λ refusal. refused_fields (refusal_word refusal)) (same_broken tari rtcal trcal pw left.refusal right.refusal left.broken right.broken) ∙ sym right.refused
+same_written (Pie durations lead bits) one other (inl left) (inl right) = left.wave ∙ sym right.wave
+same_written (Pie durations lead bits) one other (inl left) (inr right) = absurd (legal_apart (link_of durations) left.legal right.refusal right.broken)
+same_written (Pie durations lead bits) one other (inr left) (inl right) = absurd (legal_apart (link_of durations) right.legal left.refusal left.broken)
+same_written (Pie durations lead bits) one other (inr left) (inr right) =
+    left.refused ∙ ap (λ refusal. refused_fields (refusal_word refusal)) (same_broken durations left.refusal right.refusal left.broken right.broken) ∙ sym right.refused
 same_written (Command command) one other left right = left ∙ sym right
 same_written (ReplyLine expect reply) one other left right = same_of_reply expect reply _ one other left right
 same_written (Heard code trext expect reply) one other left right = same_of_reply expect reply _ one other left right

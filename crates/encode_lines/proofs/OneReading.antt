@@ -23,9 +23,11 @@ use Rattle.pie_line.specs.declared.frame.Lead.TheVariants.{Preamble, FrameSync}
 use Rattle.checked_lines.specs.declared.fault.FaultReason.{FaultReason}
 use Rattle.checked_lines.specs.declared.fault.FaultReason.TheVariants.{Word, Shape, Number}
 use Rattle.checked_lines.specs.laws.OneLine.{TellLines}
+use Rattle.encode_lines.proofs.ReadFields.{six_filled}
 use Rattle.encode_lines.proofs.Shapes.{command_shape, reply_shape, shaped}
 use Rattle.encode_lines.specs.EncodeLines.{encode_rules}
-use Rattle.encode_lines.specs.Request.{lead_word, kind_word, encode_request_kind, request_fields, IsWithinEncodeLimits, AsksToEncodeBehind, AsksToEncode, NamesNone, HasEncodeShape, AreFaultyToEncode, HasFaultyFieldsToEncode, IsFaultyToEncode}
+use Rattle.encode_lines.specs.Request.{lead_word, kind_word, encode_request_kind, request_fields, AreDurations, IsWithinEncodeLimits, AsksToEncodeBehind, AsksToEncode, NamesNone, HasEncodeShape, AreFaultyToEncode, HasFaultyFieldsToEncode, IsFaultyToEncode}
+use Rattle.encode_lines.specs.declared.request.Durations.{Durations}
 use Rattle.encode_lines.specs.declared.request.LineKind.{LineKind}
 use Rattle.encode_lines.specs.declared.request.LineKind.TheVariants.{Stream as StreamKind, Pie as PieKind, Command as CommandKind, Reply as ReplyKind, Heard as HeardKind}
 use Rattle.encode_lines.specs.declared.request.Request.{Request}
@@ -71,6 +73,20 @@ lead_told FrameSync FrameSync same = refl
 lead_told Preamble FrameSync same = cc
 lead_told FrameSync Preamble same = cc
 
+duration_told : (one other : ℕ) → one ≤ 999999 → other ≤ 999999 → decimal one ≡ decimal other → one ≡ other
+duration_told one other few few' = decimal_told one other (omega arith) (omega arith)
+
+durations_told : (one other : Durations) → AreDurations one → AreDurations other → decimal one.tari ≡ decimal other.tari → decimal one.rtcal ≡ decimal other.rtcal
+    → decimal one.trcal ≡ decimal other.trcal → decimal one.pw ≡ decimal other.pw → one ≡ other
+durations_told one other are are' tari rtcal trcal pw =
+    let a = duration_told one.tari other.tari are.0 are'.0 tari in
+    let b = duration_told one.rtcal other.rtcal are.1 are'.1 rtcal in
+    let c = duration_told one.trcal other.trcal are.2 are'.2 trcal in
+    let d = duration_told one.pw other.pw are.3 are'.3 pw in
+    let whole : ◌≡◌ {A = Durations} (record { tari = one.tari; rtcal = one.rtcal; trcal = one.trcal; pw = one.pw })
+    (record { tari = other.tari; rtcal = other.rtcal; trcal = other.trcal; pw = other.pw }) = cc in
+    whole
+
 -- the fields behind the first spell one request of a kind
 same_behind : (one other : Request) (others : List (List ℕ)) → encode_request_kind one ≡ encode_request_kind other → others ≡ request_fields one → others ≡ request_fields other
     → IsWithinEncodeLimits one → IsWithinEncodeLimits other → one ≡ other
@@ -79,13 +95,10 @@ same_behind (Stream code trext bits) (Stream code' trext' bits') others kinds sp
     let e : trext ≡ trext' = digit_told trext trext' (cc) in
     let f : bits ≡ bits' = binary_told bits bits' (cc) in
     cc
-same_behind (Pie tari rtcal trcal pw lead bits) (Pie tari' rtcal' trcal' pw' lead' bits') others kinds spelled spelled' within within' =
-    let fields : decimal tari ∷ decimal rtcal ∷ decimal trcal ∷ decimal pw ∷ lead_word lead ∷ binary bits ∷ []
-    ≡ decimal tari' ∷ decimal rtcal' ∷ decimal trcal' ∷ decimal pw' ∷ lead_word lead' ∷ binary bits' ∷ [] = sym spelled ∙ spelled' in
-    let a : tari ≡ tari' = decimal_told tari tari' (omega (arith, within.0)) (omega (arith, within'.0)) (cc) in
-    let b : rtcal ≡ rtcal' = decimal_told rtcal rtcal' (omega (arith, within.1)) (omega (arith, within'.1)) (cc) in
-    let c : trcal ≡ trcal' = decimal_told trcal trcal' (omega (arith, within.2)) (omega (arith, within'.2)) (cc) in
-    let d : pw ≡ pw' = decimal_told pw pw' (omega (arith, within.3)) (omega (arith, within'.3)) (cc) in
+same_behind (Pie one lead bits) (Pie other lead' bits') others kinds spelled spelled' within within' =
+    let fields : decimal one.tari ∷ decimal one.rtcal ∷ decimal one.trcal ∷ decimal one.pw ∷ lead_word lead ∷ binary bits ∷ []
+    ≡ decimal other.tari ∷ decimal other.rtcal ∷ decimal other.trcal ∷ decimal other.pw ∷ lead_word lead' ∷ binary bits' ∷ [] = sym spelled ∙ spelled' in
+    let d : one ≡ other = durations_told one other within.0 within'.0 (cc) (cc) (cc) (cc) in
     let e : lead ≡ lead' = lead_told lead lead' (cc) in
     let f : bits ≡ bits' = binary_told bits bits' (cc) in
     cc
@@ -125,13 +138,10 @@ number_filled n few = (IsFieldText-decimal n (omega arith)).filled
 request_shape : (request : Request) (others : List (List ℕ)) → others ≡ request_fields request → IsWithinEncodeLimits request → HasEncodeShape (encode_request_kind request) others
 request_shape (Stream code trext bits) others spelling limits =
     rw spelling (one_more 1 (binary_digit trext ∷ []) (binary bits ∷ []) (bit_is trext).filled (one_more 0 (binary bits) [] (IsFieldText-binary bits).filled none_filled))
-request_shape (Pie tari rtcal trcal pw lead bits) others spelling limits =
+request_shape (Pie link lead bits) others spelling limits =
     rw spelling (
-    one_more 5 (decimal tari) (decimal rtcal ∷ decimal trcal ∷ decimal pw ∷ lead_word lead ∷ binary bits ∷ []) (number_filled tari limits.0)
-    (one_more 4 (decimal rtcal) (decimal trcal ∷ decimal pw ∷ lead_word lead ∷ binary bits ∷ []) (number_filled rtcal limits.1)
-    (one_more 3 (decimal trcal) (decimal pw ∷ lead_word lead ∷ binary bits ∷ []) (number_filled trcal limits.2)
-    (one_more 2 (decimal pw) (lead_word lead ∷ binary bits ∷ []) (number_filled pw limits.3)
-    (one_more 1 (lead_word lead) (binary bits ∷ []) (lead_filled lead) (one_more 0 (binary bits) [] (IsFieldText-binary bits).filled none_filled)))))
+    six_filled (decimal link.tari) (decimal link.rtcal) (decimal link.trcal) (decimal link.pw) (lead_word lead) (binary bits) (number_filled link.tari limits.0.0)
+    (number_filled link.rtcal limits.0.1) (number_filled link.trcal limits.0.2) (number_filled link.pw limits.0.3) (lead_filled lead) (IsFieldText-binary bits).filled
     )
 request_shape (Command command) others spelling limits = command_shape others command (record { in_range = limits; spelling = spelling })
 request_shape (Reply expect reply) others spelling limits =

@@ -1,8 +1,9 @@
 -- What is read of the fields behind the first, where a reply stands behind others.
 use Rattle.std.proofs.Common.{◌≡◌, ◌≢◌, ℕ, Bool, List, [], ◌∷◌}
 use Rattle.std.proofs.lemmas.List.Elements.{All-head, All-tail}
+use Rattle.std.specs.Fmt.{decimal}
 use Rattle.bit_strings.specs.declared.code.Code.{Code}
-use Rattle.text_fields.specs.Binary.{binary_digit}
+use Rattle.text_fields.specs.Binary.{binary, binary_digit}
 use Rattle.text_fields.specs.CodeNames.{code_word}
 use Rattle.text_fields.specs.NamedFields.{AreFilled}
 use Rattle.text_fields.proofs.FilledFields.{Filled, have_6, none_filled, one_more}
@@ -12,10 +13,11 @@ use Rattle.reply_grammar.specs.declared.expected.Expect.{Expect}
 use Rattle.reply_grammar.specs.declared.expected.Reply.{Reply as OneReply}
 use Rattle.checked_lines.specs.declared.fault.FaultReason.{FaultReason}
 use Rattle.checked_lines.specs.declared.fault.FaultReason.TheVariants.{Word, Shape, Number}
-use Rattle.encode_lines.specs.Request.{AsksToEncodeBehind, AreFaultyToEncode, IsFaultyReplyBehind}
+use Rattle.encode_lines.specs.Request.{AreDurations, AsksToEncodeBehind, AreFaultyToEncode, IsFaultyReplyBehind, lead_word}
+use Rattle.encode_lines.specs.declared.request.Durations.{Durations}
 use Rattle.encode_lines.specs.declared.request.LineKind.TheVariants.{Pie as PieKind, Heard as HeardKind}
 use Rattle.encode_lines.specs.declared.request.Request.{Request}
-use Rattle.encode_lines.specs.declared.request.Request.TheVariants.{Stream, Pie, Command, Reply, Heard}
+use Rattle.encode_lines.specs.declared.request.Request.TheVariants.{Pie, Heard}
 
 three_filled : (a b c : List ℕ) → Filled a → Filled b → Filled c → AreFilled 3 (a ∷ b ∷ c ∷ [])
 three_filled a b c p q r = one_more 2 a (b ∷ c ∷ []) p (one_more 1 b (c ∷ []) q (one_more 0 c [] r none_filled))
@@ -42,10 +44,7 @@ no_heard a b c tail none (Heard code trext expect reply) asks =
     let third : c ≡ expect_word expect = cc in
     let back : tail ≡ reply_fields reply = cc in
     none code trext expect reply first second asks.limits.0 third (record { in_range = asks.limits.1; spelling = back })
-no_heard a b c tail none (Stream code trext bits) asks = let same = asks.same_kind in cc
-no_heard a b c tail none (Pie tari rtcal trcal pw lead bits) asks = let same = asks.same_kind in cc
-no_heard a b c tail none (Command command) asks = let same = asks.same_kind in cc
-no_heard a b c tail none (Reply expect reply) asks = let same = asks.same_kind in cc
+no_heard a b c tail none request asks = let same = asks.same_kind in cc
 
 front_filled : (a b c : List ℕ) → AreFilled 3 (a ∷ b ∷ c ∷ []) → ThreeFilled a b c
 front_filled a b c are =
@@ -78,3 +77,21 @@ heard_faulty others a b c tail reason first faulty = rw first (faulty_heard a b 
 -- fewer or more than six fields, or an empty one
 pub six_missing : (others : List (List ℕ)) → ((a b c d e f : List ℕ) → others ≡ a ∷ b ∷ c ∷ d ∷ e ∷ f ∷ [] → a ≢ [] → b ≢ [] → c ≢ [] → d ≢ [] → e ≢ [] → f ≢ [] → ⊥) → AreFaultyToEncode PieKind others Shape
 six_missing others wanting = (λ (nothing : ⊥). nothing, λ filled. have_6 others filled wanting)
+
+pub six_filled : (a b c d e f : List ℕ) → Filled a → Filled b → Filled c → Filled d → Filled e → Filled f → AreFilled 6 (a ∷ b ∷ c ∷ d ∷ e ∷ f ∷ [])
+six_filled a b c d e f p q r s t u =
+    one_more 5 a (b ∷ c ∷ d ∷ e ∷ f ∷ []) p (one_more 4 b (c ∷ d ∷ e ∷ f ∷ []) q (one_more 3 c (d ∷ e ∷ f ∷ []) r (three_filled d e f s t u)))
+
+-- six fields of which the first four spell no durations
+no_pie : (a b c d e f : List ℕ)
+    → ((link : Durations) → AreDurations link → a ≡ decimal link.tari → b ≡ decimal link.rtcal → c ≡ decimal link.trcal → d ≡ decimal link.pw → ⊥)
+    → (request : Request) → ¬ AsksToEncodeBehind PieKind (a ∷ b ∷ c ∷ d ∷ e ∷ f ∷ []) request
+no_pie a b c d e f none (Pie link lead bits) asks =
+    let spelled : a ∷ b ∷ c ∷ d ∷ e ∷ f ∷ [] ≡ decimal link.tari ∷ decimal link.rtcal ∷ decimal link.trcal ∷ decimal link.pw ∷ lead_word lead ∷ binary bits ∷ [] = asks.spelling in
+    none link asks.limits.0 (cc) (cc) (cc) (cc)
+no_pie a b c d e f none request asks = let same = asks.same_kind in cc
+
+pub pie_unnamed : (a b c d e f : List ℕ) → Filled a → Filled b → Filled c → Filled d → Filled e → Filled f
+    → ((link : Durations) → AreDurations link → a ≡ decimal link.tari → b ≡ decimal link.rtcal → c ≡ decimal link.trcal → d ≡ decimal link.pw → ⊥)
+    → AreFaultyToEncode PieKind (a ∷ b ∷ c ∷ d ∷ e ∷ f ∷ []) Number
+pie_unnamed a b c d e f p q r s t u none = (six_filled a b c d e f p q r s t u, no_pie a b c d e f none)

@@ -2,7 +2,7 @@
 use Rattle.std.proofs.Common.{◌≡◌, ◌⊎◌, ◌≤◌, ◌*◌, ℕ, ◌/◌, ◌^◌, Bool, true, false, List, length, refl, inl, inr}
 use Rattle.std.specs.Prelude.{nat_le, ◌==◌}
 use Rattle.std.proofs.lemmas.Bool.{eqb-true, eq-eqb, leb-true, le-leb}
-use Rattle.pie_line.specs.Link.{LinkValue, IsTari, IsRtCal, IsTrCal, IsPw}
+use Rattle.pie_line.specs.Link.{IsTari, IsRtCal, IsTrCal, IsPw}
 use Rattle.pie_line.specs.declared.frame.Lead.{Lead}
 use Rattle.pie_line.specs.declared.link.LinkRefusal.TheVariants.{Tari, RtCal, TrCal, Pw}
 use Rattle.reply_grammar.specs.Table.{CanBeSent, Suits, suits}
@@ -11,6 +11,7 @@ use Rattle.reply_grammar.specs.declared.expected.Expect.{Expect}
 use Rattle.reply_grammar.specs.declared.expected.Reply.{Reply}
 use Rattle.reply_grammar.specs.declared.expected.Reply.TheVariants.{Rn16, Epc, Handle, Words, Header, Error}
 use Rattle.encode_lines.specs.Written.{AreWritten, AreOfReply, IsAllowedReply, IsWave, RefusesLink, link_of}
+use Rattle.encode_lines.specs.declared.request.Durations.{Durations}
 use Rattle.encode_lines.specs.declared.request.Request.{Request}
 use Rattle.encode_lines.specs.declared.request.Request.TheVariants.{Stream, Pie, Command, Reply as ReplyLine, Heard}
 
@@ -62,8 +63,8 @@ some_of_reply : (expect : Expect) (reply : Reply) (written : List (List ℕ)) �
 some_of_reply expect reply written (inl allowed) = (_, inl (allowed, refl))
 some_of_reply expect reply written (inr none) = (_, inr (none, refl))
 
-some_wave : (link : LinkValue) (lead : Lead) (bits : List Bool) → OrNot (IsTari link.tari) → OrNot (IsRtCal link.tari link.rtcal) → OrNot (IsTrCal link.rtcal link.trcal) → OrNot (IsPw link.tari link.pw)
-    → (fields : List (List ℕ)) × (IsWave link lead bits fields ⊎ RefusesLink link.tari link.rtcal link.trcal link.pw fields)
+some_wave : (link : Durations) (lead : Lead) (bits : List Bool) → OrNot (IsTari link.tari) → OrNot (IsRtCal link.tari link.rtcal) → OrNot (IsTrCal link.rtcal link.trcal) → OrNot (IsPw link.tari link.pw)
+    → (fields : List (List ℕ)) × (IsWave (link_of link) lead bits fields ⊎ RefusesLink link fields)
 some_wave link lead bits (inr none) b c d = (_, inr (record { refusal = Tari; broken = none; refused = refl }))
 some_wave link lead bits (inl a) (inr none) c d = (_, inr (record { refusal = RtCal; broken = (a, none); refused = refl }))
 some_wave link lead bits (inl a) (inl b) (inr none) d = (_, inr (record { refusal = TrCal; broken = (a, b, none); refused = refl }))
@@ -73,9 +74,11 @@ some_wave link lead bits (inl a) (inl b) (inl c) (inl d) =
 
 pub some_line : (request : Request) → (fields : List (List ℕ)) × AreWritten request fields
 some_line (Stream code trext bits) = (_, refl)
-some_line (Pie tari rtcal trcal pw lead bits) =
-    some_wave (link_of tari rtcal trcal pw) lead bits (both (le_or_not 6250 tari) (le_or_not tari 25000)) (both (le_or_not (5 * tari) (2 * rtcal)) (le_or_not rtcal (3 * tari)))
-    (both (le_or_not (11 * rtcal) (10 * trcal)) (le_or_not trcal (3 * rtcal))) (all_three (le_or_not 2000 pw) (le_or_not (265 * tari) (1000 * pw)) (le_or_not (1000 * pw) (525 * tari)))
+some_line (Pie link lead bits) =
+    some_wave link lead bits (both (le_or_not 6250 link.tari) (le_or_not link.tari 25000))
+    (both (le_or_not (5 * link.tari) (2 * link.rtcal)) (le_or_not link.rtcal (3 * link.tari)))
+    (both (le_or_not (11 * link.rtcal) (10 * link.trcal)) (le_or_not link.trcal (3 * link.rtcal)))
+    (all_three (le_or_not 2000 link.pw) (le_or_not (265 * link.tari) (1000 * link.pw)) (le_or_not (1000 * link.pw) (525 * link.tari)))
 some_line (Command command) = (_, refl)
 some_line (ReplyLine expect reply) = some_of_reply expect reply _ (allowed_or_not expect reply)
 some_line (Heard code trext expect reply) = some_of_reply expect reply _ (allowed_or_not expect reply)

@@ -19,8 +19,8 @@ use Rattle.reply_grammar.specs.declared.expected.Expect.{Expect}
 use Rattle.reply_grammar.specs.declared.expected.Reply.{Reply}
 use Rattle.reply_text.specs.ReplyText.{expect_word}
 use Rattle.encode_lines.specs.EncodeLines.{AddsWave, AddsWritten, written_line}
-use Rattle.encode_lines.specs.Written.{IsAllowedReply, refusal_word, refused_fields, reply_bits}
-use Rattle.encode_lines.specs.declared.request.Request.{Request}
+use Rattle.encode_lines.specs.Written.{IsAllowedReply, link_of, refusal_word, refused_fields, reply_bits}
+use Rattle.encode_lines.specs.declared.request.Durations.{Durations}
 use Rattle.encode_lines.specs.declared.request.Request.TheVariants.{Pie, Reply as ReplyLine, Heard}
 
 -- a test that says no, and yes
@@ -56,25 +56,18 @@ pub heard_refused : (code : Code) (trext : Bool) (expect : Expect) (reply : Repl
     → AddsWritten (Heard code trext expect reply) old new
 heard_refused code trext expect reply old new none line = record { answer = refused_fields (codes "reply"); right = inr (none, refl); line = line }
 
--- what is asked for over a link
-abbrev pub pie_over : LinkValue → Lead → List Bool → Request
-pie_over link lead bits = Pie link.tari link.rtcal link.trcal link.pw lead bits
+pub wave_written : (durations : Durations) (made : LinkValue) (lead : Lead) (bits : List Bool) (old new : List ℕ) → made ≡ link_of durations → IsLegalLink made
+    → AddsWave made lead bits old new → AddsWritten (Pie durations lead bits) old new
+wave_written durations made lead bits old new is legal line = record {
+  answer = codes "pie" ∷ map decimal (wave_of made lead bits);
+  right = inl (record { legal = subst IsLegalLink is legal; wave = ap (λ (l : LinkValue). codes "pie" ∷ map decimal (wave_of l lead bits)) is });
+  line = line;
+}
 
-pub wave_written : (link made : LinkValue) (lead : Lead) (bits : List Bool) (old new : List ℕ) → made ≡ link → IsLegalLink made → AddsWave made lead bits old new → AddsWritten (pie_over link lead bits) old new
-wave_written link made lead bits old new is made_legal line =
-    let legal : IsLegalLink link = subst IsLegalLink is made_legal in
-    record {
-      answer = codes "pie" ∷ map decimal (wave_of made lead bits);
-      right = inl (record {
-        legal = record { tari_range = legal.tari_range; rtcal_range = legal.rtcal_range; trcal_range = legal.trcal_range; pw_range = legal.pw_range };
-        wave = ap (λ (l : LinkValue). codes "pie" ∷ map decimal (wave_of l lead bits)) is;
-      });
-      line = line;
-    }
-
-pub link_refused : (link : LinkValue) (lead : Lead) (bits : List Bool) (refusal : LinkRefusal) (old new : List ℕ) → IsFirstBroken refusal link.tari link.rtcal link.trcal link.pw
-    → new ≡ old ++ written_line (refused_fields (refusal_word refusal)) → AddsWritten (pie_over link lead bits) old new
-link_refused link lead bits refusal old new broken line =
+pub link_refused : (durations : Durations) (lead : Lead) (bits : List Bool) (refusal : LinkRefusal) (old new : List ℕ)
+    → IsFirstBroken refusal durations.tari durations.rtcal durations.trcal durations.pw → new ≡ old ++ written_line (refused_fields (refusal_word refusal))
+    → AddsWritten (Pie durations lead bits) old new
+link_refused durations lead bits refusal old new broken line =
     record { answer = refused_fields (refusal_word refusal); right = inr (record { refusal = refusal; broken = broken; refused = refl }); line = line }
 
 -- numbers as fields behind others

@@ -15,6 +15,7 @@ use Rattle.reply_grammar.specs.declared.expected.Reply.{Reply as OneReply}
 use Rattle.reply_text.specs.ReplyText.{expect_word, reply_fields, replies, IsExpect, IsReplyForm, IsReplyText}
 use Rattle.checked_lines.specs.declared.fault.FaultReason.{FaultReason}
 use Rattle.checked_lines.specs.declared.fault.FaultReason.TheVariants.{Word, Shape, Number}
+use Rattle.encode_lines.specs.declared.request.Durations.{Durations}
 use Rattle.encode_lines.specs.declared.request.LineKind.{LineKind}
 use Rattle.encode_lines.specs.declared.request.LineKind.TheVariants.{Stream as StreamKind, Pie as PieKind, Command as CommandKind, Reply as ReplyKind, Heard as HeardKind}
 use Rattle.encode_lines.specs.declared.request.Request.{Request}
@@ -52,7 +53,7 @@ kind_word HeardKind = codes "heard"
 -- what the first field of a request's line says
 abbrev pub encode_request_kind : Request → LineKind
 encode_request_kind (Stream code trext bits) = StreamKind code
-encode_request_kind (Pie tari rtcal trcal pw lead bits) = PieKind
+encode_request_kind (Pie durations lead bits) = PieKind
 encode_request_kind (Command command) = CommandKind
 encode_request_kind (Reply expect reply) = ReplyKind
 encode_request_kind (Heard code trext expect reply) = HeardKind
@@ -60,16 +61,21 @@ encode_request_kind (Heard code trext expect reply) = HeardKind
 -- the one spelling of a request, behind the first field
 abbrev pub request_fields : Request → List (List ℕ)
 request_fields (Stream code trext bits) = (binary_digit trext ∷ []) ∷ binary bits ∷ []
-request_fields (Pie tari rtcal trcal pw lead bits) = decimal tari ∷ decimal rtcal ∷ decimal trcal ∷ decimal pw ∷ lead_word lead ∷ binary bits ∷ []
+request_fields (Pie durations lead bits) =
+    decimal durations.tari ∷ decimal durations.rtcal ∷ decimal durations.trcal ∷ decimal durations.pw ∷ lead_word lead ∷ binary bits ∷ []
 request_fields (Command command) = command_fields command
 request_fields (Reply expect reply) = expect_word expect ∷ reply_fields reply
 request_fields (Heard code trext expect reply) = code_word code ∷ (binary_digit trext ∷ []) ∷ expect_word expect ∷ reply_fields reply
 
+-- each duration is in its range
+abbrev pub AreDurations : Durations → Type 0
+AreDurations durations =
+    (durations.tari ≤ longest_duration) × (durations.rtcal ≤ longest_duration) × (durations.trcal ≤ longest_duration) × (durations.pw ≤ longest_duration)
+
 -- the limits on the numbers and lists of a line: a stream has the bits of the longest reply at most
 abbrev pub IsWithinEncodeLimits : Request → Type 0
 IsWithinEncodeLimits (Stream code trext bits) = length bits ≤ longest_reply
-IsWithinEncodeLimits (Pie tari rtcal trcal pw lead bits) =
-    (tari ≤ longest_duration) × (rtcal ≤ longest_duration) × (trcal ≤ longest_duration) × (pw ≤ longest_duration) × (length bits ≤ most_frame_bits)
+IsWithinEncodeLimits (Pie durations lead bits) = AreDurations durations × (length bits ≤ most_frame_bits)
 IsWithinEncodeLimits (Command command) = IsLegalCommand command
 IsWithinEncodeLimits (Reply expect reply) = IsExpect expect × IsReplyForm reply
 IsWithinEncodeLimits (Heard code trext expect reply) = IsExpect expect × IsReplyForm reply

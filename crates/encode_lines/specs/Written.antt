@@ -17,12 +17,14 @@ use Rattle.reply_grammar.specs.Table.{CanBeSent, Suits, handle_of, spelling}
 use Rattle.reply_grammar.specs.declared.expected.Expect.{Expect}
 use Rattle.reply_grammar.specs.declared.expected.Reply.{Reply}
 use Rattle.reply_text.specs.ReplyText.{expect_word}
+use Rattle.encode_lines.specs.declared.request.Durations.{Durations}
 use Rattle.encode_lines.specs.declared.request.Request.{Request}
 use Rattle.encode_lines.specs.declared.request.Request.TheVariants.{Stream, Pie, Command, Reply as ReplyLine, Heard}
 
 -- the link with these durations; its divide ratio, code and TRext make no difference to a wave
-abbrev pub link_of : (tari rtcal trcal pw : ℕ) → LinkValue
-link_of tari rtcal trcal pw = record { tari = tari; rtcal = rtcal; trcal = trcal; pw = pw; dr = false; code = Fm0; trext = false }
+abbrev pub link_of : Durations → LinkValue
+link_of durations =
+    record { tari = durations.tari; rtcal = durations.rtcal; trcal = durations.trcal; pw = durations.pw; dr = false; code = Fm0; trext = false }
 
 -- the duration that is refused
 abbrev pub refusal_word : LinkRefusal → List ℕ
@@ -50,9 +52,9 @@ pub record IsWave (link : LinkValue) (lead : Lead) (bits : List Bool) (fields : 
   pub wave : fields ≡ codes "pie" ∷ map decimal (wave_of link lead bits)
 
 -- the fields refuse the first duration that is out of its range
-pub record RefusesLink (tari rtcal trcal pw : ℕ) (fields : List (List ℕ)) : Type 0 where
+pub record RefusesLink (durations : Durations) (fields : List (List ℕ)) : Type 0 where
   pub refusal : LinkRefusal
-  pub broken : IsFirstBroken refusal tari rtcal trcal pw
+  pub broken : IsFirstBroken refusal durations.tari durations.rtcal durations.trcal durations.pw
   pub refused : fields ≡ refused_fields (refusal_word refusal)
 
 -- the fields are these where the reply is allowed, and a refusal where it isn't
@@ -62,7 +64,7 @@ AreOfReply expect reply written fields = (IsAllowedReply expect reply × (fields
 -- what is written for each request
 abbrev pub AreWritten : Request → List (List ℕ) → Type 0
 AreWritten (Stream code trext bits) fields = fields ≡ code_word code ∷ (binary_digit trext ∷ []) ∷ binary (stream_of (table_of code) trext bits) ∷ []
-AreWritten (Pie tari rtcal trcal pw lead bits) fields = IsWave (link_of tari rtcal trcal pw) lead bits fields ⊎ RefusesLink tari rtcal trcal pw fields
+AreWritten (Pie durations lead bits) fields = IsWave (link_of durations) lead bits fields ⊎ RefusesLink durations fields
 AreWritten (Command command) fields = fields ≡ codes "command" ∷ binary (spelling_of command) ∷ []
 AreWritten (ReplyLine expect reply) fields = AreOfReply expect reply (codes "reply" ∷ expect_word expect ∷ binary (reply_bits expect reply) ∷ []) fields
 AreWritten (Heard code trext expect reply) fields =

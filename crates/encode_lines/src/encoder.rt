@@ -14,7 +14,7 @@ use crate::output::{
     push_command_bits, push_heard, push_link_refusal, push_reply_bits, push_reply_refusal,
     push_stream, push_wave,
 };
-use crate::request::{MOST_FRAME_BITS, MOST_STREAM_BITS, Request, request_of};
+use crate::request::{Durations, MOST_FRAME_BITS, MOST_STREAM_BITS, Request, request_of};
 use bit_strings::{Bits, Code, Levels, OutOfMemory};
 use command_grammar::{Command, encode_command};
 use line_codes::encode_bits;
@@ -82,13 +82,10 @@ impl Encoder {
         match request {
             Request::Stream { code, trext, bits } => self.encode_stream(*code, *trext, bits, text),
             Request::Pie {
-                tari,
-                rtcal,
-                trcal,
-                pw,
+                durations,
                 lead,
                 bits,
-            } => self.encode_pie(*tari, *rtcal, *trcal, *pw, *lead, bits, text),
+            } => self.encode_pie(*durations, *lead, bits, text),
             Request::Command { command } => self.encode_command_bits(command, text),
             Request::Reply { expect, reply } => self.encode_reply_bits(expect, reply, text),
             Request::Heard {
@@ -129,19 +126,22 @@ impl Encoder {
     /// Adds the intervals of a frame over the link with these durations, where that is one.
     fn encode_pie(
         &mut self,
-        tari: u32,
-        rtcal: u32,
-        trcal: u32,
-        pw: u32,
+        durations: Durations,
         lead: Lead,
         bits: &Digits,
         text: &mut String,
     ) -> Result<(), OutOfMemory>
         requires { length bits.now ≤ most_frame_bits }
         ensures { OnOk result
-            (AddsWritten (Request.Pie tari rtcal trcal pw lead bits.now) (string_bytes text.old)
+            (AddsWritten (Request.Pie durations lead bits.now) (string_bytes text.old)
             (string_bytes text.new)) }
     {
+        let Durations {
+            tari,
+            rtcal,
+            trcal,
+            pw,
+        } = durations;
         match Link::new(tari, rtcal, trcal, pw, false, Code::Fm0, false) {
             Ok(link) => self.encode_wave(&link, lead, bits, text),
             Err(refusal) => push_link_refusal(text, refusal),

@@ -15,4 +15,4 @@ pub use laws::{
     encode_lines_are_not_faulty, encode_lines_have_a_text, encode_lines_have_one_text,
     requests_have_a_line,
 };
-pub use request::{LineKind, Request};
+pub use request::{Durations, LineKind, Request};

@@ -1,9 +1,10 @@
 //! An encode line, read.
 ghost use Rattle.std.specs.Prelude.{◌≡◌, ◌≢◌, ◌↔◌, ℕ, List, [], ◌∷◌, IfOk, IfErr, IfSome, IfNone, IsTrue, Some};
+ghost use Rattle.std.specs.Fmt.{decimal};
 ghost use Rattle.text_fields.specs.Lines.{fields_of};
 ghost use Rattle.pie_line.specs.declared.frame.Lead.{Lead};
 ghost use Rattle.reply_text.specs.ReplyText.{IsReplyText};
-ghost use Rattle.encode_lines.specs.Request.{lead_word, kind_word, AsksToEncodeBehind, AsksToEncode, AreFaultyToEncode, IsFaultyToEncode, IsFaultyReplyBehind};
+ghost use Rattle.encode_lines.specs.Request.{lead_word, kind_word, AreDurations, AsksToEncodeBehind, AsksToEncode, AreFaultyToEncode, IsFaultyToEncode, IsFaultyReplyBehind};
 
 use bit_strings::Code;
 use checked_lines::{FaultReason, heard_as};
@@ -40,6 +41,19 @@ pub enum LineKind {
     Heard,
 }
 
+/// The durations of a link, in nanoseconds.
+#[derive(Clone, Copy)]
+pub struct Durations {
+    /// Tari.
+    pub tari: u32,
+    /// RTcal.
+    pub rtcal: u32,
+    /// TRcal.
+    pub trcal: u32,
+    /// PW.
+    pub pw: u32,
+}
+
 /// What a line asks to be encoded.
 #[derive(Drop)]
 pub enum Request<'a> {
@@ -49,12 +63,9 @@ pub enum Request<'a> {
         trext: bool,
         bits: Digits<'a>,
     },
-    /// The frame of bits over a link with these durations, in nanoseconds: `pie TARI RTCAL TRCAL PW LEAD BITS`.
+    /// The frame of bits over a link with these durations: `pie TARI RTCAL TRCAL PW LEAD BITS`.
     Pie {
-        tari: u32,
-        rtcal: u32,
-        trcal: u32,
-        pw: u32,
+        durations: Durations,
         lead: Lead,
         bits: Digits<'a>,
     },
@@ -81,10 +92,12 @@ fn lead_named(field: &[u8]) -> Option<Lead>
     ensures value { IfSome result (λ lead. field.now ≡ lead_word lead) }
     ensures only { (lead : Lead) → field.now ≡ lead_word lead → result ≡ Some lead }
 {
-    match field {
-        b"sync" => Some(Lead::FrameSync),
-        b"preamble" => Some(Lead::Preamble),
-        _ => None,
+    if field == b"sync".as_slice() {
+        Some(Lead::FrameSync)
+    } else if field == b"preamble".as_slice() {
+        Some(Lead::Preamble)
+    } else {
+        None
     }
 }
 
@@ -93,12 +106,16 @@ fn kind_of(word: &[u8]) -> Option<LineKind>
     ensures found { IfSome result (λ kind. word.now ≡ kind_word kind) }
     ensures none { IfNone result ((kind : LineKind) → word.now ≢ kind_word kind) }
 {
-    match word {
-        b"pie" => Some(LineKind::Pie),
-        b"command" => Some(LineKind::Command),
-        b"reply" => Some(LineKind::Reply),
-        b"heard" => Some(LineKind::Heard),
-        _ => Some(LineKind::Stream(code_named(word)?)),
+    if word == b"pie".as_slice() {
+        Some(LineKind::Pie)
+    } else if word == b"command".as_slice() {
+        Some(LineKind::Command)
+    } else if word == b"reply".as_slice() {
+        Some(LineKind::Reply)
+    } else if word == b"heard".as_slice() {
+        Some(LineKind::Heard)
+    } else {
+        Some(LineKind::Stream(code_named(word)?))
     }
 }
 
@@ -156,16 +173,7 @@ fn pie_of<'a>(others: Fields<'a>) -> Result<Request<'a>, FaultReason>
     let Some((tari, rtcal, trcal, pw, lead, bits)) = six_fields(others) else {
         return Err(FaultReason::Shape);
     };
-    let Some(tari) = number(tari, MOST_NANOSECONDS) else {
-        return Err(FaultReason::Number);
-    };
-    let Some(rtcal) = number(rtcal, MOST_NANOSECONDS) else {
-        return Err(FaultReason::Number);
-    };
-    let Some(trcal) = number(trcal, MOST_NANOSECONDS) else {
-        return Err(FaultReason::Number);
-    };
-    let Some(pw) = number(pw, MOST_NANOSECONDS) else {
+    let Some(durations) = durations_of(tari, rtcal, trcal, pw) else {
         return Err(FaultReason::Number);
     };
     let Some(lead) = lead_named(lead) else {
@@ -175,12 +183,31 @@ fn pie_of<'a>(others: Fields<'a>) -> Result<Request<'a>, FaultReason>
         return Err(FaultReason::Number);
     };
     Ok(Request::Pie {
+        durations,
+        lead,
+        bits,
+    })
+}
+
+/// The durations that four fields spell; none exactly where one of them spells none.
+fn durations_of(tari: &[u8], rtcal: &[u8], trcal: &[u8], pw: &[u8]) -> Option<Durations>
+    ensures value { IfSome result
+        (λ it. (tari.now ≡ decimal it.tari) × (rtcal.now ≡ decimal it.rtcal)
+        × (trcal.now ≡ decimal it.trcal) × (pw.now ≡ decimal it.pw) × AreDurations it) }
+    ensures only { (durations : Durations) → AreDurations durations
+        → tari.now ≡ decimal durations.tari → rtcal.now ≡ decimal durations.rtcal
+        → trcal.now ≡ decimal durations.trcal → pw.now ≡ decimal durations.pw
+        → result ≡ Some durations }
+{
+    let tari = number(tari, MOST_NANOSECONDS)?;
+    let rtcal = number(rtcal, MOST_NANOSECONDS)?;
+    let trcal = number(trcal, MOST_NANOSECONDS)?;
+    let pw = number(pw, MOST_NANOSECONDS)?;
+    Some(Durations {
         tari,
         rtcal,
         trcal,
         pw,
-        lead,
-        bits,
     })
 }
 

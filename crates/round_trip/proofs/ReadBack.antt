@@ -1,5 +1,5 @@
 -- What is written is a line of `decode`, and what was read is its answer.
-use Rattle.std.proofs.Common.{◌≡◌, ◌⊎◌, ◌≤◌, ◌<◌, ◌^◌, ◌+◌, ◌*◌, ℕ, Bool, List, [], ◌∷◌, ◌++◌, length, map, refl, sym, ◌∙◌, ap, arith, inl, inr, subst}
+use Rattle.std.proofs.Common.{◌≡◌, ◌⊎◌, ◌≤◌, ◌<◌, ◌^◌, ℕ, Bool, List, [], ◌∷◌, ◌++◌, length, map, refl, sym, ◌∙◌, ap, arith, inl, inr, subst}
 use Rattle.std.specs.Prelude.{Ok}
 use Rattle.std.specs.Prelude.{All, codes}
 use Rattle.std.specs.List.{AllZip}
@@ -186,11 +186,11 @@ of_reply expect reply written fields text (inr (none, same)) back = inl (codes "
 request_back : WrittenLaws → (request : Request) (fields : List (List ℕ)) → IsWithinEncodeLimits request → AreWritten request fields → IsReadBack request fields
 request_back laws (Stream code trext bits) fields within written =
     inr (subst (λ f. Decodes (written_line f) (line_of_answer (streamed (Ok bits)))) (sym written) (stream_back code trext bits within))
-request_back laws (Pie tari rtcal trcal pw lead bits) fields within (inl wave) =
-    let link = link_of tari rtcal trcal pw in
+request_back laws (Pie durations lead bits) fields within (inl wave) =
+    let link = link_of durations in
     inr (subst (λ f. Decodes (written_line f) (line_of_answer (framed (Ok (frame_kind_of link lead, bits))))) (sym wave.wave)
-    (wave_back laws link lead bits wave.legal within.4))
-request_back laws (Pie tari rtcal trcal pw lead bits) fields within (inr refused) = inl (refusal_word refused.refusal, refused.refused)
+    (wave_back laws link lead bits wave.legal within.1))
+request_back laws (Pie durations lead bits) fields within (inr refused) = inl (refusal_word refused.refusal, refused.refused)
 request_back laws (Command command) fields within written =
     inr (subst (λ f. Decodes (written_line f) (line_of_answer (commanded (Ok command)))) (sym written) (command_back laws command within))
 request_back laws (ReplyLine expect reply) fields within written = of_reply expect reply _ fields _ written (reply_back expect reply within.0 within.1)

@@ -17,7 +17,7 @@ use Rattle.encode_lines.specs.declared.request.Request.TheVariants.{Stream, Pie,
 -- what was read, as `decode` answers it: the bits, the frame's durations and bits, the command, or the reply
 abbrev pub read_line : Request → List ℕ
 read_line (Stream code trext bits) = codes "bits " ++ binary bits
-read_line (Pie tari rtcal trcal pw lead bits) = frame_line (frame_kind_of (link_of tari rtcal trcal pw) lead) bits
+read_line (Pie durations lead bits) = frame_line (frame_kind_of (link_of durations) lead) bits
 read_line (Command command) = command_line command
 read_line (Reply expect reply) = reply_line reply
 read_line (Heard code trext expect reply) = reply_line reply
