@@ -41,6 +41,12 @@ pub record Place : Type 0 where
   pub waiting : List ℕ
   pub written : Option (List ℕ)
 
+abbrev pub beginning : (first : TagValue) (said : List Stimulus) (written : Option (List ℕ)) (faults : ℕ) → Beginning
+beginning first said written faults = record { first = first; said = said; written = written; faults = faults }
+
+abbrev pub place : (number : ℕ) (tag : TagValue) (left : List (List ℕ)) (waiting : List ℕ) (written : Option (List ℕ)) → Place
+place number tag left waiting written = record { number = number; tag = tag; left = left; waiting = waiting; written = written }
+
 -- The tag has come so far, the text of that was written but for what waits, and these lines are left.
 pub record PlayedTo (begun : Beginning) (to : Place) : Type 0 where
   pub sent : List ℕ

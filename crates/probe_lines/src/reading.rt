@@ -29,11 +29,14 @@ fn word_named(field: &[u8]) -> Option<LineWord>
     ensures value { IfSome result (λ word. field.now ≡ line_word word) }
     ensures only { (word : LineWord) → field.now ≡ line_word word → result ≡ Some word }
 {
-    match field {
-        b"bits" => Some(LineWord::Bits),
-        b"event" => Some(LineWord::Event),
-        b"end" => Some(LineWord::End),
-        _ => None,
+    if field == b"bits".as_slice() {
+        Some(LineWord::Bits)
+    } else if field == b"event".as_slice() {
+        Some(LineWord::Event)
+    } else if field == b"end".as_slice() {
+        Some(LineWord::End)
+    } else {
+        None
     }
 }
 
@@ -178,7 +181,7 @@ pub fn read_behind<'a>(
 fn is_tag(field: &[u8]) -> bool
     ensures { IsTrue result ↔ (field.now ≡ keyword_text Keyword.Tag) }
 {
-    matches!(field, b"tag")
+    field == b"tag".as_slice()
 }
 
 /// The fields behind `tag`; none exactly where a line begins with another.

@@ -4,28 +4,21 @@ use Rattle.tag_machine.specs.Hearing.{tag_value_of}
 use Rattle.report_lines.specs.declared.mode.PlayFault.TheVariants.{OutOfMemory}
 use Rattle.probe_lines.specs.Said.{stimulus_with}
 use Rattle.probe_lines.specs.Played.{HasPlayed}
-use Rattle.probe_lines.proofs.PlayedParts.{Beginning, Next, Place, all_told, handed_on, last_told, no_memory, none_played, one_played, some_sent, stop_played}
+use Rattle.probe_lines.proofs.PlayedParts.{Next, all_told, beginning, handed_on, last_told, no_memory, none_played, one_played, place, some_sent, stop_played}
 use Rattle.probe_lines.proofs.playing.play_on.Goals as goal
 
 pub loop-stimulus-init : goal.loop-stimulus-init
 loop-stimulus-init g c = record {
   played = λ said are.
-      none_played (record { first = tag_value_of c.args.first; said = said; written = g.O.Sink.written c.args.out.now; faults = g.O.Sink.faults c.args.out.now }) c.args.stimuli
+      none_played (beginning (tag_value_of c.args.first) said (g.O.Sink.written c.args.out.now) (g.O.Sink.faults c.args.out.now)) c.args.stimuli
       (string_bytes c.args.rooms.now.text) are.say c.requires.nothing;
   steady = refl;
 }
 
 pub returns-in_err-tag : goal.returns-in_err-tag
 returns-in_err-tag g c = λ said are.
-    let begun : Beginning =
-    record { first = tag_value_of c.args.first; said = said; written = g.O.Sink.written c.args.out.now; faults = g.O.Sink.faults c.args.out.now } in
-    let from : Place = record {
-      number = c.loop-stimulus.number;
-      tag = tag_value_of c.loop-stimulus.tag;
-      left = c.loop-stimulus.left;
-      waiting = string_bytes c.loop-stimulus.rooms.text;
-      written = g.O.Sink.written c.loop-stimulus.out;
-    } in
+    let begun = beginning (tag_value_of c.args.first) said (g.O.Sink.written c.args.out.now) (g.O.Sink.faults c.args.out.now) in
+    let from = place c.loop-stimulus.number (tag_value_of c.loop-stimulus.tag) c.loop-stimulus.left (string_bytes c.loop-stimulus.rooms.text) (g.O.Sink.written c.loop-stimulus.out) in
     let so_far = c.loop-stimulus.invariant.played said are in
     handed_on c.from_residual.result OutOfMemory (HasPlayed begun.first said begun.written _ begun.faults _) c.from_residual.ensures.1
     (stop_played c.stimuli_have_one_effect.ensures.some begun from from.written _ OutOfMemory so_far
@@ -33,23 +26,15 @@ returns-in_err-tag g c = λ said are.
 
 pub returns-in_err-write_page : goal.returns-in_err-write_page
 returns-in_err-write_page g c = λ said are.
-    let begun : Beginning =
-    record { first = tag_value_of c.args.first; said = said; written = g.O.Sink.written c.args.out.now; faults = g.O.Sink.faults c.args.out.now } in
-    let from : Place = record {
-      number = c.loop-stimulus.number;
-      tag = tag_value_of c.loop-stimulus.tag;
-      left = c.loop-stimulus.left;
-      waiting = string_bytes c.loop-stimulus.rooms.text;
-      written = g.O.Sink.written c.loop-stimulus.out;
-    } in
+    let begun = beginning (tag_value_of c.args.first) said (g.O.Sink.written c.args.out.now) (g.O.Sink.faults c.args.out.now) in
+    let from = place c.loop-stimulus.number (tag_value_of c.loop-stimulus.tag) c.loop-stimulus.left (string_bytes c.loop-stimulus.rooms.text) (g.O.Sink.written c.loop-stimulus.out) in
     let so_far = c.loop-stimulus.invariant.played said are in
     let some = c.in-Some.ensures.some.1 so_far.left so_far.say in
     let next : Next so_far.left =
     record { stimulus = stimulus_with c.in-Some.stimulus c.next_to.new.command; behind = c.next_to.new.self; others = some.0; is = some.1; say = some.2 } in
     let waiting = string_bytes c.play_next.new.self.text in
     let played = one_played begun from (tag_value_of c.in_ok-tag.tag) waiting so_far next c.in_ok-tag.ensures in
-    let behind : Place =
-    record { number = from.number + 1; tag = tag_value_of c.in_ok-tag.tag; left = next.behind; waiting = waiting; written = from.written } in
+    let behind = place (from.number + 1) (tag_value_of c.in_ok-tag.tag) next.behind waiting from.written in
     let cause = c.from_residual-in_err-write_page in
     handed_on cause.result c.in_err-write_page.field-0.0 (HasPlayed begun.first said begun.written _ begun.faults _) cause.ensures.1
     (stop_played c.stimuli_have_one_effect.ensures.some begun behind _ _ c.in_err-write_page.field-0.0 played
@@ -64,38 +49,23 @@ overflow_add-number g c =
 pub loop-stimulus-preserved : goal.loop-stimulus-preserved
 loop-stimulus-preserved g c = record {
   played = λ said are.
-      let begun : Beginning =
-      record { first = tag_value_of c.args.first; said = said; written = g.O.Sink.written c.args.out.now; faults = g.O.Sink.faults c.args.out.now } in
-      let from : Place = record {
-        number = c.loop-stimulus.number;
-        tag = tag_value_of c.loop-stimulus.tag;
-        left = c.loop-stimulus.left;
-        waiting = string_bytes c.loop-stimulus.rooms.text;
-        written = g.O.Sink.written c.loop-stimulus.out;
-      } in
+      let begun = beginning (tag_value_of c.args.first) said (g.O.Sink.written c.args.out.now) (g.O.Sink.faults c.args.out.now) in
+      let from = place c.loop-stimulus.number (tag_value_of c.loop-stimulus.tag) c.loop-stimulus.left (string_bytes c.loop-stimulus.rooms.text) (g.O.Sink.written c.loop-stimulus.out) in
       let so_far = c.loop-stimulus.invariant.played said are in
       let some = c.in-Some.ensures.some.1 so_far.left so_far.say in
       let next : Next so_far.left =
       record { stimulus = stimulus_with c.in-Some.stimulus c.next_to.new.command; behind = c.next_to.new.self; others = some.0; is = some.1; say = some.2 } in
       let waiting = string_bytes c.play_next.new.self.text in
       let played = one_played begun from (tag_value_of c.in_ok-tag.tag) waiting so_far next c.in_ok-tag.ensures in
-      let behind : Place =
-      record { number = from.number + 1; tag = tag_value_of c.in_ok-tag.tag; left = next.behind; waiting = waiting; written = from.written } in
+      let behind = place (from.number + 1) (tag_value_of c.in_ok-tag.tag) next.behind waiting from.written in
       some_sent begun behind _ _ played c.in_ok-write_page.ensures.sent;
   steady = c.in_ok-write_page.ensures.steady ∙ c.loop-stimulus.invariant.steady;
 }
 
 pub returns-in_err-tell_tag : goal.returns-in_err-tell_tag
 returns-in_err-tell_tag g c = λ said are.
-    let begun : Beginning =
-    record { first = tag_value_of c.args.first; said = said; written = g.O.Sink.written c.args.out.now; faults = g.O.Sink.faults c.args.out.now } in
-    let from : Place = record {
-      number = c.loop-stimulus.number;
-      tag = tag_value_of c.loop-stimulus.tag;
-      left = c.loop-stimulus.left;
-      waiting = string_bytes c.loop-stimulus.rooms.text;
-      written = g.O.Sink.written c.loop-stimulus.out;
-    } in
+    let begun = beginning (tag_value_of c.args.first) said (g.O.Sink.written c.args.out.now) (g.O.Sink.faults c.args.out.now) in
+    let from = place c.loop-stimulus.number (tag_value_of c.loop-stimulus.tag) c.loop-stimulus.left (string_bytes c.loop-stimulus.rooms.text) (g.O.Sink.written c.loop-stimulus.out) in
     let so_far = c.loop-stimulus.invariant.played said are in
     handed_on c.from_residual-in_err-tell_tag.result OutOfMemory (HasPlayed begun.first said begun.written _ begun.faults _) c.from_residual-in_err-tell_tag.ensures.1
     (stop_played c.stimuli_have_one_effect.ensures.some begun from from.written _ OutOfMemory so_far
@@ -103,15 +73,8 @@ returns-in_err-tell_tag g c = λ said are.
 
 pub returns : goal.returns
 returns g c = λ said are.
-    let begun : Beginning =
-    record { first = tag_value_of c.args.first; said = said; written = g.O.Sink.written c.args.out.now; faults = g.O.Sink.faults c.args.out.now } in
-    let from : Place = record {
-      number = c.loop-stimulus.number;
-      tag = tag_value_of c.loop-stimulus.tag;
-      left = c.loop-stimulus.left;
-      waiting = string_bytes c.loop-stimulus.rooms.text;
-      written = g.O.Sink.written c.loop-stimulus.out;
-    } in
+    let begun = beginning (tag_value_of c.args.first) said (g.O.Sink.written c.args.out.now) (g.O.Sink.faults c.args.out.now) in
+    let from = place c.loop-stimulus.number (tag_value_of c.loop-stimulus.tag) c.loop-stimulus.left (string_bytes c.loop-stimulus.rooms.text) (g.O.Sink.written c.loop-stimulus.out) in
     let so_far = c.loop-stimulus.invariant.played said are in
     let told = all_told begun from _ so_far (c.in_default.ensures.none so_far.left so_far.say) c.in_ok-tell_tag.ensures in
     last_told c.flush.result begun (record from { waiting = _ }) _ _ told c.flush.ensures.sent (rw c.loop-stimulus.invariant.steady at c.flush.ensures.steady)

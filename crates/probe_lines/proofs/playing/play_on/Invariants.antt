@@ -3,21 +3,15 @@ use Rattle.std.specs.String.{string_bytes}
 use Rattle.tag_machine.specs.Hearing.{tag_value_of}
 use Rattle.probe_lines.specs.Said.{Stimulus}
 use Rattle.probe_lines.specs.ProbeText.{AreStimuli}
-use Rattle.probe_lines.proofs.PlayedParts.{PlayedTo}
+use Rattle.probe_lines.proofs.PlayedParts.{PlayedTo, beginning, place}
 use Rattle.probe_lines.proofs.playing.play_on.Given as goal
 
 -- what is said leads so far
 abbrev pub invariant-loop-stimulus : goal.invariant-loop-stimulus
 invariant-loop-stimulus g l = record {
   played : (said : List Stimulus) → AreStimuli l.fn.stimuli said
-      → PlayedTo (record { first = tag_value_of l.fn.first; said = said; written = g.O.Sink.written l.initial.out; faults = g.O.Sink.faults l.initial.out })
-      (record {
-        number = l.number;
-        tag = tag_value_of l.tag;
-        left = l.left;
-        waiting = string_bytes l.rooms.text;
-        written = g.O.Sink.written l.out;
-      });
+      → PlayedTo (beginning (tag_value_of l.fn.first) said (g.O.Sink.written l.initial.out) (g.O.Sink.faults l.initial.out))
+      (place l.number (tag_value_of l.tag) l.left (string_bytes l.rooms.text) (g.O.Sink.written l.out));
   steady : g.O.Sink.faults l.out ≡ g.O.Sink.faults l.initial.out;
 }
 
