@@ -15,7 +15,8 @@ use Rattle.text_fields.specs.Lines.{fields_of, lines_of}
 use Rattle.text_fields.proofs.BinaryLaws.{bits_of_digits-map}
 use Rattle.text_fields.proofs.ToldApart.{binary_told}
 use Rattle.checked_lines.specs.TextRules.{Faulty, HasOutcome, TextOutcome, Whole}
-use Rattle.checked_lines.specs.laws.OneOutcome.{some_outcome, whole_ends}
+use Rattle.checked_lines.specs.laws.OneOutcome.{some_outcome}
+use Rattle.checked_lines.specs.laws.TextLaws.{whole_ends}
 use Rattle.command_grammar.specs.Commands.{SpellsCommand, Spellings}
 use Rattle.command_grammar.specs.declared.commands.Command.{Command}
 use Rattle.pie_line.specs.FrameAnswer.{HasOneAnswer}
@@ -339,7 +340,7 @@ end-or standing = inr (λ may. may)
 verdict-of : (start : Start) (bytes : List ℕ) (outcome : TextOutcome TraceStanding AuditReason) → HasOutcome (trace_rules start) bytes outcome → (verdict : Verdict) × IsAuditVerdict start bytes verdict
 verdict-of start bytes (Faulty number reason) is = (No number reason, is)
 verdict-of start bytes (Whole (ended past)) is = (Yes, (past, is))
-verdict-of start bytes (Whole standing) is = absurd (whole_ends (trace_rules start) begun 1 (lines_of bytes) standing is)
+verdict-of start bytes (Whole standing) is = absurd (whole_ends (trace_rules start) begun standing 1 (lines_of bytes) is).may
 
 pub some-verdict : Laws → (start : Start) (bytes : List ℕ) → (verdict : Verdict) × IsAuditVerdict start bytes verdict
 some-verdict laws start bytes =

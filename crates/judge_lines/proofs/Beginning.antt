@@ -7,7 +7,7 @@ use Rattle.text_fields.specs.Lines.{fields_of, lines_of}
 use Rattle.judge_lines.specs.Judged.{IsNoTagFor, IsRefusedFor}
 use Rattle.judge_lines.specs.declared.judging.Refusal.{Refusal}
 use Rattle.judge_lines.specs.declared.judging.Refusal.TheVariants.{Line, OutOfMemory}
-use Rattle.judge_lines.specs.LogText.{IsFaultyTag, IsFirstLogFault, begun, log_rules, logged, start, log_version_line, with_word, within}
+use Rattle.judge_lines.specs.LogText.{IsFaultyTag, IsFirstLogFault, begun, log_rules, logged_tag, start, log_version_line, with_word, within}
 use Rattle.judge_lines.specs.Reading.{HasReadLog}
 use Rattle.checked_lines.specs.declared.fault.FaultReason.{FaultReason}
 use Rattle.checked_lines.specs.declared.fault.FaultReason.TheVariants.{End, Version}
@@ -33,9 +33,9 @@ second_faulty bytes rest line behind fault so_far cut faulty =
     fault_read log_rules start 1 (lines_of bytes) begun 2 (lines_of rest) (record { line = line; rest = behind; cut = cut }) fault so_far faulty
 
 pub tag_read : (bytes rest line behind : List ℕ) (tag : TagSpec) → HasReadTo log_rules start 1 (lines_of bytes) begun 2 (lines_of rest) → lines_of rest ≡ line ∷ lines_of behind
-    → SpellsTag (with_word (fields_of line)) tag → HasReadLog bytes (logged tag) [] (lines_of behind)
+    → SpellsTag (with_word (fields_of line)) tag → HasReadLog bytes (logged_tag tag) [] (lines_of behind)
 tag_read bytes rest line behind tag so_far cut spells =
-    one_read log_rules start 1 (lines_of bytes) begun 2 (lines_of rest) (record { line = line; rest = behind; cut = cut }) (within (logged tag) []) so_far
+    one_read log_rules start 1 (lines_of bytes) begun 2 (lines_of rest) (record { line = line; rest = behind; cut = cut }) (within (logged_tag tag) []) so_far
     (record { tag = tag; spells = spells; leads = refl })
 
 -- the line of the tag is faulty, or there was no memory

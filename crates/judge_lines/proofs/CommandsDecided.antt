@@ -1,5 +1,5 @@
 -- Fields spell a command, or there is a reason for which they spell none.
-use Rattle.std.proofs.Common.{◌<◌, ◌≤◌, ◌^◌, ℕ, List, [], ◌∷◌, length, refl, arith}
+use Rattle.std.proofs.Common.{◌≡◌, ◌<◌, ◌≤◌, ◌^◌, ℕ, List, [], ◌∷◌, length, refl, arith}
 use Rattle.std.specs.Fmt.{decimal}
 use Rattle.command_fields.specs.declared.choices.Bank.{Bank}
 use Rattle.command_fields.specs.declared.choices.Sel.{Sel}
@@ -21,7 +21,7 @@ use Rattle.text_fields.specs.Binary.{binary}
 use Rattle.text_fields.specs.CodeNames.{code_word}
 use Rattle.text_fields.specs.Hexadecimal.{hex_word, hex_words}
 use Rattle.text_fields.specs.WordLists.{IsWordList}
-use Rattle.judge_lines.proofs.VocabularyDecided.{Among, AreDecided, here, one_of, there}
+use Rattle.judge_lines.proofs.VocabularyDecided.{Among, AreDecided, by_kind, here, one_of, there}
 
 -- no more fields
 abbrev pub nothing : Unit {0} → List (List ℕ)
@@ -62,88 +62,67 @@ IsPlaced May = Both Any (Both (IsWithin 0 268435455) (Both May (Both IsWord Any)
 at_place : {V : Type 0} {third : V → List ℕ} {May : V → Type 0} → EachDecided third May → EachDecided (placed third) (IsPlaced May)
 at_place decided = then any_bank_decided (then (number 0 268435455) (then decided (then word_decided end)))
 
-rep_there : (fields : List (List ℕ)) → HasCommand kinds.QueryRep fields → Spelled (with decimal nothing) (Both (IsWithin 0 3) Any) fields
-rep_there fields (QueryRep session, is) = ((session, tt), ((omega arith, is.in_range), tt), is.spelling)
-rep_there fields (command, is) = let kind = is.same_kind in cc
+-- behind the name of each command its fields are these
+abbrev Forms : CommandKind → List (List ℕ) → Type 0
+Forms kinds.QueryRep = Spelled (with decimal nothing) (Both (IsWithin 0 3) Any)
+Forms kinds.Ack = Spelled (with hex_word nothing) (Both IsWord Any)
+Forms kinds.Query =
+    Spelled (with flag_text (with code_word (with flag_text (with sel_word (with decimal (with side_word (with decimal nothing)))))))
+    (Both Any (Both Any (Both Any (Both Any (Both (IsWithin 0 3) (Both Any (Both (IsWithin 0 15) Any)))))))
+Forms kinds.QueryAdjust = Spelled (with decimal (with updn_word nothing)) (Both (IsWithin 0 3) (Both Any Any))
+Forms kinds.Select =
+    Spelled (with flag_word (with decimal (with mask_bank_word (with decimal (with binary nothing)))))
+    (Both Any (Both (IsWithin 0 7) (Both Any (Both (IsWithin 0 268435455) (Both (λ mask. (0 ≤ length mask) × (length mask ≤ 255)) Any)))))
+Forms kinds.Nak = Spelled nothing Any
+Forms kinds.ReqRn = Spelled (with hex_word nothing) (Both IsWord Any)
+Forms kinds.Read = Spelled (placed decimal) (IsPlaced (IsWithin 0 255))
+Forms kinds.Write = Spelled (placed hex_word) (IsPlaced IsWord)
+Forms kinds.Kill = Spelled (with hex_word (with hex_word nothing)) (Both IsWord (Both IsWord Any))
+Forms kinds.Lock = Spelled (with payload_digits (with hex_word nothing)) (Both (λ payload. payload < 1048576) (Both IsWord Any))
+Forms kinds.Access = Spelled (with hex_word (with hex_word nothing)) (Both IsWord (Both IsWord Any))
+Forms kinds.BlockWrite = Spelled (placed hex_words) (IsPlaced (IsWordList 1 255))
+Forms kinds.BlockErase = Spelled (placed decimal) (IsPlaced (IsWithin 1 255))
 
-ack_there : (fields : List (List ℕ)) → HasCommand kinds.Ack fields → Spelled (with hex_word nothing) (Both IsWord Any) fields
-ack_there fields (Ack rn, is) = ((rn, tt), (is.in_range, tt), is.spelling)
-ack_there fields (command, is) = let kind = is.same_kind in cc
-
-query_there : (fields : List (List ℕ)) → HasCommand kinds.Query fields
-    → Spelled (with flag_text (with code_word (with flag_text (with sel_word (with decimal (with side_word (with decimal nothing)))))))
-    (Both Any (Both Any (Both Any (Both Any (Both (IsWithin 0 3) (Both Any (Both (IsWithin 0 15) Any))))))) fields
-query_there fields (Query dr code trext sel session target q, is) = (
+formed : (command : Command) (fields : List (List ℕ)) → IsLegalCommand command → fields ≡ commands.others command → Forms (commands.kind command) fields
+formed (QueryRep session) fields legal is = ((session, tt), ((omega arith, legal), tt), is)
+formed (Ack rn) fields legal is = ((rn, tt), (legal, tt), is)
+formed (Query dr code trext sel session target q) fields legal is = (
   (dr, (code, (trext, (sel, (session, (target, (q, tt))))))),
-  (tt, (tt, (tt, (tt, ((omega arith, is.in_range.0), (tt, ((omega arith, is.in_range.1), tt))))))),
-  is.spelling,
+  (tt, (tt, (tt, (tt, ((omega arith, legal.0), (tt, ((omega arith, legal.1), tt))))))),
+  is,
 )
-query_there fields (command, is) = let kind = is.same_kind in cc
-
-adjust_there : (fields : List (List ℕ)) → HasCommand kinds.QueryAdjust fields → Spelled (with decimal (with updn_word nothing)) (Both (IsWithin 0 3) (Both Any Any)) fields
-adjust_there fields (QueryAdjust session updn, is) = ((session, (updn, tt)), ((omega arith, is.in_range), (tt, tt)), is.spelling)
-adjust_there fields (command, is) = let kind = is.same_kind in cc
-
-select_there : (fields : List (List ℕ)) → HasCommand kinds.Select fields
-    → Spelled (with flag_word (with decimal (with mask_bank_word (with decimal (with binary nothing)))))
-    (Both Any (Both (IsWithin 0 7) (Both Any (Both (IsWithin 0 268435455) (Both (λ mask. (0 ≤ length mask) × (length mask ≤ 255)) Any))))) fields
-select_there fields (Select target action bank pointer mask, is) =
-    let pointer_small = is.in_range.1 in (
+formed (QueryAdjust session updn) fields legal is = ((session, (updn, tt)), ((omega arith, legal), (tt, tt)), is)
+formed (Select target action bank pointer mask) fields legal is =
+    let pointer_small = legal.1 in (
       (target, (action, (bank, (pointer, (mask, tt))))),
-      (tt, ((omega arith, is.in_range.0), (tt, ((omega arith, omega arith), ((omega arith, is.in_range.2), tt))))),
-      is.spelling,
+      (tt, ((omega arith, legal.0), (tt, ((omega arith, omega arith), ((omega arith, legal.2), tt))))),
+      is,
     )
-select_there fields (command, is) = let kind = is.same_kind in cc
-
-nak_there : (fields : List (List ℕ)) → HasCommand kinds.Nak fields → Spelled nothing Any fields
-nak_there fields (Nak, is) = (tt, tt, is.spelling)
-nak_there fields (command, is) = let kind = is.same_kind in cc
-
-req_there : (fields : List (List ℕ)) → HasCommand kinds.ReqRn fields → Spelled (with hex_word nothing) (Both IsWord Any) fields
-req_there fields (ReqRn rn, is) = ((rn, tt), (is.in_range, tt), is.spelling)
-req_there fields (command, is) = let kind = is.same_kind in cc
-
-read_there : (fields : List (List ℕ)) → HasCommand kinds.Read fields → Spelled (placed decimal) (IsPlaced (IsWithin 0 255)) fields
-read_there fields (Read bank pointer count rn, is) =
-    let pointer_small = is.in_range.0 in
-    ((bank, (pointer, (count, (rn, tt)))), (tt, ((omega arith, omega arith), ((omega arith, is.in_range.1), (is.in_range.2, tt)))), is.spelling)
-read_there fields (command, is) = let kind = is.same_kind in cc
-
-write_there : (fields : List (List ℕ)) → HasCommand kinds.Write fields → Spelled (placed hex_word) (IsPlaced IsWord) fields
-write_there fields (Write bank pointer covered rn, is) =
-    let pointer_small = is.in_range.0 in
-    ((bank, (pointer, (covered, (rn, tt)))), (tt, ((omega arith, omega arith), (is.in_range.1, (is.in_range.2, tt)))), is.spelling)
-write_there fields (command, is) = let kind = is.same_kind in cc
-
-kill_there : (fields : List (List ℕ)) → HasCommand kinds.Kill fields → Spelled (with hex_word (with hex_word nothing)) (Both IsWord (Both IsWord Any)) fields
-kill_there fields (Kill covered rn, is) = ((covered, (rn, tt)), (is.in_range.0, (is.in_range.1, tt)), is.spelling)
-kill_there fields (command, is) = let kind = is.same_kind in cc
-
-lock_there : (fields : List (List ℕ)) → HasCommand kinds.Lock fields
-    → Spelled (with payload_digits (with hex_word nothing)) (Both (λ payload. payload < 1048576) (Both IsWord Any)) fields
-lock_there fields (Lock payload rn, is) =
-    let payload_small = is.in_range.0 in
-    ((payload, (rn, tt)), (omega arith, (is.in_range.1, tt)), is.spelling)
-lock_there fields (command, is) = let kind = is.same_kind in cc
-
-access_there : (fields : List (List ℕ)) → HasCommand kinds.Access fields → Spelled (with hex_word (with hex_word nothing)) (Both IsWord (Both IsWord Any)) fields
-access_there fields (Access covered rn, is) = ((covered, (rn, tt)), (is.in_range.0, (is.in_range.1, tt)), is.spelling)
-access_there fields (command, is) = let kind = is.same_kind in cc
-
-block_write_there : (fields : List (List ℕ)) → HasCommand kinds.BlockWrite fields → Spelled (placed hex_words) (IsPlaced (IsWordList 1 255)) fields
-block_write_there fields (BlockWrite bank pointer words rn, is) =
-    let pointer_small = is.in_range.0 in (
+formed Nak fields legal is = (tt, tt, is)
+formed (ReqRn rn) fields legal is = ((rn, tt), (legal, tt), is)
+formed (Read bank pointer count rn) fields legal is =
+    let pointer_small = legal.0 in
+    ((bank, (pointer, (count, (rn, tt)))), (tt, ((omega arith, omega arith), ((omega arith, legal.1), (legal.2, tt)))), is)
+formed (Write bank pointer covered rn) fields legal is =
+    let pointer_small = legal.0 in
+    ((bank, (pointer, (covered, (rn, tt)))), (tt, ((omega arith, omega arith), (legal.1, (legal.2, tt)))), is)
+formed (Kill covered rn) fields legal is = ((covered, (rn, tt)), (legal.0, (legal.1, tt)), is)
+formed (Lock payload rn) fields legal is =
+    let payload_small = legal.0 in
+    ((payload, (rn, tt)), (omega arith, (legal.1, tt)), is)
+formed (Access covered rn) fields legal is = ((covered, (rn, tt)), (legal.0, (legal.1, tt)), is)
+formed (BlockWrite bank pointer words rn) fields legal is =
+    let pointer_small = legal.0 in (
       (bank, (pointer, (words, (rn, tt)))),
-      (tt, ((omega arith, omega arith), (list_of_block words (is.in_range.1, is.in_range.2, is.in_range.3), (is.in_range.4, tt)))),
-      is.spelling,
+      (tt, ((omega arith, omega arith), (list_of_block words (legal.1, legal.2, legal.3), (legal.4, tt)))),
+      is,
     )
-block_write_there fields (command, is) = let kind = is.same_kind in cc
+formed (BlockErase bank pointer count rn) fields legal is =
+    let pointer_small = legal.0 in
+    ((bank, (pointer, (count, (rn, tt)))), (tt, ((omega arith, omega arith), ((legal.1, legal.2), (legal.3, tt)))), is)
 
-block_erase_there : (fields : List (List ℕ)) → HasCommand kinds.BlockErase fields → Spelled (placed decimal) (IsPlaced (IsWithin 1 255)) fields
-block_erase_there fields (BlockErase bank pointer count rn, is) =
-    let pointer_small = is.in_range.0 in
-    ((bank, (pointer, (count, (rn, tt)))), (tt, ((omega arith, omega arith), ((is.in_range.1, is.in_range.2), (is.in_range.3, tt)))), is.spelling)
-block_erase_there fields (command, is) = let kind = is.same_kind in cc
+there_of : (kind : CommandKind) (fields : List (List ℕ)) → HasCommand kind fields → Forms kind fields
+there_of = by_kind commands IsLegalCommand Forms formed
 
 -- a number below 2 ^ 28
 below_28 : (n : ℕ) → n ≤ 268435455 → n < 2 ^ 28
@@ -154,59 +133,59 @@ below_20 n less = omega arith
 
 command_behind : (kind : CommandKind) (fields : List (List ℕ)) → Decided (HasCommand kind fields)
 command_behind kinds.QueryRep fields =
-    same_answer (λ found. (QueryRep found.0.0, record { same_kind = refl; in_range = found.1.0.1; spelling = found.2 })) (rep_there fields) (then (number 0 3) end fields)
+    same_answer (λ found. (QueryRep found.0.0, record { same_kind = refl; in_range = found.1.0.1; spelling = found.2 })) (there_of kinds.QueryRep fields) (then (number 0 3) end fields)
 command_behind kinds.Ack fields =
-    same_answer (λ found. (Ack found.0.0, record { same_kind = refl; in_range = found.1.0; spelling = found.2 })) (ack_there fields) (then word_decided end fields)
+    same_answer (λ found. (Ack found.0.0, record { same_kind = refl; in_range = found.1.0; spelling = found.2 })) (there_of kinds.Ack fields) (then word_decided end fields)
 command_behind kinds.Query fields =
     same_answer (λ found. let v = found.0 in let may = found.1 in (
       Query v.0 v.1.0 v.1.1.0 v.1.1.1.0 v.1.1.1.1.0 v.1.1.1.1.1.0 v.1.1.1.1.1.1.0,
       record { same_kind = refl; in_range = (may.1.1.1.1.0.1, may.1.1.1.1.1.1.0.1); spelling = found.2 },
-    )) (query_there fields)
+    )) (there_of kinds.Query fields)
     (then bit_decided (then code_decided (then bit_decided (then (one_of sel_word _ a_sel) (then (number 0 3) (then side_decided (then (number 0 15) end)))))) fields)
 command_behind kinds.QueryAdjust fields =
-    same_answer (λ found. (QueryAdjust found.0.0 found.0.1.0, record { same_kind = refl; in_range = found.1.0.1; spelling = found.2 })) (adjust_there fields)
+    same_answer (λ found. (QueryAdjust found.0.0 found.0.1.0, record { same_kind = refl; in_range = found.1.0.1; spelling = found.2 })) (there_of kinds.QueryAdjust fields)
     (then (number 0 3) (then (one_of updn_word _ an_updn) end) fields)
 command_behind kinds.Select fields =
     same_answer (λ found. let v = found.0 in let may = found.1 in (
       Select v.0 v.1.0 v.1.1.0 v.1.1.1.0 v.1.1.1.1.0,
       record { same_kind = refl; in_range = (may.1.0.1, below_28 v.1.1.1.0 may.1.1.1.0.1, may.1.1.1.1.0.1); spelling = found.2 },
-    )) (select_there fields)
+    )) (there_of kinds.Select fields)
     (then flag_decided (then (number 0 7) (then bank_decided (then (number 0 268435455) (then (bits_decided 0 255) end)))) fields)
 command_behind kinds.Nak fields =
-    same_answer (λ found. (Nak, record { same_kind = refl; in_range = tt; spelling = found.2 })) (nak_there fields) (end fields)
+    same_answer (λ found. (Nak, record { same_kind = refl; in_range = tt; spelling = found.2 })) (there_of kinds.Nak fields) (end fields)
 command_behind kinds.ReqRn fields =
-    same_answer (λ found. (ReqRn found.0.0, record { same_kind = refl; in_range = found.1.0; spelling = found.2 })) (req_there fields) (then word_decided end fields)
+    same_answer (λ found. (ReqRn found.0.0, record { same_kind = refl; in_range = found.1.0; spelling = found.2 })) (there_of kinds.ReqRn fields) (then word_decided end fields)
 command_behind kinds.Read fields =
     same_answer (λ found. let v = found.0 in let may = found.1 in (
       Read v.0 v.1.0 v.1.1.0 v.1.1.1.0,
       record { same_kind = refl; in_range = (below_28 v.1.0 may.1.0.1, may.1.1.0.1, may.1.1.1.0); spelling = found.2 },
-    )) (read_there fields) (at_place (number 0 255) fields)
+    )) (there_of kinds.Read fields) (at_place (number 0 255) fields)
 command_behind kinds.Write fields =
     same_answer (λ found. let v = found.0 in let may = found.1 in (
       Write v.0 v.1.0 v.1.1.0 v.1.1.1.0,
       record { same_kind = refl; in_range = (below_28 v.1.0 may.1.0.1, may.1.1.0, may.1.1.1.0); spelling = found.2 },
-    )) (write_there fields) (at_place word_decided fields)
+    )) (there_of kinds.Write fields) (at_place word_decided fields)
 command_behind kinds.Kill fields =
-    same_answer (λ found. (Kill found.0.0 found.0.1.0, record { same_kind = refl; in_range = (found.1.0, found.1.1.0); spelling = found.2 })) (kill_there fields)
+    same_answer (λ found. (Kill found.0.0 found.0.1.0, record { same_kind = refl; in_range = (found.1.0, found.1.1.0); spelling = found.2 })) (there_of kinds.Kill fields)
     (then word_decided (then word_decided end) fields)
 command_behind kinds.Lock fields =
     same_answer (λ found. (
       Lock found.0.0 found.0.1.0,
       record { same_kind = refl; in_range = (below_20 found.0.0 found.1.0, found.1.1.0); spelling = found.2 },
-    )) (lock_there fields) (then payload_decided (then word_decided end) fields)
+    )) (there_of kinds.Lock fields) (then payload_decided (then word_decided end) fields)
 command_behind kinds.Access fields =
-    same_answer (λ found. (Access found.0.0 found.0.1.0, record { same_kind = refl; in_range = (found.1.0, found.1.1.0); spelling = found.2 })) (access_there fields)
+    same_answer (λ found. (Access found.0.0 found.0.1.0, record { same_kind = refl; in_range = (found.1.0, found.1.1.0); spelling = found.2 })) (there_of kinds.Access fields)
     (then word_decided (then word_decided end) fields)
 command_behind kinds.BlockWrite fields =
     same_answer (λ found. let v = found.0 in let may = found.1 in let block = block_of_list v.1.1.0 may.1.1.0 in (
       BlockWrite v.0 v.1.0 v.1.1.0 v.1.1.1.0,
       record { same_kind = refl; in_range = (below_28 v.1.0 may.1.0.1, block.0, block.1, block.2, may.1.1.1.0); spelling = found.2 },
-    )) (block_write_there fields) (at_place (words_decided 1 255) fields)
+    )) (there_of kinds.BlockWrite fields) (at_place (words_decided 1 255) fields)
 command_behind kinds.BlockErase fields =
     same_answer (λ found. let v = found.0 in let may = found.1 in (
       BlockErase v.0 v.1.0 v.1.1.0 v.1.1.1.0,
       record { same_kind = refl; in_range = (below_28 v.1.0 may.1.0.1, may.1.1.0.0, may.1.1.0.1, may.1.1.1.0); spelling = found.2 },
-    )) (block_erase_there fields) (at_place (number 1 255) fields)
+    )) (there_of kinds.BlockErase fields) (at_place (number 1 255) fields)
 
 pub commands_decided : AreDecided commands IsLegalCommand
 commands_decided = record { is = commands_are; names = one_of command_name _ a_kind; behind = command_behind }

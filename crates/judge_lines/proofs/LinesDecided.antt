@@ -37,7 +37,7 @@ use Rattle.text_fields.specs.declared.fields_fault.FieldsFault.{FieldsFault}
 use Rattle.text_fields.specs.declared.fields_fault.FieldsFault.TheVariants.{Word, Shape, Number}
 use Rattle.judge_lines.proofs.CommandsDecided.{commands_decided, nothing}
 use Rattle.judge_lines.proofs.RepliesDecided.{replies_decided}
-use Rattle.judge_lines.proofs.VocabularyDecided.{Among, AreDecided, SpellOrAreFaulty, filled_decided, here, one_of, spell_or_are_faulty, there}
+use Rattle.judge_lines.proofs.VocabularyDecided.{Among, AreDecided, SpellOrAreFaulty, by_kind, filled_decided, here, one_of, spell_or_are_faulty, there}
 use Rattle.judge_lines.specs.SeenLine.{AreFaultySeen, SpellSeen, seen_mark_word}
 
 -- one field alone
@@ -48,35 +48,31 @@ alone one value = one value.0 ∷ nothing value.1
 abbrev HasEvent : EventKind → List (List ℕ) → Type 0
 HasEvent kind fields = (event : Event) × SpellBehind probe_events IsProbeEvent kind fields event
 
-timeout_there : (fields : List (List ℕ)) → HasEvent kinds.Timeout fields → Spelled nothing Any fields
-timeout_there fields (events.Timeout, is) = (tt, tt, is.spelling)
-timeout_there fields (event, is) = let kind = is.same_kind in cc
+-- behind each kind its fields are these
+abbrev Forms : EventKind → List (List ℕ) → Type 0
+Forms kinds.Expire = Spelled (alone flag_word) (λ value. IsLasting value.0 × Any value.1)
+Forms kind = Spelled nothing Any
 
-off_there : (fields : List (List ℕ)) → HasEvent kinds.Off fields → Spelled nothing Any fields
-off_there fields (events.Off, is) = (tt, tt, is.spelling)
-off_there fields (event, is) = let kind = is.same_kind in cc
+formed : (event : Event) (fields : List (List ℕ)) → IsProbeEvent event → fields ≡ probe_events.others event → Forms (probe_events.kind event) fields
+formed (events.Expire flag) fields lasting is = ((flag, tt), (λ same. lasting (ap events.Expire same), tt), is)
+formed event fields lasting is = (tt, tt, is)
 
-on_there : (fields : List (List ℕ)) → HasEvent kinds.On fields → Spelled nothing Any fields
-on_there fields (events.On, is) = (tt, tt, is.spelling)
-on_there fields (event, is) = let kind = is.same_kind in cc
-
-expire_there : (fields : List (List ℕ)) → HasEvent kinds.Expire fields → Spelled (alone flag_word) (λ value. IsLasting value.0 × Any value.1) fields
-expire_there fields (events.Expire flag, is) = ((flag, tt), (λ same. is.in_range (ap events.Expire same), tt), is.spelling)
-expire_there fields (event, is) = let kind = is.same_kind in cc
+there_of : (kind : EventKind) (fields : List (List ℕ)) → HasEvent kind fields → Forms kind fields
+there_of = by_kind probe_events IsProbeEvent Forms formed
 
 same_flag : (flag other : _) → events.Expire flag ≡ events.Expire other → flag ≡ other
 same_flag flag other same = cc
 
 event_behind : (kind : EventKind) (fields : List (List ℕ)) → Decided (HasEvent kind fields)
 event_behind kinds.Timeout fields =
-    same_answer (λ found. (events.Timeout, record { same_kind = refl; in_range = λ same. cc; spelling = found.2 })) (timeout_there fields) (end fields)
-event_behind kinds.Off fields = same_answer (λ found. (events.Off, record { same_kind = refl; in_range = λ same. cc; spelling = found.2 })) (off_there fields) (end fields)
-event_behind kinds.On fields = same_answer (λ found. (events.On, record { same_kind = refl; in_range = λ same. cc; spelling = found.2 })) (on_there fields) (end fields)
+    same_answer (λ found. (events.Timeout, record { same_kind = refl; in_range = λ same. cc; spelling = found.2 })) (there_of kinds.Timeout fields) (end fields)
+event_behind kinds.Off fields = same_answer (λ found. (events.Off, record { same_kind = refl; in_range = λ same. cc; spelling = found.2 })) (there_of kinds.Off fields) (end fields)
+event_behind kinds.On fields = same_answer (λ found. (events.On, record { same_kind = refl; in_range = λ same. cc; spelling = found.2 })) (there_of kinds.On fields) (end fields)
 event_behind kinds.Expire fields =
     same_answer (λ found. (
       events.Expire found.0.0,
       record { same_kind = refl; in_range = λ same. found.1.0 (same_flag found.0.0 S0 same); spelling = found.2 },
-    )) (expire_there fields) (then lasting_decided end fields)
+    )) (there_of kinds.Expire fields) (then lasting_decided end fields)
 
 -- behind the kind of an event stand as many fields as it has
 event_filled : (event : Event) → AreFilled (probe_events.count (probe_events.kind event)) (probe_events.others event)

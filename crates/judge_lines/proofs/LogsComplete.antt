@@ -1,10 +1,11 @@
 -- Each line of a log leads on or is faulty, so that bytes are the text of a log or have a first faulty line.
-use Rattle.std.proofs.Common.{◌≡◌, ◌⊎◌, ◌<◌, ◌≤◌, ◌+◌, ℕ, List, [], ◌∷◌, ap, arith, refl, sym, subst, inl, inr}
+use Rattle.std.proofs.Common.{◌≡◌, ◌⊎◌, ◌<◌, ◌≤◌, ◌+◌, ℕ, List, [], ◌∷◌, ap, arith, refl, inl, inr}
 use Rattle.std.specs.Prelude.{Option}
 use Rattle.std.specs.List.{AllZip}
 use Rattle.std.proofs.lemmas.Bool.{cases_lt}
-use Rattle.checked_lines.specs.TextRules.{Faulty, HasOutcome, HasOutcomeFrom, TextOutcome, Whole}
+use Rattle.checked_lines.specs.TextRules.{Faulty, HasOutcome, TextOutcome, Whole}
 use Rattle.checked_lines.specs.laws.OneOutcome.{AreComplete, LeadsOrIsFaulty, some_outcome}
+use Rattle.checked_lines.specs.laws.TextLaws.{whole_ends}
 use Rattle.checked_lines.specs.declared.fault.FaultReason.{FaultReason}
 use Rattle.checked_lines.specs.declared.fault.FaultReason.TheVariants.{Extra, Version, Word, Order, Limit, Shape, Number}
 use Rattle.command_grammar.specs.declared.commands.Command.{Command}
@@ -20,14 +21,10 @@ use Rattle.scenario_lines.proofs.Decisions.{Decided, text_decided}
 use Rattle.text_fields.specs.Lines.{fields_of, lines_of}
 use Rattle.text_fields.specs.declared.fields_fault.FieldsFault.TheVariants as reasons
 use Rattle.judge_lines.proofs.LinesDecided.{SaysOrIsFaulty, TellsOrIsFaulty, TellsTagOrIsFaulty, head_same, says_or_is_faulty, tag_or_faulty, tells_or_is_faulty}
-use Rattle.judge_lines.proofs.LogLaws.{Known, answer_known, no_unknown_answer, no_unknown_other, other_known}
-use Rattle.judge_lines.specs.LogText.{IsFaultyNext, IsFaultySeen, IsFirstLogFault, IsLogText, LogMayEnd, LogStanding, TellsNextEntry, TellsSeen, asked, begun, behind_effect, ended, log_rules, logged, start, log_version_line, with_word, within}
+use Rattle.judge_lines.proofs.LogLaws.{answer_known, other_known, unknown_answer, unknown_other}
+use Rattle.judge_lines.specs.LogText.{IsFaultyNext, IsFaultySeen, IsFirstLogFault, IsLogText, LogMayEnd, LogStanding, TellsNextEntry, TellsSeen, asked, begun, behind_effect, ended, log_rules, logged_tag, start, log_version_line, with_word, within}
 use Rattle.judge_lines.specs.SeenLine.{BeginsAsAnswer, answer_word}
-
--- what the laws of single lines say, and that what is done to a tag has an effect
-pub record MoreKnown : Type 0 where
-  pub known : Known
-  pub some_effect : (said : List Stimulus) → (effects : List StimulusEffect) × AllZip HasEffect said effects
+use Rattle.judge_lines.specs.laws.LogLineLaws.{LogLineLaws}
 
 effect_of_one : (stimulus : Stimulus) (effects : List StimulusEffect) → AllZip HasEffect (stimulus ∷ []) effects → (effect : StimulusEffect) × HasEffect stimulus effect
 effect_of_one stimulus [] has = absurd has
@@ -55,7 +52,7 @@ too_much_decided count fields = elim (cases_lt count most_stimuli) [
 ]
 
 -- what is done to a tag is no end
-ends_or_faulty : Known → (fields others : List (List ℕ)) (stimulus : Stimulus) → SpellsProbeLine fields (Does stimulus) → fields ≡ line_word words.End ∷ others → ⊥
+ends_or_faulty : LogLineLaws → (fields others : List (List ℕ)) (stimulus : Stimulus) → SpellsProbeLine fields (Does stimulus) → fields ≡ line_word words.End ∷ others → ⊥
 ends_or_faulty known fields [] stimulus spells is =
     let same = known.lines.told fields (Does stimulus) said.End spells (record { spelling = is; is = tt }) in
     cc
@@ -64,127 +61,93 @@ ends_or_faulty known fields (field ∷ others) stimulus spells is =
     (inl (record { word = words.End; begins = record { others = field ∷ others; first = is }; behind = λ same. cc }))
 
 -- a line that begins as an answer, where none is awaited
-misplaced : Known → (count : ℕ) (fields : List (List ℕ)) (begins : BeginsAsAnswer fields) → TellsOrIsFaulty begins.others → (reason : FaultReason) × IsFaultyNext count fields reason
-misplaced known count fields begins (inl found) = (
-  Order,
-  (
-    answer_known known.seen fields begins found.0 found.1,
-    begins,
-  ),
-)
+misplaced : LogLineLaws → (count : ℕ) (fields : List (List ℕ)) (begins : BeginsAsAnswer fields) → TellsOrIsFaulty begins.others → (reason : FaultReason) × IsFaultyNext count fields reason
+misplaced known count fields begins (inl found) = (Order, (answer_known known.seen fields begins found.0 found.1, begins))
 misplaced known count fields begins (inr (reasons.Word, faulty)) = (Word, inl (record { begins = begins; faulty = faulty }))
-misplaced known count fields begins (inr (reasons.Shape, faulty)) =
-    (Order, (λ unknown. no_unknown_answer known.seen fields unknown (inl (record { begins = begins; faulty = faulty })), begins))
-misplaced known count fields begins (inr (reasons.Number, faulty)) =
-    (Order, (λ unknown. no_unknown_answer known.seen fields unknown (inr (record { begins = begins; faulty = faulty })), begins))
+misplaced known count fields begins (inr (fault, faulty)) =
+    (Order, (λ unknown. let same = unknown_answer known.seen fields fault unknown (record { begins = begins; faulty = faulty }) in cc, begins))
 
 -- a line that doesn't, where one is awaited
-missed : Known → (count : ℕ) (fields : List (List ℕ)) → (¬ BeginsAsAnswer fields) → SaysOrIsFaulty fields → (reason : FaultReason) × IsFaultySeen count fields reason
-missed known count fields other (inl found) = (
-  Order,
-  (
-    other_known known.lines fields found.0 other found.1,
-    other,
-  ),
-)
+missed : LogLineLaws → (count : ℕ) (fields : List (List ℕ)) → (¬ BeginsAsAnswer fields) → SaysOrIsFaulty fields → (reason : FaultReason) × IsFaultySeen count fields reason
+missed known count fields other (inl found) = (Order, (other_known known.lines fields found.0 other found.1, other))
 missed known count fields other (inr (reasons.Word, faulty)) = (Word, inr (record { other = other; faulty = faulty }))
-missed known count fields other (inr (reasons.Shape, faulty)) =
-    (Order, (λ unknown. no_unknown_other known.lines fields unknown (inl (record { other = other; faulty = faulty })), other))
-missed known count fields other (inr (reasons.Number, faulty)) =
-    (Order, (λ unknown. no_unknown_other known.lines fields unknown (inr (record { other = other; faulty = faulty })), other))
+missed known count fields other (inr (fault, faulty)) =
+    (Order, (λ unknown. let same = unknown_other known.lines fields fault unknown (record { other = other; faulty = faulty }) in cc, other))
 
 -- a line that begins as an answer, where one is awaited
 abbrev SeenOrIsFaulty : LoggedTag → List LogEntry → Option Command → List (List ℕ) → Type 0
 SeenOrIsFaulty tag log heard fields = ((to : LogStanding) × TellsSeen tag log heard fields to) ⊎ ((reason : FaultReason) × IsFaultySeen (lines_in log + 1) fields reason)
 
-seen_or_faulty : Known → (tag : LoggedTag) (log : List LogEntry) (heard : Option Command) (fields : List (List ℕ)) (begins : BeginsAsAnswer fields)
+seen_or_faulty : LogLineLaws → (tag : LoggedTag) (log : List LogEntry) (heard : Option Command) (fields : List (List ℕ)) (begins : BeginsAsAnswer fields)
     → TellsOrIsFaulty begins.others → (lines_in log + 1 < most_stimuli) ⊎ (most_stimuli ≤ lines_in log + 1) → SeenOrIsFaulty tag log heard fields
 seen_or_faulty known tag log heard fields begins (inl found) (inl room) =
     inl (_, record { begins = begins; seen = found.0; spells = found.1; room = room; leads = refl })
-seen_or_faulty known tag log heard fields begins (inl found) (inr full) = inr (
-  Limit,
-  (
-    answer_known known.seen fields begins found.0 found.1,
-    begins,
-    full,
-  ),
-)
+seen_or_faulty known tag log heard fields begins (inl found) (inr full) = inr (Limit, (answer_known known.seen fields begins found.0 found.1, begins, full))
 seen_or_faulty known tag log heard fields begins (inr (reasons.Word, faulty)) room = inr (Word, inl (record { begins = begins; faulty = faulty }))
 seen_or_faulty known tag log heard fields begins (inr (reasons.Shape, faulty)) (inl room) = inr (Shape, (room, record { begins = begins; faulty = faulty }))
 seen_or_faulty known tag log heard fields begins (inr (reasons.Number, faulty)) (inl room) = inr (Number, (room, record { begins = begins; faulty = faulty }))
-seen_or_faulty known tag log heard fields begins (inr (reasons.Shape, faulty)) (inr full) =
-    inr (Limit, (λ unknown. no_unknown_answer known.seen fields unknown (inl (record { begins = begins; faulty = faulty })), begins, full))
-seen_or_faulty known tag log heard fields begins (inr (reasons.Number, faulty)) (inr full) =
-    inr (Limit, (λ unknown. no_unknown_answer known.seen fields unknown (inr (record { begins = begins; faulty = faulty })), begins, full))
+seen_or_faulty known tag log heard fields begins (inr (fault, faulty)) (inr full) =
+    inr (Limit, (λ unknown. let same = unknown_answer known.seen fields fault unknown (record { begins = begins; faulty = faulty }) in cc, begins, full))
 
 -- a line that doesn't, where none is awaited
 abbrev NextOrIsFaulty : LoggedTag → List LogEntry → List (List ℕ) → Type 0
 NextOrIsFaulty tag log fields = ((to : LogStanding) × TellsNextEntry tag log fields to) ⊎ ((reason : FaultReason) × IsFaultyNext (lines_in log) fields reason)
 
-does_next : MoreKnown → (tag : LoggedTag) (log : List LogEntry) (fields : List (List ℕ)) (stimulus : Stimulus) → (¬ BeginsAsAnswer fields) → SpellsProbeLine fields (Does stimulus)
+does_next : LogLineLaws → (tag : LoggedTag) (log : List LogEntry) (fields : List (List ℕ)) (stimulus : Stimulus) → (¬ BeginsAsAnswer fields) → SpellsProbeLine fields (Does stimulus)
     → (lines_in log < most_stimuli) ⊎ (most_stimuli ≤ lines_in log) → NextOrIsFaulty tag log fields
-does_next more tag log fields stimulus other spells (inl room) =
-    let some = more.some_effect (stimulus ∷ []) in
+does_next known tag log fields stimulus other spells (inl room) =
+    let some = known.some_effect (stimulus ∷ []) in
     let found = effect_of_one stimulus some.0 some.1 in
     inl (
       behind_effect tag log found.0,
       record { other = other; says = Does stimulus; spells = spells; leads = record { room = room; effect = found.0; has = found.1; leads = refl } },
     )
-does_next more tag log fields stimulus other spells (inr full) = inr (
+does_next known tag log fields stimulus other spells (inr full) = inr (
   Limit,
   (
-    other_known more.known.lines fields (Does stimulus) other spells,
+    other_known known.lines fields (Does stimulus) other spells,
     other,
-    record { full = full; needs = λ ends. ends_or_faulty more.known fields ends.others stimulus spells ends.first },
+    record { full = full; needs = λ ends. ends_or_faulty known fields ends.others stimulus spells ends.first },
   ),
 )
 
-next_or_faulty : MoreKnown → (tag : LoggedTag) (log : List LogEntry) (fields : List (List ℕ)) → (¬ BeginsAsAnswer fields) → SaysOrIsFaulty fields
+next_or_faulty : LogLineLaws → (tag : LoggedTag) (log : List LogEntry) (fields : List (List ℕ)) → (¬ BeginsAsAnswer fields) → SaysOrIsFaulty fields
     → Decided (IsStimulusTooMuch (lines_in log) fields) → NextOrIsFaulty tag log fields
-next_or_faulty more tag log fields other (inl (said.End, spells)) many = inl (ended tag log, record { other = other; says = said.End; spells = spells; leads = refl })
-next_or_faulty more tag log fields other (inl (said.Does stimulus, spells)) many =
-    does_next more tag log fields stimulus other spells (cases_lt (lines_in log) most_stimuli)
-next_or_faulty more tag log fields other (inr (reasons.Word, faulty)) many = inr (Word, inr (record { other = other; faulty = faulty }))
-next_or_faulty more tag log fields other (inr (reasons.Shape, faulty)) (inl many) =
-    inr (Limit, (λ unknown. no_unknown_other more.known.lines fields unknown (inl (record { other = other; faulty = faulty })), other, many))
-next_or_faulty more tag log fields other (inr (reasons.Number, faulty)) (inl many) =
-    inr (Limit, (λ unknown. no_unknown_other more.known.lines fields unknown (inr (record { other = other; faulty = faulty })), other, many))
-next_or_faulty more tag log fields other (inr (reasons.Shape, faulty)) (inr fits) = inr (Shape, (fits, record { other = other; faulty = faulty }))
-next_or_faulty more tag log fields other (inr (reasons.Number, faulty)) (inr fits) = inr (Number, (fits, record { other = other; faulty = faulty }))
+next_or_faulty known tag log fields other (inl (said.End, spells)) many = inl (ended tag log, record { other = other; says = said.End; spells = spells; leads = refl })
+next_or_faulty known tag log fields other (inl (said.Does stimulus, spells)) many =
+    does_next known tag log fields stimulus other spells (cases_lt (lines_in log) most_stimuli)
+next_or_faulty known tag log fields other (inr (reasons.Word, faulty)) many = inr (Word, inr (record { other = other; faulty = faulty }))
+next_or_faulty known tag log fields other (inr (fault, faulty)) (inl many) =
+    inr (Limit, (λ unknown. let same = unknown_other known.lines fields fault unknown (record { other = other; faulty = faulty }) in cc, other, many))
+next_or_faulty known tag log fields other (inr (reasons.Shape, faulty)) (inr fits) = inr (Shape, (fits, record { other = other; faulty = faulty }))
+next_or_faulty known tag log fields other (inr (reasons.Number, faulty)) (inr fits) = inr (Number, (fits, record { other = other; faulty = faulty }))
 
 version_or_faulty : (line : List ℕ) → LeadsOrIsFaulty log_rules start line
 version_or_faulty line = elim (text_decided line log_version_line) [ inl is ↦ inl (begun, (is, refl)) | inr other ↦ inr (Version, (refl, other)) ]
 
 tag_leads : (line : List ℕ) → TellsTagOrIsFaulty (with_word (fields_of line)) → LeadsOrIsFaulty log_rules begun line
-tag_leads line (inl found) = inl (within (logged found.0) [], record { tag = found.0; spells = found.1; leads = refl })
+tag_leads line (inl found) = inl (within (logged_tag found.0) [], record { tag = found.0; spells = found.1; leads = refl })
 tag_leads line (inr faulty) = inr faulty
 
-each_line : MoreKnown → (from : LogStanding) (line : List ℕ) → LeadsOrIsFaulty log_rules from line
-each_line more start line = version_or_faulty line
-each_line more begun line = tag_leads line (tag_or_faulty (with_word (fields_of line)))
-each_line more (within tag log) line = elim (answer_decided (fields_of line)) [
-  | inl begins ↦ inr (misplaced more.known (lines_in log) (fields_of line) begins (tells_or_is_faulty begins.others))
-  | inr other ↦ next_or_faulty more tag log (fields_of line) other (says_or_is_faulty (fields_of line)) (too_much_decided (lines_in log) (fields_of line))
+each_line : LogLineLaws → (from : LogStanding) (line : List ℕ) → LeadsOrIsFaulty log_rules from line
+each_line known start line = version_or_faulty line
+each_line known begun line = tag_leads line (tag_or_faulty (with_word (fields_of line)))
+each_line known (within tag log) line = elim (answer_decided (fields_of line)) [
+  | inl begins ↦ inr (misplaced known (lines_in log) (fields_of line) begins (tells_or_is_faulty begins.others))
+  | inr other ↦ next_or_faulty known tag log (fields_of line) other (says_or_is_faulty (fields_of line)) (too_much_decided (lines_in log) (fields_of line))
 ]
-each_line more (asked tag log heard) line = elim (answer_decided (fields_of line)) [
-  | inl begins ↦ seen_or_faulty more.known tag log heard (fields_of line) begins (tells_or_is_faulty begins.others) (cases_lt (lines_in log + 1) most_stimuli)
-  | inr other ↦ inr (missed more.known (lines_in log + 1) (fields_of line) other (says_or_is_faulty (fields_of line)))
+each_line known (asked tag log heard) line = elim (answer_decided (fields_of line)) [
+  | inl begins ↦ seen_or_faulty known tag log heard (fields_of line) begins (tells_or_is_faulty begins.others) (cases_lt (lines_in log + 1) most_stimuli)
+  | inr other ↦ inr (missed known (lines_in log + 1) (fields_of line) other (says_or_is_faulty (fields_of line)))
 ]
-each_line more (ended tag log) line = inr (Extra, refl)
+each_line known (ended tag log) line = inr (Extra, refl)
 
 end_or_not : (standing : LogStanding) → LogMayEnd standing ⊎ (¬ LogMayEnd standing)
 end_or_not (ended tag log) = inl tt
 end_or_not standing = inr (λ may. may)
 
-logs_complete : MoreKnown → AreComplete log_rules
-logs_complete more = record { lines = each_line more; ends = end_or_not }
-
--- a text stands behind its end
-whole_ends : (from : LogStanding) (number : ℕ) (lines : List (List ℕ)) (to : LogStanding) → HasOutcomeFrom log_rules from number lines (Whole to) → LogMayEnd to
-whole_ends from number [] to is = absurd is
-whole_ends from number (line ∷ []) to is = subst LogMayEnd (sym is.2) is.1
-whole_ends from number (line ∷ next ∷ lines) to (inl stops) = absurd stops
-whole_ends from number (line ∷ next ∷ lines) to (inr more) = whole_ends more.0 (number + 1) (next ∷ lines) to more.2
+logs_complete : LogLineLaws → AreComplete log_rules
+logs_complete known = record { lines = each_line known; ends = end_or_not }
 
 -- what bytes do or are
 abbrev pub AreLogOrFaulty : List ℕ → Type 0
@@ -193,8 +156,8 @@ AreLogOrFaulty bytes =
 
 outcome_told : (bytes : List ℕ) (outcome : TextOutcome LogStanding FaultReason) → HasOutcome log_rules bytes outcome → AreLogOrFaulty bytes
 outcome_told bytes (Whole (ended tag log)) is = inl (tag, log, is)
-outcome_told bytes (Whole standing) is = absurd (whole_ends start 1 (lines_of bytes) standing is)
+outcome_told bytes (Whole standing) is = absurd (whole_ends log_rules start standing 1 (lines_of bytes) is).may
 outcome_told bytes (Faulty number fault) is = inr (number, fault, is)
 
-pub log_or_faulty : MoreKnown → (bytes : List ℕ) → AreLogOrFaulty bytes
-log_or_faulty more bytes = let found = some_outcome log_rules (logs_complete more) bytes in outcome_told bytes found.0 found.1
+pub log_or_faulty : LogLineLaws → (bytes : List ℕ) → AreLogOrFaulty bytes
+log_or_faulty known bytes = let found = some_outcome log_rules (logs_complete known) bytes in outcome_told bytes found.0 found.1

@@ -12,7 +12,7 @@ use Rattle.text_fields.specs.Hexadecimal.{hex_byte, hex_word, hex_words}
 use Rattle.text_fields.specs.WordLists.{IsWordList}
 use Rattle.command_grammar.specs.Commands.{IsWord}
 use Rattle.judge_lines.proofs.CommandsDecided.{Both, nothing, with}
-use Rattle.judge_lines.proofs.VocabularyDecided.{Among, AreDecided, here, one_of, there}
+use Rattle.judge_lines.proofs.VocabularyDecided.{Among, AreDecided, by_kind, here, one_of, there}
 
 abbrev IsByte : ℕ → Type 0
 IsByte number = number < 2 ^ 8
@@ -28,45 +28,41 @@ a_kind kind = search (here, there) depth 9
 abbrev HasReply : ReplyKind → List (List ℕ) → Type 0
 HasReply kind fields = (reply : Reply) × IsReplyBehind kind fields reply
 
-rn16_there : (fields : List (List ℕ)) → HasReply kinds.Rn16 fields → Spelled (with hex_word nothing) (Both IsWord Any) fields
-rn16_there fields (Rn16 rn, is) = ((rn, tt), (is.in_range, tt), is.spelling)
-rn16_there fields (reply, is) = let kind = is.same_kind in cc
+-- behind the name of each reply its fields are these
+abbrev Forms : ReplyKind → List (List ℕ) → Type 0
+Forms kinds.Rn16 = Spelled (with hex_word nothing) (Both IsWord Any)
+Forms kinds.Epc = Spelled (with hex_word (with hex_words nothing)) (Both IsWord (Both (IsWordList 0 31) Any))
+Forms kinds.Handle = Spelled (with hex_word nothing) (Both IsWord Any)
+Forms kinds.Words = Spelled (with hex_words nothing) (Both (IsWordList 1 512) Any)
+Forms kinds.Header = Spelled nothing Any
+Forms kinds.Error = Spelled (with hex_byte nothing) (Both IsByte Any)
 
-epc_there : (fields : List (List ℕ)) → HasReply kinds.Epc fields → Spelled (with hex_word (with hex_words nothing)) (Both IsWord (Both (IsWordList 0 31) Any)) fields
-epc_there fields (Epc pc epc, is) = ((pc, (epc, tt)), (is.in_range.0, (is.in_range.1, tt)), is.spelling)
-epc_there fields (reply, is) = let kind = is.same_kind in cc
+formed : (reply : Reply) (fields : List (List ℕ)) → IsReplyForm reply → fields ≡ replies.others reply → Forms (replies.kind reply) fields
+formed (Rn16 rn) fields form is = ((rn, tt), (form, tt), is)
+formed (Epc pc epc) fields form is = ((pc, (epc, tt)), (form.0, (form.1, tt)), is)
+formed (Handle rn) fields form is = ((rn, tt), (form, tt), is)
+formed (Words words) fields form is = ((words, tt), (form, tt), is)
+formed Header fields form is = (tt, tt, is)
+formed (Error code) fields form is = ((code, tt), (form, tt), is)
 
-handle_there : (fields : List (List ℕ)) → HasReply kinds.Handle fields → Spelled (with hex_word nothing) (Both IsWord Any) fields
-handle_there fields (Handle rn, is) = ((rn, tt), (is.in_range, tt), is.spelling)
-handle_there fields (reply, is) = let kind = is.same_kind in cc
-
-words_there : (fields : List (List ℕ)) → HasReply kinds.Words fields → Spelled (with hex_words nothing) (Both (IsWordList 1 512) Any) fields
-words_there fields (Words words, is) = ((words, tt), (is.in_range, tt), is.spelling)
-words_there fields (reply, is) = let kind = is.same_kind in cc
-
-header_there : (fields : List (List ℕ)) → HasReply kinds.Header fields → Spelled nothing Any fields
-header_there fields (Header, is) = (tt, tt, is.spelling)
-header_there fields (reply, is) = let kind = is.same_kind in cc
-
-error_there : (fields : List (List ℕ)) → HasReply kinds.Error fields → Spelled (with hex_byte nothing) (Both IsByte Any) fields
-error_there fields (Error code, is) = ((code, tt), (is.in_range, tt), is.spelling)
-error_there fields (reply, is) = let kind = is.same_kind in cc
+there_of : (kind : ReplyKind) (fields : List (List ℕ)) → HasReply kind fields → Forms kind fields
+there_of = by_kind replies IsReplyForm Forms formed
 
 reply_behind : (kind : ReplyKind) (fields : List (List ℕ)) → Decided (HasReply kind fields)
 reply_behind kinds.Rn16 fields =
-    same_answer (λ found. (Rn16 found.0.0, record { same_kind = refl; in_range = found.1.0; spelling = found.2 })) (rn16_there fields) (then word_decided end fields)
+    same_answer (λ found. (Rn16 found.0.0, record { same_kind = refl; in_range = found.1.0; spelling = found.2 })) (there_of kinds.Rn16 fields) (then word_decided end fields)
 reply_behind kinds.Epc fields =
-    same_answer (λ found. (Epc found.0.0 found.0.1.0, record { same_kind = refl; in_range = (found.1.0, found.1.1.0); spelling = found.2 })) (epc_there fields)
+    same_answer (λ found. (Epc found.0.0 found.0.1.0, record { same_kind = refl; in_range = (found.1.0, found.1.1.0); spelling = found.2 })) (there_of kinds.Epc fields)
     (then word_decided (then (words_decided 0 31) end) fields)
 reply_behind kinds.Handle fields =
-    same_answer (λ found. (Handle found.0.0, record { same_kind = refl; in_range = found.1.0; spelling = found.2 })) (handle_there fields) (then word_decided end fields)
+    same_answer (λ found. (Handle found.0.0, record { same_kind = refl; in_range = found.1.0; spelling = found.2 })) (there_of kinds.Handle fields) (then word_decided end fields)
 reply_behind kinds.Words fields =
-    same_answer (λ found. (Words found.0.0, record { same_kind = refl; in_range = found.1.0; spelling = found.2 })) (words_there fields)
+    same_answer (λ found. (Words found.0.0, record { same_kind = refl; in_range = found.1.0; spelling = found.2 })) (there_of kinds.Words fields)
     (then (words_decided 1 512) end fields)
 reply_behind kinds.Header fields =
-    same_answer (λ found. (Header, record { same_kind = refl; in_range = tt; spelling = found.2 })) (header_there fields) (end fields)
+    same_answer (λ found. (Header, record { same_kind = refl; in_range = tt; spelling = found.2 })) (there_of kinds.Header fields) (end fields)
 reply_behind kinds.Error fields =
-    same_answer (λ found. (Error found.0.0, record { same_kind = refl; in_range = found.1.0; spelling = found.2 })) (error_there fields) (then byte_decided end fields)
+    same_answer (λ found. (Error found.0.0, record { same_kind = refl; in_range = found.1.0; spelling = found.2 })) (there_of kinds.Error fields) (then byte_decided end fields)
 
 pub replies_decided : AreDecided replies IsReplyForm
 replies_decided = record { is = replies_are; names = one_of reply_name _ a_kind; behind = reply_behind }

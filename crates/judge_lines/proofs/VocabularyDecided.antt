@@ -12,6 +12,13 @@ pub data Among {K : Type 0} : K → List K → Type 0 where
   here : {kind : K} {kinds : List K} → Among kind (kind ∷ kinds)
   there : {kind first : K} {kinds : List K} → Among kind kinds → Among kind (first ∷ kinds)
 
+-- what fields are that spell a value behind the name of its kind, by what they are for each value
+pub by_kind : {K V : Type 0} (words : Vocabulary K V) (InRange : V → Type 0) (Forms : K → List (List ℕ) → Type 0)
+    → ((value : V) (fields : List (List ℕ)) → InRange value → fields ≡ words.others value → Forms (words.kind value) fields)
+    → (kind : K) (fields : List (List ℕ)) → ((value : V) × SpellBehind words InRange kind fields value) → Forms kind fields
+by_kind {K} words InRange Forms formed kind fields (value, is) =
+    subst (λ (same : K). Forms same fields) is.same_kind (formed value fields is.in_range is.spelling)
+
 -- the field is the name of one of these
 abbrev NamesAmong : {K : Type 0} → (K → List ℕ) → List ℕ → List K → Type 0
 NamesAmong {K = K} name field kinds = (kind : K) × Among kind kinds × (field ≡ name kind)

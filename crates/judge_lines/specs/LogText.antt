@@ -16,7 +16,7 @@ use Rattle.text_fields.specs.declared.fields_fault.FieldsFault.{FieldsFault}
 use Rattle.text_fields.specs.declared.fields_fault.FieldsFault.TheVariants as reasons
 use Rattle.judge_lines.specs.SeenLine.{AreFaultySeen, BeginsAsAnswer, SpellSeen}
 use Rattle.checked_lines.specs.declared.fault.FaultReason.{FaultReason}
-use Rattle.checked_lines.specs.declared.fault.FaultReason.TheVariants.{Extra, End, Version, Word, Order, Limit, Shape, Number, Pc}
+use Rattle.checked_lines.specs.declared.fault.FaultReason.TheVariants.{Extra, End, Version, Word, Order, Limit, Shape, Number}
 
 -- the first line
 abbrev pub log_version_line : List ℕ
@@ -40,14 +40,14 @@ pub data LogStanding : Type 0 where
 abbrev pub with_word : List (List ℕ) → List (List ℕ)
 with_word fields = fields ++ codes "0000" ∷ []
 
-abbrev pub logged : TagSpec → LoggedTag
-logged tag = record { image = tag.image; locks = tag.locks }
+abbrev pub logged_tag : TagSpec → LoggedTag
+logged_tag tag = record { image = tag.image; locks = tag.locks }
 
 -- the line says the tag, and leads there
 pub record TellsLoggedTag (line : List ℕ) (to : LogStanding) : Type 0 where
   pub tag : TagSpec
   pub spells : SpellsTag (with_word (fields_of line)) tag
-  pub leads : to ≡ within (logged tag) []
+  pub leads : to ≡ within (logged_tag tag) []
 
 -- what is sent waits for its answer; an event has none
 abbrev pub behind_effect : LoggedTag → List LogEntry → StimulusEffect → LogStanding

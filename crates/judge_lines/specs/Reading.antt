@@ -1,5 +1,5 @@
 -- How far the text of a log is read, entry by entry.
-use Rattle.std.specs.Prelude.{◌≡◌, ◌⊎◌, ℕ, ◌+◌, List, [], ◌∷◌, ◌++◌, Option, Some, None}
+use Rattle.std.specs.Prelude.{ℕ, ◌+◌, List, [], ◌∷◌, ◌++◌, Option, Some, None}
 use Rattle.checked_lines.specs.laws.ReadingOn.{HasReadTo}
 use Rattle.command_grammar.specs.declared.commands.Command.{Command}
 use Rattle.log_judge.specs.Answers.{seen_in}

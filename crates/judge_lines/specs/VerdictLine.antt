@@ -1,5 +1,5 @@
 -- Profile: the line that says what is judged of a log.
-use Rattle.std.specs.Prelude.{ℕ, List, [], ◌∷◌, ◌++◌, codes, Option, Some, None}
+use Rattle.std.specs.Prelude.{ℕ, List, [], ◌∷◌, ◌++◌, codes, Some, None}
 use Rattle.std.specs.Fmt.{decimal}
 use Rattle.log_verdicts.specs.Verdicts.{Verdict, Want, Yes, Profile, No, Nothing, Exactly, AnyRn16, AnyHandle, NothingOrAnyRn16}
 use Rattle.text_fields.specs.Lines.{line_feed, line_with}

@@ -15,11 +15,14 @@ fn mark_named(field: &[u8]) -> Option<Answered>
     ensures value { IfSome result (λ mark. field.now ≡ seen_mark_word mark) }
     ensures only { (mark : Answered) → field.now ≡ seen_mark_word mark → result ≡ Some mark }
 {
-    match field {
-        b"-" => Some(Answered::Silent),
-        b"plain" => Some(Answered::Plain),
-        b"extended" => Some(Answered::Extended),
-        _ => None,
+    if field == b"-".as_slice() {
+        Some(Answered::Silent)
+    } else if field == b"plain".as_slice() {
+        Some(Answered::Plain)
+    } else if field == b"extended".as_slice() {
+        Some(Answered::Extended)
+    } else {
+        None
     }
 }
 
@@ -27,7 +30,7 @@ fn mark_named(field: &[u8]) -> Option<Answered>
 fn is_answer(field: &[u8]) -> bool
     ensures { IsTrue result ↔ (field.now ≡ answer_word) }
 {
-    matches!(field, b"answer")
+    field == b"answer".as_slice()
 }
 
 /// The fields behind `answer`; none exactly where a line begins with another.

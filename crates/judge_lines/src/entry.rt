@@ -54,7 +54,6 @@ impl SaidEntry {
 }
 
 /// Room for a command, for bits and for an answer, taken once for all lines.
-#[derive(Drop)]
 pub(crate) struct Rooms {
     /// The command that the tag was sent last.
     pub(crate) command: Command,
@@ -62,6 +61,17 @@ pub(crate) struct Rooms {
     pub(crate) answer: Answer,
     bits: Bits,
     ghost bits_room: { bits.capacity ≡ 8240 },
+}
+
+// By this each place that drops the room makes one call, which keeps the proofs of those functions short.
+impl Drop for Rooms {
+    fn drop(self) {
+        let Rooms {
+            command: _,
+            answer: _,
+            bits: _,
+        } = self;
+    }
 }
 
 impl Rooms {

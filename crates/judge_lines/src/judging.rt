@@ -1,10 +1,12 @@
 //! A log, judged as its text is read.
 ghost use Rattle.std.specs.Prelude.{◌≡◌, ◌↔◌, ℕ, List, [], IfErr, IfOk, IsTrue};
 ghost use Rattle.log_judge.specs.Answers.{verdict_in};
+ghost use Rattle.log_judge.specs.Judging.{HasHeard};
+ghost use Rattle.log_verdicts.specs.Log.{LoggedTag};
 ghost use Rattle.scenario_lines.specs.TagForm.{IsTag};
 ghost use Rattle.text_fields.specs.Lines.{lines_of};
 ghost use Rattle.judge_lines.specs.Judged.{IsJudged, IsRefusedFor};
-ghost use Rattle.judge_lines.specs.LogText.{logged, log_version_line};
+ghost use Rattle.judge_lines.specs.LogText.{logged_tag, log_version_line};
 ghost use Rattle.judge_lines.specs.Reading.{HasReadLog};
 
 use crate::entry::{Rooms, SaidEntry, read_entry};
@@ -67,7 +69,7 @@ fn is_version(line: &[u8]) -> bool
 /// The tag that a text tells, and what stands behind its line.
 fn read_tag(alloc: Global, text: &[u8]) -> Result<(TagSpec, &[u8]), Refusal>
     ensures ok { IfOk result
-        (λ it. HasReadLog text.now (logged it.0) [] (lines_of it.1.now) × IsTag it.0) }
+        (λ it. HasReadLog text.now (logged_tag it.0) [] (lines_of it.1.now) × IsTag it.0) }
     ensures refused { IfErr result (IsRefusedFor text.now) }
 {
     let Some((line, behind)) = split_line(text) else {
@@ -83,6 +85,21 @@ fn read_tag(alloc: Global, text: &[u8]) -> Result<(TagSpec, &[u8]), Refusal>
     Ok((tag, behind))
 }
 
+/// A judge that has heard nothing of the log that a text says, the room for its entries, and what stands behind the line of the tag.
+fn begin(alloc: Global, text: &[u8]) -> Result<(Judge, Rooms, &[u8]), Refusal>
+    ensures ok { IfOk result
+        (λ it. (tag : LoggedTag) × HasReadLog text.now tag [] (lines_of it.2.now)
+        × HasHeard tag [] it.0) }
+    ensures refused { IfErr result (IsRefusedFor text.now) }
+{
+    // By this law a memory can be made of the tag.
+    tag_lines_fit_memories();
+    let (tag, behind) = read_tag(alloc, text)?;
+    let rooms = Rooms::new(alloc)?;
+    let judge = Judge::new(alloc, &tag.image, tag.locks)?;
+    Ok((judge, rooms, behind))
+}
+
 /// What is judged of the log that a text says. The blank is for the counter of steps.
 fn judge_text<L: Ledger>(blank: Blank, alloc: Global, text: &[u8]) -> Result<Verdict, Refusal>
     requires name { blank.name ≡ L.name }
@@ -91,13 +108,8 @@ fn judge_text<L: Ledger>(blank: Blank, alloc: Global, text: &[u8]) -> Result<Ver
     ensures ok { IfOk result (λ verdict. IsJudged text.now (verdict_in verdict)) }
     ensures refused { IfErr result (IsRefusedFor text.now) }
 {
-    // By this law a memory can be made of the tag.
-    tag_lines_fit_memories();
-    let (tag, behind) = read_tag(alloc, text)?;
-    let mut judge = Judge::new(alloc, &tag.image, tag.locks)?;
-    let mut rooms = Rooms::new(alloc)?;
+    let (mut judge, mut rooms, mut rest) = begin(alloc, text)?;
     let mut steps = Steps::<L>::new(blank);
-    let mut rest = behind;
     let mut count = 0;
     loop {
         let (entry, left) = read_entry(rest, count, &mut rooms)?;

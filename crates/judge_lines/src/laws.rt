@@ -5,6 +5,7 @@ ghost use Rattle.log_verdicts.specs.Log.{LogEntry, LoggedTag};
 ghost use Rattle.log_verdicts.specs.Verdicts.{Verdict};
 ghost use Rattle.checked_lines.specs.declared.fault.FaultReason.{FaultReason};
 ghost use Rattle.judge_lines.specs.Judged.{IsJudged};
+ghost use Rattle.judge_lines.specs.laws.LogLineLaws.{LogLineLaws};
 ghost use Rattle.judge_lines.specs.laws.SeenLaws.{SeenLaws};
 ghost use Rattle.judge_lines.specs.LogText.{IsFirstLogFault, IsLogText};
 
@@ -21,15 +22,22 @@ pub(crate) fn seen_laws()
     replies_have_one_fault();
 }
 
+/// What the laws of single lines say, together.
+fn log_line_laws()
+    ensures { LogLineLaws }
+{
+    line_laws();
+    stimuli_have_one_effect();
+    seen_laws();
+}
+
 /// Bytes are the text of one log of one tag at most.
 pub fn logs_are_told_apart()
     ensures { (bytes : List ℕ) (tag other_tag : LoggedTag) (log other_log : List LogEntry)
         → IsLogText bytes tag log → IsLogText bytes other_tag other_log
         → (tag ≡ other_tag) × (log ≡ other_log) }
 {
-    line_laws();
-    stimuli_have_one_effect();
-    seen_laws();
+    log_line_laws();
 }
 
 /// The text of a log has no faulty line.
@@ -37,9 +45,7 @@ pub fn log_texts_are_not_faulty()
     ensures { (bytes : List ℕ) (tag : LoggedTag) (log : List LogEntry) (number : ℕ)
         (fault : FaultReason) → IsLogText bytes tag log → IsFirstLogFault bytes number fault → ⊥ }
 {
-    line_laws();
-    stimuli_have_one_effect();
-    seen_laws();
+    log_line_laws();
 }
 
 /// A text has at most one first faulty line, which has one first reason.
@@ -48,9 +54,7 @@ pub fn log_texts_have_one_fault()
         → IsFirstLogFault bytes one fault → IsFirstLogFault bytes other reason
         → (one ≡ other) × (fault ≡ reason) }
 {
-    line_laws();
-    stimuli_have_one_effect();
-    seen_laws();
+    log_line_laws();
 }
 
 /// Each text is that of a log, or has a first faulty line.
@@ -59,9 +63,7 @@ pub fn texts_are_logs_or_faulty()
         → ((tag : LoggedTag) × (log : List LogEntry) × IsLogText bytes tag log)
         ⊎ ((number : ℕ) × (fault : FaultReason) × IsFirstLogFault bytes number fault) }
 {
-    line_laws();
-    stimuli_have_one_effect();
-    seen_laws();
+    log_line_laws();
 }
 
 /// The text of a log has one verdict, and one only.

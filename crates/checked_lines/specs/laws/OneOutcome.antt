@@ -89,13 +89,6 @@ module _ {S R : Type 0} (rules : TextRules S R) (complete : AreComplete rules) w
   pub some_outcome : (bytes : List ℕ) → (outcome : TextOutcome S R) × HasOutcome rules bytes outcome
   some_outcome bytes = some_of (lines_of bytes) (some_piece line_feed bytes)
 
--- a text stands at its end where one may end
-pub whole_ends : {S R : Type 0} (rules : TextRules S R) (from : S) (number : ℕ) (lines : List (List ℕ)) (to : S) → HasOutcomeFrom rules from number lines (Whole to) → rules.may_end to
-whole_ends rules from number [] to is = absurd is
-whole_ends rules from number (line ∷ []) to is = subst rules.may_end (sym is.2) is.1
-whole_ends rules from number (line ∷ next ∷ lines) to (inl stops) = absurd stops
-whole_ends rules from number (line ∷ next ∷ lines) to (inr more) = whole_ends rules more.0 (number + 1) (next ∷ lines) to more.2
-
 -- bytes have one fault line at most
 pub one_fault_text : {S : Type 0} (rules : TextRules S FaultReason) → AreUnambiguous rules → (bytes a b : List ℕ) → IsFaultText rules bytes a → IsFaultText rules bytes b → a ≡ b
 one_fault_text rules one bytes a b is is' =

@@ -5,11 +5,4 @@ use Rattle.judge_lines.proofs.laws.log_texts_are_not_faulty.Goals as goal
 
 pub returns : goal.returns
 returns c bytes tag log number fault is first =
-    text_not_faulty log_rules
-    (logs_unambiguous (record {
-      lines = c.line_laws.ensures.lines;
-      tags = c.line_laws.ensures.tags;
-      seen = c.seen_laws.ensures;
-      one_effect = c.stimuli_have_one_effect.ensures.one;
-    }))
-    bytes (ended tag log) number fault is first
+    text_not_faulty log_rules (logs_unambiguous c.log_line_laws.ensures) bytes (ended tag log) number fault is first

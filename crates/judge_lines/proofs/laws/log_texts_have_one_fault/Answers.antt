@@ -5,11 +5,4 @@ use Rattle.judge_lines.proofs.laws.log_texts_have_one_fault.Goals as goal
 
 pub returns : goal.returns
 returns c bytes one other fault reason first first' =
-    one_fault log_rules
-    (logs_unambiguous (record {
-      lines = c.line_laws.ensures.lines;
-      tags = c.line_laws.ensures.tags;
-      seen = c.seen_laws.ensures;
-      one_effect = c.stimuli_have_one_effect.ensures.one;
-    }))
-    bytes one other fault reason first first'
+    one_fault log_rules (logs_unambiguous c.log_line_laws.ensures) bytes one other fault reason first first'
