@@ -1,9 +1,6 @@
 -- An encode line asks for one thing at most, or is faulty for one reason, and not both.
-use Rattle.std.proofs.Common.{◌≡◌, ℕ, ◌≤◌, List, [], ◌∷◌, drop, Option, Some, None, refl, sym, ◌∙◌, ap, subst, arith, inl, inr, if◌then◌else◌}
-use Rattle.std.specs.Prelude.{codes}
+use Rattle.std.proofs.Common.{◌≡◌, ℕ, ◌≤◌, List, [], ◌∷◌, drop, refl, sym, ◌∙◌, subst, arith, inl, inr}
 use Rattle.std.specs.Fmt.{decimal}
-use Rattle.std.specs.Str.{bytes_eq}
-use Rattle.bit_strings.specs.declared.code.Code.TheVariants.{Fm0, M2, M4, M8}
 use Rattle.text_fields.specs.Lines.{fields_of}
 use Rattle.text_fields.specs.Binary.{binary, binary_digit}
 use Rattle.text_fields.specs.CodeNames.{code_word}
@@ -13,6 +10,7 @@ use Rattle.text_fields.proofs.FilledFields.{Filled, none_filled, one_more}
 use Rattle.command_text.specs.CommandText.{commands}
 use Rattle.command_text.proofs.CommandTexts.{command_told}
 use Rattle.command_text.proofs.FieldTexts.{bit_is, code_is}
+use Rattle.command_text.proofs.NameLists.{told}
 use Rattle.command_text.proofs.ToldApart.{code_told, digit_told}
 use Rattle.reply_text.specs.ReplyText.{expect_word, reply_fields, replies}
 use Rattle.reply_text.proofs.ReplyTexts.{reply_told}
@@ -26,39 +24,16 @@ use Rattle.checked_lines.specs.laws.OneLine.{TellLines}
 use Rattle.encode_lines.proofs.ReadFields.{six_filled}
 use Rattle.encode_lines.proofs.Shapes.{command_shape, reply_shape, shaped}
 use Rattle.encode_lines.specs.EncodeLines.{encode_rules}
-use Rattle.encode_lines.specs.Request.{lead_word, kind_word, encode_request_kind, request_fields, AreDurations, IsWithinEncodeLimits, AsksToEncodeBehind, AsksToEncode, NamesNone, HasEncodeShape, AreFaultyToEncode, HasFaultyFieldsToEncode, IsFaultyToEncode}
+use Rattle.encode_lines.specs.Request.{all_kinds, kind_found, lead_word, kind_word, encode_request_kind, request_fields, AreDurations, IsWithinEncodeLimits, AsksToEncodeBehind, AsksToEncode, NamesNone, HasEncodeShape, AreFaultyToEncode, HasFaultyFieldsToEncode, IsFaultyToEncode}
 use Rattle.encode_lines.specs.declared.request.Durations.{Durations}
 use Rattle.encode_lines.specs.declared.request.LineKind.{LineKind}
 use Rattle.encode_lines.specs.declared.request.LineKind.TheVariants.{Stream as StreamKind, Pie as PieKind, Command as CommandKind, Reply as ReplyKind, Heard as HeardKind}
 use Rattle.encode_lines.specs.declared.request.Request.{Request}
 use Rattle.encode_lines.specs.declared.request.Request.TheVariants.{Stream, Pie, Command, Reply, Heard}
 
--- the kind that a first field says
-kind_read : List ℕ → Option LineKind
-kind_read word =
-    (if bytes_eq word (codes "fm0") then Some (StreamKind Fm0)
-    else (if bytes_eq word (codes "m2") then Some (StreamKind M2)
-    else (if bytes_eq word (codes "m4") then Some (StreamKind M4)
-    else (if bytes_eq word (codes "m8") then Some (StreamKind M8)
-    else (if bytes_eq word (codes "pie") then Some PieKind
-    else (if bytes_eq word (codes "command") then Some CommandKind
-    else (if bytes_eq word (codes "reply") then Some ReplyKind
-    else (if bytes_eq word (codes "heard") then Some HeardKind else None))))))))
-
-kind_read_word : (kind : LineKind) → kind_read (kind_word kind) ≡ Some kind
-unfolding kind_read
-kind_read_word (StreamKind Fm0) = refl
-kind_read_word (StreamKind M2) = refl
-kind_read_word (StreamKind M4) = refl
-kind_read_word (StreamKind M8) = refl
-kind_read_word PieKind = refl
-kind_read_word CommandKind = refl
-kind_read_word ReplyKind = refl
-kind_read_word HeardKind = refl
-
 -- a first field says one kind
 kind_told : (one other : LineKind) → kind_word one ≡ kind_word other → one ≡ other
-kind_told one other same = let e : Some one ≡ Some other = sym (kind_read_word one) ∙ ap kind_read same ∙ kind_read_word other in cc
+kind_told = told kind_word all_kinds kind_found
 
 -- two readings of fields are one
 one_reading : (kind kind' : LineKind) (others others' : List (List ℕ)) → kind_word kind ∷ others ≡ kind_word kind' ∷ others' → (kind ≡ kind') × (others ≡ others')

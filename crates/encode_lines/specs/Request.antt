@@ -1,9 +1,11 @@
 -- Profile: the lines that `encode` reads. A line is a list of fields; the first says what is encoded.
-use Rattle.std.specs.Prelude.{◌≡◌, ◌≢◌, ◌⊎◌, ℕ, ◌+◌, ◌*◌, ◌≤◌, List, [], ◌∷◌, length, take, drop, codes}
+use Rattle.std.specs.Prelude.{◌≡◌, ◌≢◌, ◌⊎◌, ℕ, ◌+◌, ◌*◌, ◌≤◌, List, [], ◌∷◌, length, take, drop, codes, refl}
 use Rattle.std.specs.Fmt.{decimal}
 use Rattle.text_fields.specs.Lines.{fields_of}
 use Rattle.text_fields.specs.Binary.{binary, binary_digit}
 use Rattle.text_fields.specs.CodeNames.{code_word}
+use Rattle.bit_strings.specs.declared.code.Code.TheVariants.{Fm0, M2, M4, M8}
+use Rattle.command_text.specs.NameLists.{EachFound}
 use Rattle.text_fields.specs.NamedFields.{AreFilled, HaveShape, NameNothing}
 use Rattle.pie_line.specs.declared.frame.Lead.{Lead}
 use Rattle.pie_line.specs.declared.frame.Lead.TheVariants.{Preamble, FrameSync}
@@ -49,6 +51,17 @@ kind_word PieKind = codes "pie"
 kind_word CommandKind = codes "command"
 kind_word ReplyKind = codes "reply"
 kind_word HeardKind = codes "heard"
+
+-- all kinds, each of which has a word of its own
+abbrev pub all_kinds : List LineKind
+all_kinds = StreamKind Fm0 ∷ StreamKind M2 ∷ StreamKind M4 ∷ StreamKind M8 ∷ PieKind ∷ CommandKind ∷ ReplyKind ∷ HeardKind ∷ []
+
+pub kind_found : EachFound kind_word all_kinds
+kind_found (StreamKind Fm0) = refl
+kind_found (StreamKind M2) = refl
+kind_found (StreamKind M4) = refl
+kind_found (StreamKind M8) = refl
+kind_found kind = refl
 
 -- what the first field of a request's line says
 abbrev pub encode_request_kind : Request → LineKind

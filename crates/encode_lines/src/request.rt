@@ -4,18 +4,16 @@ ghost use Rattle.std.specs.Fmt.{decimal};
 ghost use Rattle.text_fields.specs.Lines.{fields_of};
 ghost use Rattle.pie_line.specs.declared.frame.Lead.{Lead};
 ghost use Rattle.reply_text.specs.ReplyText.{IsReplyText};
-ghost use Rattle.encode_lines.specs.Request.{lead_word, kind_word, AreDurations, AsksToEncodeBehind, AsksToEncode, AreFaultyToEncode, IsFaultyToEncode, IsFaultyReplyBehind};
+ghost use Rattle.encode_lines.specs.Request.{all_kinds, kind_found, lead_word, kind_word, AreDurations, AsksToEncodeBehind, AsksToEncode, AreFaultyToEncode, IsFaultyToEncode, IsFaultyReplyBehind};
 
 use bit_strings::Code;
 use checked_lines::{FaultReason, heard_as};
 use command_grammar::Command;
-use command_text::read_command;
+use command_text::{Named, read_command, value_named};
 use pie_line::Lead;
 use reply_grammar::{Expect, Reply};
 use reply_text::{expect_of, read_reply};
-use text_fields::{
-    Digits, Fields, FieldsFault, code_named, number, one_bit, six_fields, two_fields,
-};
+use text_fields::{Digits, Fields, FieldsFault, name_of, number, one_bit, six_fields, two_fields};
 
 /// The greatest number of bits of a stream: those of the longest reply.
 pub(crate) const MOST_STREAM_BITS: u32 = 8_225;
@@ -101,21 +99,34 @@ fn lead_named(field: &[u8]) -> Option<Lead>
     }
 }
 
-/// What a first field says; none exactly where no line begins with it.
-fn kind_of(word: &[u8]) -> Option<LineKind>
-    ensures found { IfSome result (λ kind. word.now ≡ kind_word kind) }
-    ensures none { IfNone result ((kind : LineKind) → word.now ≢ kind_word kind) }
-{
-    if word == b"pie".as_slice() {
-        Some(LineKind::Pie)
-    } else if word == b"command".as_slice() {
-        Some(LineKind::Command)
-    } else if word == b"reply".as_slice() {
-        Some(LineKind::Reply)
-    } else if word == b"heard".as_slice() {
-        Some(LineKind::Heard)
-    } else {
-        Some(LineKind::Stream(code_named(word)?))
+impl Named for LineKind {
+    ghost word = { kind_word };
+
+    ghost values = { all_kinds };
+
+    ghost finds = { kind_found };
+
+    fn all() -> &'static [LineKind] {
+        &[
+            LineKind::Stream(Code::Fm0),
+            LineKind::Stream(Code::M2),
+            LineKind::Stream(Code::M4),
+            LineKind::Stream(Code::M8),
+            LineKind::Pie,
+            LineKind::Command,
+            LineKind::Reply,
+            LineKind::Heard,
+        ]
+    }
+
+    fn name(self) -> &'static str {
+        match self {
+            LineKind::Stream(code) => name_of(code),
+            LineKind::Pie => "pie",
+            LineKind::Command => "command",
+            LineKind::Reply => "reply",
+            LineKind::Heard => "heard",
+        }
     }
 }
 
@@ -128,7 +139,7 @@ pub(crate) fn request_of(line: &[u8]) -> Result<Request<'_>, FaultReason>
     let Some(word) = fields.next() else {
         return Err(FaultReason::Word);
     };
-    match kind_of(word) {
+    match value_named(word) {
         Some(kind) => request_behind(kind, fields),
         None => Err(FaultReason::Word),
     }
