@@ -17,7 +17,7 @@ use Rattle.scenario_text.proofs.Leading.{leads_on}
 use Rattle.scenario_text.proofs.Reasons.{unambiguous}
 use Rattle.scenario_text.proofs.Settled.{said_scenario}
 use Rattle.scenario_text.proofs.Spoken.{scenario_is_said}
-use Rattle.scenario_text.proofs.TextLaws.{StopsBehind, fault_stops, lead_not_faulty}
+use Rattle.checked_lines.specs.laws.TextLaws.{StopsBehind, fault_stops, lead_not_faulty}
 use Rattle.scenario_text.proofs.Texts.{lead_settles, lines_lead}
 
 -- lines that follow one another from the start begin a scenario

@@ -10,6 +10,5 @@ pub mod FirstLines
 pub mod Decisions
 pub mod SomeFault
 pub mod LinesBefore
-pub mod TextLaws
 pub mod WholeTexts
 pub mod Refusals

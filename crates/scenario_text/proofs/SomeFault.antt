@@ -20,7 +20,7 @@ use Rattle.scenario_text.specs.Faults.{DisagreesAt, DisagreesBy, HasRoomFor, IsF
 use Rattle.scenario_text.specs.Standing.{Agrees, AgreesWith, HasRoomForLine, MayStand, ScenarioStanding, begun, ended, standing_after, start, within}
 use Rattle.scenario_text.proofs.Decisions.{chooses_once_decided, has_room_decided, is_of_version_decided, keeps_order_decided, may_copy_decided, may_stand_decided, names_tag_decided}
 use Rattle.scenario_lines.proofs.Decisions.{text_decided}
-use Rattle.scenario_text.proofs.TextLaws.{whole_ends}
+use Rattle.checked_lines.specs.laws.TextLaws.{whole_ends}
 use Rattle.scenario_text.proofs.Texts.{spells_text}
 use Rattle.scenario_text.proofs.WholeTexts.{whole_is_spelled}
 

@@ -20,7 +20,7 @@ use Rattle.scenario_text.specs.Taking.{SaysScenario}
 use Rattle.scenario_text.proofs.Reasons.{unambiguous}
 use Rattle.scenario_text.proofs.Settled.{said_scenario}
 use Rattle.scenario_text.proofs.Spoken.{scenario_is_said}
-use Rattle.scenario_text.proofs.TextLaws.{whole_ends}
+use Rattle.checked_lines.specs.laws.TextLaws.{whole_ends}
 use Rattle.scenario_text.proofs.Texts.{lead_settles, lines_lead, lines_said, text_of_lines}
 
 -- a text that stands behind its end is that of a scenario
