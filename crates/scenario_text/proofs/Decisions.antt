@@ -1,5 +1,5 @@
 -- What the lines before a line leave open holds for it, or it doesn't.
-use Rattle.std.proofs.Common.{◌≡◌, ◌≢◌, ◌+◌, ◌<◌, ◌≤◌, ℕ, suc, List, [], ◌∷◌, length, Option, Some, None, refl, inl, inr}
+use Rattle.std.proofs.Common.{◌≡◌, ◌≢◌, ◌+◌, ◌<◌, ℕ, suc, List, [], ◌∷◌, length, Option, Some, None, refl, inl, inr}
 use Rattle.air_events.specs.declared.Entry.{Entry}
 use Rattle.scenario_lines.proofs.Decisions.{Decided, both, le_decided, number_decided}
 use Rattle.scenario_lines.specs.TagForm.{epc_length}

@@ -1,5 +1,5 @@
 -- Lines that follow one another.
-use Rattle.std.proofs.Common.{◌≡◌, List, [], ◌∷◌, ◌++◌, sym, subst}
+use Rattle.std.proofs.Common.{List, [], ◌∷◌, ◌++◌, sym, subst}
 use Rattle.scenario_lines.specs.declared.line.Line.{Line}
 use Rattle.scenario_text.specs.Standing.{ScenarioStanding, LinesLead, standing_after}
 

@@ -22,7 +22,7 @@ use Rattle.scenario.specs.ScenarioText.{group_line, only_lines, step_lines}
 use Rattle.scenario_text.specs.AirLines.{entries_of}
 use Rattle.scenario_text.specs.Draft.{DraftValue, tag_count}
 use Rattle.scenario_text.specs.Faults.{IsFirstScenarioFault, IsRefused, LeadsBy, ScenarioMayEnd, scenario_rules}
-use Rattle.scenario_text.specs.Standing.{ScenarioStanding, begun, ended, linked, start, within}
+use Rattle.scenario_text.specs.Standing.{ScenarioStanding, ended, start, within}
 use Rattle.scenario_text.specs.StepLines.{steps_of}
 use Rattle.scenario_text.specs.Taking.{IsNotTaken, IsUnfinished, SaysScenario, StandsFor}
 use Rattle.scenario_text.specs.declared.fault.Fault.{Fault}
