@@ -29,7 +29,7 @@ use Rattle.scenario_lines.specs.declared.line.Happening.{Happening}
 use Rattle.scenario_lines.specs.declared.line.Happening.TheVariants as happenings
 use Rattle.scenario_lines.specs.declared.line.Line.{Line}
 use Rattle.scenario_lines.specs.declared.line.Line.TheVariants as lines
-use Rattle.scenario_lines.specs.Names.{air_found, air_word, all_air_kinds, all_event_kinds, all_op_kinds, event_found, event_kind, event_word, op_found, op_word, several_text, version_digit}
+use Rattle.scenario_lines.specs.Names.{air_found, air_word, all_air_kinds, all_op_kinds, event_kind, event_word, op_found, op_word, several_text, version_digit}
 use Rattle.text_fields.specs.NamedFields.{SpellBehind, Vocabulary, spelled_fields}
 use Rattle.text_fields.specs.WordLists.{IsWordList}
 use Rattle.value_text.specs.ValueText.{password_text}
@@ -40,7 +40,7 @@ use Rattle.scenario_lines.specs.Reading.{IsEventText, IsHappeningText, IsOpText}
 use Rattle.scenario_lines.proofs.Decisions.{Any, Decided, EachDecided, Spelled, behind_decided as then, nothing_decided, only_decided, same_answer, text_decided}
 use Rattle.scenario_lines.proofs.FieldsDecided.{IsLasting, IsWithin, any_bank_decided, bank_decided, bit_decided, bits_decided, code_decided, decimal_decided, flag_decided, lasting_decided, locks_decided, named_decided, password_decided, payload_decided, rule_decided, sel_decided, several_decided, side_decided, version_decided, word_decided, words_decided}
 use Rattle.scenario_lines.proofs.ToldLines.{same_fields}
-use Rattle.scenario_lines.proofs.ToldNames.{air_word_told, event_word_told, op_word_told}
+use Rattle.scenario_lines.proofs.ToldNames.{air_word_told, all_event_kinds, event_found, event_word_told, op_word_told}
 use Rattle.command_text.proofs.ToldApart.{block_of_list, list_of_block}
 
 -- no more fields

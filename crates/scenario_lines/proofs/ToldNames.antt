@@ -15,11 +15,12 @@ use Rattle.command_fields.specs.declared.choices.Sel.{Sel}
 use Rattle.command_fields.specs.declared.choices.Sel.TheVariants as sels
 use Rattle.scenario_lines.specs.declared.first_fields.Keyword.{Keyword}
 use Rattle.scenario_lines.specs.declared.first_fields.EventKind.{EventKind}
+use Rattle.scenario_lines.specs.declared.first_fields.EventKind.TheVariants.{Timeout, Off, On, Expire}
 use Rattle.scenario_lines.specs.declared.first_fields.OpKind.{OpKind}
 use Rattle.scenario_lines.specs.declared.first_fields.AirKind.{AirKind}
 use Rattle.command_text.specs.NameLists.{EachFound}
 use Rattle.command_text.proofs.NameLists.{told}
-use Rattle.scenario_lines.specs.Names.{HasRuleText, air_found, all_air_kinds, air_word, all_keywords, event_found, all_event_kinds, event_word, keyword_found, keyword_text, op_found, all_op_kinds, op_word, rule_text, sel_text, several_text, version_digit}
+use Rattle.scenario_lines.specs.Names.{HasRuleText, air_found, all_air_kinds, air_word, all_keywords, event_word, keyword_found, keyword_text, op_found, all_op_kinds, op_word, rule_text, sel_text, several_text, version_digit}
 
 -- the letter at a place of two equal texts
 letter : (place : ℕ) (one other : List ℕ) → one ≡ other → get_or one place 0 ≡ get_or other place 0
@@ -83,6 +84,13 @@ rule_told One version rules.Fixed other legal legal' has has' same = absurd has
 rule_told One version rules.Frame other legal legal' has has' same = absurd has
 rule_told version One one rules.Fixed legal legal' has has' same = absurd has'
 rule_told version One one rules.Frame legal legal' has has' same = absurd has'
+
+abbrev pub all_event_kinds : List EventKind
+all_event_kinds = Timeout ∷ Off ∷ On ∷ Expire ∷ []
+
+pub event_found : EachFound event_word all_event_kinds
+event_found Timeout = refl
+event_found kind = refl
 
 pub event_word_told : (one other : EventKind) → event_word one ≡ event_word other → one ≡ other
 event_word_told = told event_word all_event_kinds event_found

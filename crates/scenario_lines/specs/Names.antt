@@ -82,13 +82,6 @@ event_word Off = codes "off"
 event_word On = codes "on"
 event_word Expire = codes "expire"
 
-abbrev pub all_event_kinds : List EventKind
-all_event_kinds = Timeout ∷ Off ∷ On ∷ Expire ∷ []
-
-pub event_found : EachFound event_word all_event_kinds
-event_found Timeout = refl
-event_found kind = refl
-
 -- the kind of an operation
 abbrev pub op_word : OpKind → List ℕ
 op_word op_kinds.Read = codes "read"

@@ -1,7 +1,7 @@
 //! The names in a line, read; and written where one stands for a value of several.
 ghost use Rattle.std.specs.Prelude.{◌≡◌, ◌≢◌, IfSome};
 ghost use Rattle.command_text.specs.CommandText.{flag_word};
-ghost use Rattle.scenario_lines.specs.Names.{air_found, all_air_kinds, air_word, all_keywords, event_found, event_kind, all_event_kinds, event_word, keyword_found, keyword_text, op_found, all_op_kinds, op_word, sel_text, several_text, version_digit};
+ghost use Rattle.scenario_lines.specs.Names.{air_found, all_air_kinds, air_word, all_keywords, event_kind, event_word, keyword_found, keyword_text, op_found, all_op_kinds, op_word, sel_text, several_text, version_digit};
 
 use crate::{AirKind, EventKind, Keyword, OpKind, Version};
 use air_events::{Event, Several};
@@ -86,38 +86,15 @@ pub(crate) fn several_name(several: Several) -> &'static str
     }
 }
 
-impl Named for EventKind {
-    ghost word = { event_word };
-
-    ghost values = { all_event_kinds };
-
-    ghost finds = { event_found };
-
-    fn all() -> &'static [EventKind] {
-        &[
-            EventKind::Timeout,
-            EventKind::Off,
-            EventKind::On,
-            EventKind::Expire,
-        ]
-    }
-
-    fn name(self) -> &'static str {
-        match self {
-            EventKind::Timeout => "timeout",
-            EventKind::Off => "off",
-            EventKind::On => "on",
-            EventKind::Expire => "expire",
-        }
-    }
-}
-
 /// The kind of an event of this name.
 pub fn event_kind_named(field: &[u8]) -> Option<EventKind>
     ensures value { IfSome result (λ kind. field.now ≡ event_word kind) }
     ensures only { (kind : EventKind) → field.now ≡ event_word kind → result ≡ Some kind }
 {
-    value_named(field)
+    match value_named(field)? {
+        AirKind::Event(kind) => Some(kind),
+        _ => None,
+    }
 }
 
 /// The name of the kind of an event.
@@ -155,7 +132,10 @@ impl Named for AirKind {
 
     fn name(self) -> &'static str {
         match self {
-            AirKind::Event(kind) => kind.name(),
+            AirKind::Event(EventKind::Timeout) => "timeout",
+            AirKind::Event(EventKind::Off) => "off",
+            AirKind::Event(EventKind::On) => "on",
+            AirKind::Event(EventKind::Expire) => "expire",
             AirKind::Miss => "miss",
             AirKind::Pick => "pick",
             AirKind::Silent => "silent",

@@ -14,7 +14,8 @@ mod round;
 mod select;
 mod tag;
 
-use crate::{AirKind, EventKind, Keyword, Line, LineFault, OpKind};
+use crate::names::event_kind_named;
+use crate::{AirKind, Keyword, Line, LineFault, OpKind};
 use air::read_air;
 use command_text::value_named;
 use event::read_event;
@@ -28,47 +29,29 @@ use tag::read_copies;
 pub use tag::read_tag;
 use text_fields::{Fields, is_at_end};
 
-/// Whether the kind of an air line, where it is there, is one of its kinds.
-fn has_air_kind(mut others: Fields) -> bool
-    ensures { IsTrue result ↔ HasKnownKind Keyword.Air others.entry }
-{
-    if others.next().is_none() {
-        return true;
-    }
-    match others.next() {
-        Some(kind) => value_named::<AirKind>(kind).is_some(),
-        None => true,
-    }
-}
-
-/// Whether the kind of an event line, where it is there, is one of its kinds.
-fn has_event_kind(mut others: Fields) -> bool
-    ensures { IsTrue result ↔ HasKnownKind Keyword.Event others.entry }
-{
-    match others.next() {
-        Some(kind) => value_named::<EventKind>(kind).is_some(),
-        None => true,
-    }
-}
-
-/// Whether the kind of an operation, where it is there, is one of its kinds.
-fn has_op_kind(mut others: Fields) -> bool
-    ensures { IsTrue result ↔ HasKnownKind Keyword.Op others.entry }
-{
-    match others.next() {
-        Some(kind) => value_named::<OpKind>(kind).is_some(),
-        None => true,
-    }
-}
-
-/// Whether a kind that stands behind the first field is one of its kinds.
-fn has_known_kind(keyword: Keyword, others: Fields) -> bool
+/// Whether a kind that stands behind the first field is one of its kinds. That of an air line stands behind the number of
+/// its exchange.
+fn has_known_kind(keyword: Keyword, mut others: Fields) -> bool
     ensures { IsTrue result ↔ HasKnownKind keyword others.entry }
 {
     match keyword {
-        Keyword::Air => has_air_kind(others),
-        Keyword::Event => has_event_kind(others),
-        Keyword::Op => has_op_kind(others),
+        Keyword::Air => {
+            if others.next().is_none() {
+                return true;
+            }
+            match others.next() {
+                Some(kind) => value_named::<AirKind>(kind).is_some(),
+                None => true,
+            }
+        }
+        Keyword::Event => match others.next() {
+            Some(kind) => event_kind_named(kind).is_some(),
+            None => true,
+        },
+        Keyword::Op => match others.next() {
+            Some(kind) => value_named::<OpKind>(kind).is_some(),
+            None => true,
+        },
         _ => true,
     }
 }

@@ -7,10 +7,9 @@ ghost use Rattle.scenario_lines.specs.Spelling.{event_fields};
 ghost use Rattle.scenario_lines.specs.Reading.{IsEventText, MisreadsEvent, MisreadsEventLine, MisreadsNumber};
 ghost use Rattle.scenario_lines.specs.Names.{event_kind, event_word};
 
-use crate::names::expiring_flag_named;
+use crate::names::{event_kind_named, expiring_flag_named};
 use crate::{EventKind, LineFault};
 use air_events::Event;
-use command_text::value_named;
 use text_fields::{Fields, number, one_field, two_fields};
 
 /// The greatest number of a tag or of a reply.
@@ -78,7 +77,7 @@ pub(crate) fn read_event(mut others: Fields) -> Result<(Event, u32), LineFault>
     let Some(kind) = others.next() else {
         return Err(LineFault::Shape);
     };
-    let Some(kind) = value_named(kind) else {
+    let Some(kind) = event_kind_named(kind) else {
         return Err(LineFault::Word);
     };
     event_behind(kind, others)
