@@ -1,7 +1,5 @@
 -- A line that asks for something is not faulty, and a grammatical input has no faulty line.
-use Rattle.std.proofs.Common.{◌≡◌, ◌≢◌, ℕ, List, [], ◌∷◌, length, map, Option, Some, None, refl, sym, ◌∙◌, ap, arith, subst, ◌≤◌, Ok, if◌then◌else◌}
-use Rattle.std.specs.Prelude.{codes}
-use Rattle.std.specs.Str.{bytes_eq}
+use Rattle.std.proofs.Common.{◌≡◌, ◌≢◌, ℕ, List, [], ◌∷◌, length, map, refl, sym, ◌∙◌, arith, subst, ◌≤◌, Ok}
 use Rattle.std.proofs.lemmas.List.Elements.{All-nil, All-cons, All-head, All-tail}
 use Rattle.std.proofs.lemmas.List.{length-map}
 use Rattle.reply_text.specs.ReplyText.{expect_word}
@@ -10,54 +8,24 @@ use Rattle.std.specs.List.{All}
 use Rattle.text_fields.specs.Lines.{fields_of}
 use Rattle.text_fields.specs.Binary.{binary, binary_digit}
 use Rattle.text_fields.specs.CodeNames.{code_word}
-use Rattle.bit_strings.specs.declared.code.Code.TheVariants.{Fm0, M2, M4, M8}
 use Rattle.command_text.proofs.FieldTexts.{bit_is, code_is}
+use Rattle.command_text.proofs.NameLists.{told}
 use Rattle.hex.specs.Hex.{decode_of}
 use Rattle.hex.proofs.OnLiterals.{hex_on_literals}
 use Rattle.std.specs.Fmt.{decimal}
 use Rattle.text_fields.proofs.FieldTextLaws.{IsFieldText-decimal, IsFieldText-binary, IsFieldText-hex_words}
 use Rattle.text_fields.specs.Hexadecimal.{hex_words}
-use Rattle.decode_lines.specs.Request.{most_intervals, request_word, HasDecodeShape, decode_request_kind, AreSpelled, IsWithinDecodeLimits, AsksToDecodeBehind, AsksToDecode, AreFaultyToDecode, IsFaultyToDecode}
+use Rattle.decode_lines.specs.Request.{all_request_kinds, most_intervals, request_kind_found, request_word, HasDecodeShape, decode_request_kind, AreSpelled, IsWithinDecodeLimits, AsksToDecodeBehind, AsksToDecode, AreFaultyToDecode, IsFaultyToDecode}
 use Rattle.decode_lines.specs.declared.request.RequestKind.{RequestKind}
-use Rattle.decode_lines.specs.declared.request.RequestKind.TheVariants.{Stream as StreamKind, Samples as SamplesKind, Reply as ReplyKind, Heard as HeardKind, Pie as PieKind, Command as CommandKind, Sgtin as SgtinKind, Uri as UriKind}
 use Rattle.decode_lines.specs.declared.request.Request.{Request}
 use Rattle.decode_lines.specs.declared.request.Request.TheVariants.{Stream, Samples, Reply, Heard, Pie, Command, Sgtin, Uri}
 use Rattle.checked_lines.specs.declared.fault.FaultReason.{FaultReason}
 use Rattle.checked_lines.specs.declared.fault.FaultReason.TheVariants.{Word, Shape, Number}
 use Rattle.pie_line.specs.Pie.{longest_interval}
 
--- the kind that a first field says
-kind_read : List ℕ → Option RequestKind
-kind_read word =
-    (if bytes_eq word (codes "fm0") then Some (StreamKind Fm0)
-    else (if bytes_eq word (codes "m2") then Some (StreamKind M2)
-    else (if bytes_eq word (codes "m4") then Some (StreamKind M4)
-    else (if bytes_eq word (codes "m8") then Some (StreamKind M8)
-    else (if bytes_eq word (codes "samples") then Some SamplesKind
-    else (if bytes_eq word (codes "reply") then Some ReplyKind
-    else (if bytes_eq word (codes "heard") then Some HeardKind
-    else (if bytes_eq word (codes "pie") then Some PieKind
-    else (if bytes_eq word (codes "command") then Some CommandKind
-    else (if bytes_eq word (codes "sgtin") then Some SgtinKind
-    else (if bytes_eq word (codes "uri") then Some UriKind else None)))))))))))
-
-kind_read_word : (kind : RequestKind) → kind_read (request_word kind) ≡ Some kind
-unfolding kind_read
-kind_read_word (StreamKind Fm0) = refl
-kind_read_word (StreamKind M2) = refl
-kind_read_word (StreamKind M4) = refl
-kind_read_word (StreamKind M8) = refl
-kind_read_word SamplesKind = refl
-kind_read_word ReplyKind = refl
-kind_read_word HeardKind = refl
-kind_read_word PieKind = refl
-kind_read_word CommandKind = refl
-kind_read_word SgtinKind = refl
-kind_read_word UriKind = refl
-
 -- a first field says one kind
 pub kind_told : (a b : RequestKind) → request_word a ≡ request_word b → a ≡ b
-kind_told a b same = let e : Some a ≡ Some b = sym (kind_read_word a) ∙ ap kind_read same ∙ kind_read_word b in cc
+kind_told = told request_word all_request_kinds request_kind_found
 
 abbrev pub Filled : List ℕ → Type 0
 Filled field = field ≢ []

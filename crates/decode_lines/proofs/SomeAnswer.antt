@@ -28,7 +28,7 @@ use Rattle.epc_sgtin.specs.UriFaults.{RefusesUri}
 use Rattle.epc_sgtin.specs.declared.encoding.EpcFault.{EpcFault}
 use Rattle.epc_sgtin.specs.declared.tag_uri.UriFault.{UriFault}
 use Rattle.decode_lines.specs.Request.{IsWithinDecodeLimits}
-use Rattle.decode_lines.specs.Answer.{Answer, IsLineAnswer, streamed, sliced, replied, heard, framed, commanded, named, worded}
+use Rattle.decode_lines.specs.Answer.{Answer, IsLineAnswer, StreamAnswer, SamplesAnswer, ReplyAnswer, HeardAnswer, PieAnswer, CommandAnswer, SgtinAnswer, UriAnswer}
 use Rattle.decode_lines.specs.declared.request.Request.{Request}
 use Rattle.decode_lines.specs.declared.request.Request.TheVariants.{Stream, Samples, Reply as ReplyLine, Heard, Pie, Command as CommandLine, Sgtin as SgtinLine, Uri as UriLine}
 
@@ -67,33 +67,33 @@ abbrev HasAnswer : Request → Type 0
 HasAnswer request = (answer : Answer) × IsLineAnswer request answer
 
 streamed_as : (code : Code) (trext : Bool) (levels : List Bool) (answer : Result (Unit {0}) LineRefusal) → IsStreamAnswer (table_of code) trext levels answer → HasAnswer (Stream code trext levels)
-streamed_as code trext levels (Ok done) is = (streamed (Ok is.0), is.1)
-streamed_as code trext levels (Err refusal) is = (streamed (Err refusal), is)
+streamed_as code trext levels (Ok done) is = (StreamAnswer (Ok is.0), is.1)
+streamed_as code trext levels (Err refusal) is = (StreamAnswer (Err refusal), is)
 
 sliced_as : (threshold per_level : ℕ) (samples : List ℕ) (answer : Result (List Bool) SliceRefusal) → IsSliceAnswer threshold per_level samples answer → HasAnswer (Samples threshold per_level samples)
-sliced_as threshold per_level samples (Ok levels) is = (sliced (Ok levels), is)
-sliced_as threshold per_level samples (Err refusal) is = (sliced (Err refusal), is)
+sliced_as threshold per_level samples (Ok levels) is = (SamplesAnswer (Ok levels), is)
+sliced_as threshold per_level samples (Err refusal) is = (SamplesAnswer (Err refusal), is)
 
 replied_as : (expect : Expect) (bits : List Bool) → ((reply : Reply) × AnswersExpected reply expect bits) ⊎ ((refusal : ReplyRefusal) × RefusesReply refusal expect bits) → HasAnswer (ReplyLine expect bits)
-replied_as expect bits (inl is) = (replied (Ok is.0), is.1)
-replied_as expect bits (inr is) = (replied (Err is.0), is.1)
+replied_as expect bits (inl is) = (ReplyAnswer (Ok is.0), is.1)
+replied_as expect bits (inr is) = (ReplyAnswer (Err is.0), is.1)
 
 framed_as : (intervals : List ℕ) → HasOneAnswer intervals → HasAnswer (Pie intervals)
 framed_as intervals answers = elim answers.some [
-  | inl frame ↦ (framed (Ok (frame.0, frame.1)), frame.2)
+  | inl frame ↦ (PieAnswer (Ok (frame.0, frame.1)), frame.2)
   | inr refused ↦ elim refused [
-    | inl bad ↦ (framed (Err (refusal_at bad.0 (slice_index intervals bad.0))), inl (bad.0, record { bad = bad.1; named = refl }))
-    | inr short ↦ (framed (Err (Unfinished short.0)), inr (short.0, record { short = short.1; named = refl }))
+    | inl bad ↦ (PieAnswer (Err (refusal_at bad.0 (slice_index intervals bad.0))), inl (bad.0, record { bad = bad.1; named = refl }))
+    | inr short ↦ (PieAnswer (Err (Unfinished short.0)), inr (short.0, record { short = short.1; named = refl }))
   ]
 ]
 
 named_as : (words : List ℕ) → ((sgtin : SgtinValue) × IsSgtin sgtin words) ⊎ ((fault : EpcFault) × RefusesEpc fault words) → HasAnswer (SgtinLine words)
-named_as words (inl is) = (named (Ok is.0), is.1)
-named_as words (inr is) = (named (Err is.0), is.1)
+named_as words (inl is) = (SgtinAnswer (Ok is.0), is.1)
+named_as words (inr is) = (SgtinAnswer (Err is.0), is.1)
 
 worded_as : SgtinsHaveAnswers → (text : List ℕ) → ((sgtin : SgtinValue) × IsUriOf sgtin text) ⊎ ((fault : UriFault) × RefusesUri fault text) → HasAnswer (UriLine text)
-worded_as sgtins text (inl is) = let words = sgtins.some_words is.0 is.1.legal in (worded (Ok words.0), (is.0, is.1, words.1))
-worded_as sgtins text (inr is) = (worded (Err is.0), is.1)
+worded_as sgtins text (inl is) = let words = sgtins.some_words is.0 is.1.legal in (UriAnswer (Ok words.0), (is.0, is.1, words.1))
+worded_as sgtins text (inr is) = (UriAnswer (Err is.0), is.1)
 
 -- a request within its limits has an answer
 pub some_answer : StreamsHaveAnswers → SamplesHaveAnswers → RepliesHaveAnswers → LevelsAreReceived → FramesHaveAnswers → CommandsHaveAnswers → SgtinsHaveAnswers
@@ -101,8 +101,8 @@ pub some_answer : StreamsHaveAnswers → SamplesHaveAnswers → RepliesHaveAnswe
 some_answer streams slices replies received frames commands sgtins (Stream code trext levels) within = let is = streams code trext levels in streamed_as code trext levels is.0 is.1
 some_answer streams slices replies received frames commands sgtins (Samples threshold per_level samples) within = let is = slices threshold per_level samples within.1 in sliced_as threshold per_level samples is.0 is.1
 some_answer streams slices replies received frames commands sgtins (ReplyLine expect bits) within = replied_as expect bits (replies expect bits)
-some_answer streams slices replies received frames commands sgtins (Heard code trext expect levels) within = let is = received code trext expect levels in (heard is.0, is.1)
+some_answer streams slices replies received frames commands sgtins (Heard code trext expect levels) within = let is = received code trext expect levels in (HeardAnswer is.0, is.1)
 some_answer streams slices replies received frames commands sgtins (Pie intervals) within = framed_as intervals (frames intervals)
-some_answer streams slices replies received frames commands sgtins (CommandLine bits) within = let is = commands bits in (commanded is.0, is.1)
+some_answer streams slices replies received frames commands sgtins (CommandLine bits) within = let is = commands bits in (CommandAnswer is.0, is.1)
 some_answer streams slices replies received frames commands sgtins (SgtinLine words) within = named_as words (sgtins.words words within.2)
 some_answer streams slices replies received frames commands sgtins (UriLine text) within = worded_as sgtins text (sgtins.texts text)

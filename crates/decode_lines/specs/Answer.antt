@@ -45,38 +45,38 @@ use Rattle.decode_lines.specs.declared.request.Request.TheVariants.{Stream, Samp
 
 pub data Answer : Type 0 where
   -- the levels are the stream of these bits, or are none
-  streamed : Result (List Bool) LineRefusal → Answer
+  StreamAnswer : Result (List Bool) LineRefusal → Answer
   -- the samples stand for these levels, or for none
-  sliced : Result (List Bool) SliceRefusal → Answer
+  SamplesAnswer : Result (List Bool) SliceRefusal → Answer
   -- the bits are this reply, or are none that is expected
-  replied : Result Reply ReplyRefusal → Answer
+  ReplyAnswer : Result Reply ReplyRefusal → Answer
   -- what is heard in the levels
-  heard : Received → Answer
+  HeardAnswer : Received → Answer
   -- the intervals are such a frame with these bits, or are none
-  framed : Result (FrameKind × List Bool) PieRefusal → Answer
+  PieAnswer : Result (FrameKind × List Bool) PieRefusal → Answer
   -- the bits are this command, or are none
-  commanded : Result Command CommandRefusal → Answer
+  CommandAnswer : Result Command CommandRefusal → Answer
   -- the words are those of this SGTIN, or of none
-  named : Result SgtinValue EpcFault → Answer
+  SgtinAnswer : Result SgtinValue EpcFault → Answer
   -- the text is the URI of the SGTIN that has these words, or of none
-  worded : Result (List ℕ) UriFault → Answer
+  UriAnswer : Result (List ℕ) UriFault → Answer
 
 -- the answer is the one to the request
 abbrev pub IsLineAnswer : Request → Answer → Type 0
-IsLineAnswer (Stream code trext levels) (streamed (Ok bits)) = IsStream (table_of code) trext bits levels
-IsLineAnswer (Stream code trext levels) (streamed (Err refusal)) = RefusesStream (Streams (table_of code) trext) levels refusal
-IsLineAnswer (Samples threshold per_level samples) (sliced (Ok levels)) = AreLevels threshold per_level samples levels
-IsLineAnswer (Samples threshold per_level samples) (sliced (Err refusal)) = RefusesSamples threshold per_level samples refusal
-IsLineAnswer (ReplyLine expect bits) (replied (Ok reply)) = AnswersExpected reply expect bits
-IsLineAnswer (ReplyLine expect bits) (replied (Err refusal)) = RefusesReply refusal expect bits
-IsLineAnswer (HeardLine code trext expect levels) (heard received) = IsReceived (table_of code) trext expect levels received
-IsLineAnswer (PieLine intervals) (framed (Ok frame)) = IsFrame frame.0 frame.1 intervals
-IsLineAnswer (PieLine intervals) (framed (Err refusal)) = RefusesFrame refusal intervals
-IsLineAnswer (CommandLine bits) (commanded outcome) = IsFinishAnswer outcome bits
-IsLineAnswer (SgtinLine words) (named (Ok sgtin)) = IsSgtin sgtin words
-IsLineAnswer (SgtinLine words) (named (Err fault)) = RefusesEpc fault words
-IsLineAnswer (UriLine text) (worded (Ok words)) = (sgtin : SgtinValue) × IsUriOf sgtin text × IsSgtin sgtin words
-IsLineAnswer (UriLine text) (worded (Err fault)) = RefusesUri fault text
+IsLineAnswer (Stream code trext levels) (StreamAnswer (Ok bits)) = IsStream (table_of code) trext bits levels
+IsLineAnswer (Stream code trext levels) (StreamAnswer (Err refusal)) = RefusesStream (Streams (table_of code) trext) levels refusal
+IsLineAnswer (Samples threshold per_level samples) (SamplesAnswer (Ok levels)) = AreLevels threshold per_level samples levels
+IsLineAnswer (Samples threshold per_level samples) (SamplesAnswer (Err refusal)) = RefusesSamples threshold per_level samples refusal
+IsLineAnswer (ReplyLine expect bits) (ReplyAnswer (Ok reply)) = AnswersExpected reply expect bits
+IsLineAnswer (ReplyLine expect bits) (ReplyAnswer (Err refusal)) = RefusesReply refusal expect bits
+IsLineAnswer (HeardLine code trext expect levels) (HeardAnswer received) = IsReceived (table_of code) trext expect levels received
+IsLineAnswer (PieLine intervals) (PieAnswer (Ok frame)) = IsFrame frame.0 frame.1 intervals
+IsLineAnswer (PieLine intervals) (PieAnswer (Err refusal)) = RefusesFrame refusal intervals
+IsLineAnswer (CommandLine bits) (CommandAnswer outcome) = IsFinishAnswer outcome bits
+IsLineAnswer (SgtinLine words) (SgtinAnswer (Ok sgtin)) = IsSgtin sgtin words
+IsLineAnswer (SgtinLine words) (SgtinAnswer (Err fault)) = RefusesEpc fault words
+IsLineAnswer (UriLine text) (UriAnswer (Ok words)) = (sgtin : SgtinValue) × IsUriOf sgtin text × IsSgtin sgtin words
+IsLineAnswer (UriLine text) (UriAnswer (Err fault)) = RefusesUri fault text
 IsLineAnswer request answer = ⊥
 
 -- an outcome with what its call left, where that was no refusal
@@ -86,24 +86,24 @@ with_left left (Err refusal) = Err refusal
 
 -- an answer as a line, with its line feed
 abbrev pub line_of_answer : Answer → List ℕ
-line_of_answer (streamed (Ok bits)) = codes "bits " ++ binary bits ++ line_feed ∷ []
-line_of_answer (streamed (Err (Invalid place))) = codes "invalid " ++ decimal place ++ line_feed ∷ []
-line_of_answer (streamed (Err (Unfinished count))) = codes "unfinished " ++ decimal count ++ line_feed ∷ []
-line_of_answer (sliced (Ok levels)) = codes "levels " ++ binary levels ++ line_feed ∷ []
-line_of_answer (sliced (Err (Mixed place))) = codes "mixed " ++ decimal place ++ line_feed ∷ []
-line_of_answer (sliced (Err (Rest place))) = codes "rest " ++ decimal place ++ line_feed ∷ []
-line_of_answer (replied (Ok reply)) = reply_line reply ++ line_feed ∷ []
-line_of_answer (replied (Err refusal)) = refusal_line refusal ++ line_feed ∷ []
-line_of_answer (heard (Whole reply)) = reply_line reply ++ line_feed ∷ []
-line_of_answer (heard (Refused place)) = codes "refused " ++ decimal place ++ line_feed ∷ []
-line_of_answer (framed (Ok frame)) = frame_line frame.0 frame.1 ++ line_feed ∷ []
-line_of_answer (framed (Err refusal)) = pie_refusal_line refusal ++ line_feed ∷ []
-line_of_answer (commanded (Ok command)) = command_line command ++ line_feed ∷ []
-line_of_answer (commanded (Err refusal)) = command_refusal_line refusal ++ line_feed ∷ []
-line_of_answer (named (Ok sgtin)) = name_line sgtin ++ line_feed ∷ []
-line_of_answer (named (Err fault)) = epc_fault_line fault ++ line_feed ∷ []
-line_of_answer (worded (Ok words)) = sgtin_words_line words ++ line_feed ∷ []
-line_of_answer (worded (Err fault)) = uri_fault_line fault ++ line_feed ∷ []
+line_of_answer (StreamAnswer (Ok bits)) = codes "bits " ++ binary bits ++ line_feed ∷ []
+line_of_answer (StreamAnswer (Err (Invalid place))) = codes "invalid " ++ decimal place ++ line_feed ∷ []
+line_of_answer (StreamAnswer (Err (Unfinished count))) = codes "unfinished " ++ decimal count ++ line_feed ∷ []
+line_of_answer (SamplesAnswer (Ok levels)) = codes "levels " ++ binary levels ++ line_feed ∷ []
+line_of_answer (SamplesAnswer (Err (Mixed place))) = codes "mixed " ++ decimal place ++ line_feed ∷ []
+line_of_answer (SamplesAnswer (Err (Rest place))) = codes "rest " ++ decimal place ++ line_feed ∷ []
+line_of_answer (ReplyAnswer (Ok reply)) = reply_line reply ++ line_feed ∷ []
+line_of_answer (ReplyAnswer (Err refusal)) = refusal_line refusal ++ line_feed ∷ []
+line_of_answer (HeardAnswer (Whole reply)) = reply_line reply ++ line_feed ∷ []
+line_of_answer (HeardAnswer (Refused place)) = codes "refused " ++ decimal place ++ line_feed ∷ []
+line_of_answer (PieAnswer (Ok frame)) = frame_line frame.0 frame.1 ++ line_feed ∷ []
+line_of_answer (PieAnswer (Err refusal)) = pie_refusal_line refusal ++ line_feed ∷ []
+line_of_answer (CommandAnswer (Ok command)) = command_line command ++ line_feed ∷ []
+line_of_answer (CommandAnswer (Err refusal)) = command_refusal_line refusal ++ line_feed ∷ []
+line_of_answer (SgtinAnswer (Ok sgtin)) = name_line sgtin ++ line_feed ∷ []
+line_of_answer (SgtinAnswer (Err fault)) = epc_fault_line fault ++ line_feed ∷ []
+line_of_answer (UriAnswer (Ok words)) = sgtin_words_line words ++ line_feed ∷ []
+line_of_answer (UriAnswer (Err fault)) = uri_fault_line fault ++ line_feed ∷ []
 
 -- what is said of one decode line
 abbrev pub decode_rules : LineRules Request Answer

@@ -1,5 +1,5 @@
 -- Profile: the decode lines. A line is a list of fields; the first says what is asked for.
-use Rattle.std.specs.Prelude.{◌≡◌, ◌≢◌, ℕ, ◌^◌, ◌<◌, ◌≤◌, List, [], ◌∷◌, length, map, codes, Ok}
+use Rattle.std.specs.Prelude.{◌≡◌, ◌≢◌, ℕ, ◌^◌, ◌<◌, ◌≤◌, List, [], ◌∷◌, length, map, codes, Ok, refl}
 use Rattle.std.specs.List.{All}
 use Rattle.std.specs.Fmt.{decimal}
 use Rattle.hex.specs.Hex.{decode_of}
@@ -7,6 +7,8 @@ use Rattle.text_fields.specs.Lines.{fields_of}
 use Rattle.text_fields.specs.Binary.{binary, binary_digit}
 use Rattle.text_fields.specs.Hexadecimal.{hex_words}
 use Rattle.text_fields.specs.CodeNames.{code_word}
+use Rattle.bit_strings.specs.declared.code.Code.TheVariants.{Fm0, M2, M4, M8}
+use Rattle.command_text.specs.NameLists.{EachFound}
 use Rattle.reply_text.specs.ReplyText.{expect_word, IsExpect}
 use Rattle.decode_lines.specs.declared.request.RequestKind.{RequestKind}
 use Rattle.decode_lines.specs.declared.request.RequestKind.TheVariants.{Stream as StreamKind, Samples as SamplesKind, Reply as ReplyKind, Heard as HeardKind, Pie as PieKind, Command as CommandKind, Sgtin as SgtinKind, Uri as UriKind}
@@ -40,10 +42,17 @@ request_word CommandKind = codes "command"
 request_word SgtinKind = codes "sgtin"
 request_word UriKind = codes "uri"
 
--- the first field is no name of a line code
-abbrev pub NamesNoCode : RequestKind → Type 0
-NamesNoCode (StreamKind code) = ⊥
-NamesNoCode kind = Unit {0}
+-- all kinds, each of which has a word of its own
+abbrev pub all_request_kinds : List RequestKind
+all_request_kinds =
+    StreamKind Fm0 ∷ StreamKind M2 ∷ StreamKind M4 ∷ StreamKind M8 ∷ SamplesKind ∷ ReplyKind ∷ HeardKind ∷ PieKind ∷ CommandKind ∷ SgtinKind ∷ UriKind ∷ []
+
+pub request_kind_found : EachFound request_word all_request_kinds
+request_kind_found (StreamKind Fm0) = refl
+request_kind_found (StreamKind M2) = refl
+request_kind_found (StreamKind M4) = refl
+request_kind_found (StreamKind M8) = refl
+request_kind_found kind = refl
 
 -- how many fields may stand behind the first
 abbrev pub MayHave : RequestKind → ℕ → Type 0

@@ -4,7 +4,7 @@ ghost use Rattle.std.specs.Fmt.{decimal};
 ghost use Rattle.std.specs.String.{string_bytes};
 ghost use Rattle.text_fields.specs.Binary.{binary};
 ghost use Rattle.text_fields.specs.Lines.{line_feed};
-ghost use Rattle.decode_lines.specs.Answer.{line_of_answer, streamed, sliced, replied, heard, framed, commanded, named, worded, with_left};
+ghost use Rattle.decode_lines.specs.Answer.{line_of_answer, StreamAnswer, SamplesAnswer, ReplyAnswer, HeardAnswer, PieAnswer, CommandAnswer, SgtinAnswer, UriAnswer, with_left};
 
 use bit_strings::{Bits, Levels, OutOfMemory};
 use command_grammar::{Command, CommandRefusal};
@@ -46,7 +46,7 @@ pub(crate) fn push_outcome(
     bits: &Bits,
 ) -> Result<(), OutOfMemory>
     ensures { OnOk result (string_bytes text.new ≡ string_bytes text.old
-        ++ line_of_answer (streamed (with_left (λ done. bits.now.items) outcome))) }
+        ++ line_of_answer (StreamAnswer (with_left (λ done. bits.now.items) outcome))) }
 {
     match outcome {
         Ok(()) => push_bits_line(text, "bits ", bits.as_slice()),
@@ -62,7 +62,7 @@ pub(crate) fn push_slicing(
     levels: &Levels,
 ) -> Result<(), OutOfMemory>
     ensures { OnOk result (string_bytes text.new ≡ string_bytes text.old
-        ++ line_of_answer (sliced (with_left (λ done. levels.now.items) outcome))) }
+        ++ line_of_answer (SamplesAnswer (with_left (λ done. levels.now.items) outcome))) }
 {
     match outcome {
         Ok(()) => push_bits_line(text, "levels ", levels.as_slice()),
@@ -77,7 +77,7 @@ pub(crate) fn push_replied(
     outcome: &Result<Reply, ReplyRefusal>,
 ) -> Result<(), OutOfMemory>
     ensures { OnOk result (string_bytes text.new ≡ string_bytes text.old
-        ++ line_of_answer (replied outcome.now)) }
+        ++ line_of_answer (ReplyAnswer outcome.now)) }
 {
     match outcome {
         Ok(reply) => push_reply(text, reply)?,
@@ -89,7 +89,7 @@ pub(crate) fn push_replied(
 /// Adds what was received, as a line.
 pub(crate) fn push_received(text: &mut String, received: &Received) -> Result<(), OutOfMemory>
     ensures { OnOk result (string_bytes text.new ≡ string_bytes text.old
-        ++ line_of_answer (heard received.now)) }
+        ++ line_of_answer (HeardAnswer received.now)) }
 {
     match received {
         Received::Whole(reply) => {
@@ -107,7 +107,7 @@ pub(crate) fn push_framed(
     bits: &Bits,
 ) -> Result<(), OutOfMemory>
     ensures { OnOk result (string_bytes text.new ≡ string_bytes text.old
-        ++ line_of_answer (framed (with_left (λ kind. (kind, bits.now.items)) outcome.now))) }
+        ++ line_of_answer (PieAnswer (with_left (λ kind. (kind, bits.now.items)) outcome.now))) }
 {
     match outcome {
         Ok(kind) => push_frame(text, kind, bits)?,
@@ -122,7 +122,7 @@ pub(crate) fn push_commanded(
     outcome: &Result<Command, CommandRefusal>,
 ) -> Result<(), OutOfMemory>
     ensures { OnOk result (string_bytes text.new ≡ string_bytes text.old
-        ++ line_of_answer (commanded outcome.now)) }
+        ++ line_of_answer (CommandAnswer outcome.now)) }
 {
     match outcome {
         Ok(command) => push_command(text, command)?,
@@ -137,7 +137,7 @@ pub(crate) fn push_named(
     outcome: &Result<Sgtin, EpcFault>,
 ) -> Result<(), OutOfMemory>
     ensures { OnOk result (string_bytes text.new ≡ string_bytes text.old
-        ++ line_of_answer (named outcome.now)) }
+        ++ line_of_answer (SgtinAnswer outcome.now)) }
 {
     match outcome {
         Ok(sgtin) => push_name(text, sgtin)?,
@@ -152,7 +152,7 @@ pub(crate) fn push_worded(
     outcome: &Result<[u16; 6], UriFault>,
 ) -> Result<(), OutOfMemory>
     ensures { OnOk result (string_bytes text.new ≡ string_bytes text.old
-        ++ line_of_answer (worded outcome.now)) }
+        ++ line_of_answer (UriAnswer outcome.now)) }
 {
     match outcome {
         Ok(words) => push_sgtin_words(text, words)?,

@@ -1,17 +1,18 @@
 //! A decode line, read.
 ghost use Rattle.std.specs.Prelude.{◌≡◌, ◌≢◌, ◌≤◌, ℕ, List, ◌∷◌, IfOk, IfErr, IfSome, IfNone, IsOk};
 ghost use Rattle.text_fields.specs.Lines.{fields_of};
-ghost use Rattle.decode_lines.specs.Request.{request_word, NamesNoCode, AsksToDecodeBehind, AreFaultyToDecode, most_intervals};
+ghost use Rattle.decode_lines.specs.Request.{all_request_kinds, request_kind_found, request_word, AsksToDecodeBehind, AreFaultyToDecode, most_intervals};
 
 use crate::raw_field::RawField;
 use bit_strings::Code;
 use checked_lines::{FaultReason, heard_as};
+use command_text::{Named, value_named};
 use pie_line::Intervals;
 use pie_text::{NotNumbers, Numbers, read_numbers};
 use reply_grammar::Expect;
 use reply_text::expect_of;
 use text_fields::{
-    Digits, Fields, HexBytes, Words, code_named, four_fields, number, one_bit, one_field,
+    Digits, Fields, HexBytes, Words, four_fields, name_of, number, one_bit, one_field,
     three_fields, two_fields,
 };
 
@@ -102,39 +103,40 @@ pub enum Request<'a> {
     },
 }
 
-/// What a first field says; none exactly where no line begins with it.
-fn kind_of(word: &[u8]) -> Option<RequestKind>
-    ensures found { IfSome result (λ kind. word.now ≡ request_word kind) }
-    ensures none { IfNone result ((kind : RequestKind) → word.now ≢ request_word kind) }
-{
-    match code_named(word) {
-        Some(code) => Some(RequestKind::Stream(code)),
-        None => other_kind(word),
-    }
-}
+impl Named for RequestKind {
+    ghost word = { request_word };
 
-/// What a first field says that names no line code.
-fn other_kind(word: &[u8]) -> Option<RequestKind>
-    ensures found { IfSome result (λ kind. word.now ≡ request_word kind) }
-    ensures none { IfNone result
-        ((kind : RequestKind) → NamesNoCode kind → word.now ≢ request_word kind) }
-{
-    if word == b"samples".as_slice() {
-        Some(RequestKind::Samples)
-    } else if word == b"reply".as_slice() {
-        Some(RequestKind::Reply)
-    } else if word == b"heard".as_slice() {
-        Some(RequestKind::Heard)
-    } else if word == b"pie".as_slice() {
-        Some(RequestKind::Pie)
-    } else if word == b"command".as_slice() {
-        Some(RequestKind::Command)
-    } else if word == b"sgtin".as_slice() {
-        Some(RequestKind::Sgtin)
-    } else if word == b"uri".as_slice() {
-        Some(RequestKind::Uri)
-    } else {
-        None
+    ghost values = { all_request_kinds };
+
+    ghost finds = { request_kind_found };
+
+    fn all() -> &'static [RequestKind] {
+        &[
+            RequestKind::Stream(Code::Fm0),
+            RequestKind::Stream(Code::M2),
+            RequestKind::Stream(Code::M4),
+            RequestKind::Stream(Code::M8),
+            RequestKind::Samples,
+            RequestKind::Reply,
+            RequestKind::Heard,
+            RequestKind::Pie,
+            RequestKind::Command,
+            RequestKind::Sgtin,
+            RequestKind::Uri,
+        ]
+    }
+
+    fn name(self) -> &'static str {
+        match self {
+            RequestKind::Stream(code) => name_of(code),
+            RequestKind::Samples => "samples",
+            RequestKind::Reply => "reply",
+            RequestKind::Heard => "heard",
+            RequestKind::Pie => "pie",
+            RequestKind::Command => "command",
+            RequestKind::Sgtin => "sgtin",
+            RequestKind::Uri => "uri",
+        }
     }
 }
 
@@ -148,7 +150,7 @@ pub fn kind_of_line(line: &[u8]) -> Option<(RequestKind, Fields<'_>)>
 {
     let mut fields = Fields::new(line);
     let word = fields.next()?;
-    Some((kind_of(word)?, fields))
+    Some((value_named::<RequestKind>(word)?, fields))
 }
 
 /// What a line of this kind asks for, by its other fields, or the first reason for which it asks for nothing. The

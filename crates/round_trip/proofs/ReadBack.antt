@@ -31,7 +31,7 @@ use Rattle.reply_grammar.specs.declared.expected.Reply.TheVariants.{Rn16, Epc, H
 use Rattle.reply_grammar.specs.declared.expected.Received.TheVariants.{Whole}
 use Rattle.reply_text.specs.ReplyText.{expect_word, IsExpect, IsReplyForm}
 use Rattle.reply_text.proofs.FieldTexts.{expect_word_is_field_text}
-use Rattle.decode_lines.specs.Answer.{Answer, IsLineAnswer, line_of_answer, streamed, framed, commanded, replied, heard}
+use Rattle.decode_lines.specs.Answer.{Answer, IsLineAnswer, line_of_answer, StreamAnswer, PieAnswer, CommandAnswer, ReplyAnswer, HeardAnswer}
 use Rattle.decode_lines.specs.DecodeLines.{Decodes}
 use Rattle.decode_lines.specs.Request.{AsksToDecodeBehind, request_word}
 use Rattle.decode_lines.specs.declared.request.RequestKind.{RequestKind}
@@ -90,11 +90,11 @@ numbers_are (n ∷ numbers) within =
 
 -- the stream of bits that are no more than those of the longest reply has room in a line
 stream_back : (code : Code) (trext : Bool) (bits : List Bool) → length bits ≤ 8225
-    → Decodes (written_line (code_word code ∷ (binary_digit trext ∷ []) ∷ binary (stream_of (table_of code) trext bits) ∷ [])) (line_of_answer (streamed (Ok bits)))
+    → Decodes (written_line (code_word code ∷ (binary_digit trext ∷ []) ∷ binary (stream_of (table_of code) trext bits) ∷ [])) (line_of_answer (StreamAnswer (Ok bits)))
 stream_back code trext bits few =
     let levels = stream_of (table_of code) trext bits in
     let most = stream_most code trext bits in
-    decodes_line (kinds.Stream code) ((binary_digit trext ∷ []) ∷ binary levels ∷ []) (decode.Stream code trext levels) (streamed (Ok bits))
+    decodes_line (kinds.Stream code) ((binary_digit trext ∷ []) ∷ binary levels ∷ []) (decode.Stream code trext levels) (StreamAnswer (Ok bits))
     (with _ _ (code_is code) (with _ _ (bit_is trext) (only _ (IsFieldText-binary levels))))
     (record { same_kind = refl; spelling = refl; limits = omega (arith, few, most) }) refl
 
@@ -106,20 +106,20 @@ pub record WrittenLaws : Type 0 where
   pub short : (command : OneCommand) (bits : List Bool) → SpellsCommand command bits → length bits ≤ 4162
 
 wave_back : WrittenLaws → (link : LinkValue) (lead : Lead) (bits : List Bool) → IsLegalLink link → length bits ≤ 8240
-    → Decodes (written_line (codes "pie" ∷ map decimal (wave_of link lead bits))) (line_of_answer (framed (Ok (frame_kind_of link lead, bits))))
+    → Decodes (written_line (codes "pie" ∷ map decimal (wave_of link lead bits))) (line_of_answer (PieAnswer (Ok (frame_kind_of link lead, bits))))
 wave_back laws link lead bits legal few =
     let wave = wave_of link lead bits in
     let size = length-wave link lead bits in
     let small = laws.each link lead bits legal in
-    decodes_line kinds.Pie (map decimal wave) (decode.Pie wave) (framed (Ok (frame_kind_of link lead, bits)))
+    decodes_line kinds.Pie (map decimal wave) (decode.Pie wave) (PieAnswer (Ok (frame_kind_of link lead, bits)))
     (with _ _ pie_is (numbers_are wave small))
     (record { same_kind = refl; spelling = refl; limits = (size.0, omega (arith, few, size.1), small) }) (laws.frame link lead bits legal)
 
 command_back : WrittenLaws → (command : OneCommand) → IsLegalCommand command
-    → Decodes (written_line (codes "command" ∷ binary (spelling_of command) ∷ [])) (line_of_answer (commanded (Ok command)))
+    → Decodes (written_line (codes "command" ∷ binary (spelling_of command) ∷ [])) (line_of_answer (CommandAnswer (Ok command)))
 command_back laws command legal =
     let spells : SpellsCommand command (spelling_of command) = record { legal = legal; spelled = refl } in
-    decodes_line kinds.Command (binary (spelling_of command) ∷ []) (decode.Command (spelling_of command)) (commanded (Ok command))
+    decodes_line kinds.Command (binary (spelling_of command) ∷ []) (decode.Command (spelling_of command)) (CommandAnswer (Ok command))
     (with _ _ command_is (only _ (IsFieldText-binary (spelling_of command))))
     (record { same_kind = refl; spelling = refl; limits = omega (arith, laws.short command (spelling_of command) spells) }) spells
 
@@ -157,22 +157,22 @@ reply_few : (expect : Expect) (reply : Reply) → IsReplyForm reply → IsAllowe
 reply_few expect reply form allowed = (spelling-within reply (handle_of expect) (allowed_range expect reply form allowed) (form_fits reply form)).1
 
 reply_back : (expect : Expect) (reply : Reply) → IsExpect expect → IsReplyForm reply → IsAllowedReply expect reply
-    → Decodes (written_line (codes "reply" ∷ expect_word expect ∷ binary (reply_bits expect reply) ∷ [])) (line_of_answer (replied (Ok reply)))
+    → Decodes (written_line (codes "reply" ∷ expect_word expect ∷ binary (reply_bits expect reply) ∷ [])) (line_of_answer (ReplyAnswer (Ok reply)))
 reply_back expect reply is form allowed =
     let bits = reply_bits expect reply in
-    decodes_line kinds.Reply (expect_word expect ∷ binary bits ∷ []) (decode.Reply expect bits) (replied (Ok reply))
+    decodes_line kinds.Reply (expect_word expect ∷ binary bits ∷ []) (decode.Reply expect bits) (ReplyAnswer (Ok reply))
     (with _ _ reply_is (with _ _ (expect_word_is_field_text expect is) (only _ (IsFieldText-binary bits))))
     (record { same_kind = refl; spelling = refl; limits = (is, omega (arith, reply_few expect reply form allowed)) })
     (reply_answers expect reply is form allowed)
 
 heard_back : (code : Code) (trext : Bool) (expect : Expect) (reply : Reply) → IsExpect expect → IsReplyForm reply → IsAllowedReply expect reply
     → Decodes (written_line (codes "heard" ∷ code_word code ∷ (binary_digit trext ∷ []) ∷ expect_word expect ∷ binary (stream_of (table_of code) trext (reply_bits expect reply)) ∷ []))
-    (line_of_answer (heard (Whole reply)))
+    (line_of_answer (HeardAnswer (Whole reply)))
 heard_back code trext expect reply is form allowed =
     let bits = reply_bits expect reply in
     let levels = stream_of (table_of code) trext bits in
     let most = stream_most code trext bits in
-    decodes_line kinds.Heard (code_word code ∷ (binary_digit trext ∷ []) ∷ expect_word expect ∷ binary levels ∷ []) (decode.Heard code trext expect levels) (heard (Whole reply))
+    decodes_line kinds.Heard (code_word code ∷ (binary_digit trext ∷ []) ∷ expect_word expect ∷ binary levels ∷ []) (decode.Heard code trext expect levels) (HeardAnswer (Whole reply))
     (with _ _ heard_is (with _ _ (code_is code) (with _ _ (bit_is trext) (with _ _ (expect_word_is_field_text expect is) (only _ (IsFieldText-binary levels))))))
     (record { same_kind = refl; spelling = refl; limits = (is, omega (arith, reply_few expect reply form allowed, most)) })
     (record { bits = bits; stream = refl; answers = reply_answers expect reply is form allowed })
@@ -185,14 +185,14 @@ of_reply expect reply written fields text (inr (none, same)) back = inl (codes "
 
 request_back : WrittenLaws → (request : Request) (fields : List (List ℕ)) → IsWithinEncodeLimits request → AreWritten request fields → IsReadBack request fields
 request_back laws (Stream code trext bits) fields within written =
-    inr (subst (λ f. Decodes (written_line f) (line_of_answer (streamed (Ok bits)))) (sym written) (stream_back code trext bits within))
+    inr (subst (λ f. Decodes (written_line f) (line_of_answer (StreamAnswer (Ok bits)))) (sym written) (stream_back code trext bits within))
 request_back laws (Pie durations lead bits) fields within (inl wave) =
     let link = link_of durations in
-    inr (subst (λ f. Decodes (written_line f) (line_of_answer (framed (Ok (frame_kind_of link lead, bits))))) (sym wave.wave)
+    inr (subst (λ f. Decodes (written_line f) (line_of_answer (PieAnswer (Ok (frame_kind_of link lead, bits))))) (sym wave.wave)
     (wave_back laws link lead bits wave.legal within.1))
 request_back laws (Pie durations lead bits) fields within (inr refused) = inl (refusal_word refused.refusal, refused.refused)
 request_back laws (Command command) fields within written =
-    inr (subst (λ f. Decodes (written_line f) (line_of_answer (commanded (Ok command)))) (sym written) (command_back laws command within))
+    inr (subst (λ f. Decodes (written_line f) (line_of_answer (CommandAnswer (Ok command)))) (sym written) (command_back laws command within))
 request_back laws (ReplyLine expect reply) fields within written = of_reply expect reply _ fields _ written (reply_back expect reply within.0 within.1)
 request_back laws (Heard code trext expect reply) fields within written = of_reply expect reply _ fields _ written (heard_back code trext expect reply within.0 within.1)
 

@@ -1,6 +1,6 @@
 use Rattle.std.proofs.Common.{◌∙◌}
 use Rattle.std.proofs.lemmas.Result.{on_ok_weaker}
-use Rattle.decode_lines.specs.Answer.{sliced, with_left}
+use Rattle.decode_lines.specs.Answer.{SamplesAnswer, with_left}
 use Rattle.decode_lines.proofs.RightAnswers.{sliced_right}
 use Rattle.decode_lines.proofs.answer.Rooms.answer_samples.Goals as goal
 
@@ -9,4 +9,4 @@ returns c =
     let same = c.deref.ensures.value ∙ c.in_ok-read_samples.ensures in
     let levels = c.slice_levels-outcome.new.out.items in
     let right = sliced_right c.args.threshold c.args.per_level c.args.samples.now _ levels c.slice_levels-outcome.result same c.slice_levels-outcome.ensures.ok c.slice_levels-outcome.ensures.refused in
-    on_ok_weaker c.push_slicing.result (λ line. record { answer = sliced (with_left (λ done. levels) c.slice_levels-outcome.result); right = right; line = line }) c.push_slicing.ensures
+    on_ok_weaker c.push_slicing.result (λ line. record { answer = SamplesAnswer (with_left (λ done. levels) c.slice_levels-outcome.result); right = right; line = line }) c.push_slicing.ensures
