@@ -57,7 +57,7 @@ pub record PlayedTo (begun : Beginning) (to : Place) : Type 0 where
   pub goes : (effects : List StimulusEffect) → AllZip HasEffect left effects → GoesBy begun.first begun.said (sent ++ to.waiting) to.number to.tag effects
 
 pub none_played : (begun : Beginning) (behind : List (List ℕ)) (waiting : List ℕ) → SayStimuli behind begun.said → waiting ≡ []
-    → PlayedTo begun (record { number = first_number; tag = begun.first; left = behind; waiting = waiting; written = begun.written })
+    → PlayedTo begun (place first_number begun.first behind waiting begun.written)
 none_played begun behind waiting say none = record {
   sent = [];
   added = Adds-nothing begun.written;
@@ -68,34 +68,26 @@ none_played begun behind waiting say none = record {
       record { all = effects; each = each; told = ap (λ (w : List ℕ). w ++ probe_text_from first_number begun.first effects) (sym none) };
 }
 
--- what is done next is the first of what is left
-pub record Next (left : List Stimulus) : Type 0 where
-  pub stimulus : Stimulus
-  pub behind : List (List ℕ)
-  pub others : List Stimulus
-  pub is : left ≡ stimulus ∷ others
-  pub say : SayStimuli behind others
-
 -- a piece more behind a text of two parts, and a text behind it
 piece_behind : (sent waiting waiting' piece rest : List ℕ) → waiting' ≡ waiting ++ piece → (sent ++ waiting) ++ (piece ++ rest) ≡ (sent ++ waiting') ++ rest
 piece_behind sent waiting waiting' piece rest is =
     sym (append_assoc (sent ++ waiting) piece rest)
     ∙ ap (λ (t : List ℕ). t ++ rest) (append_assoc sent waiting piece ∙ ap (λ (t : List ℕ). sent ++ t) (sym is))
 
--- one effect more
-pub one_played : (begun : Beginning) (from : Place) (tag : TagValue) (waiting : List ℕ) (so_far : PlayedTo begun from) (next : Next so_far.left)
-    → TellsNext from.number from.tag next.stimulus tag from.waiting waiting
-    → PlayedTo begun (record { number = from.number + 1; tag = tag; left = next.behind; waiting = waiting; written = from.written })
-one_played begun from tag waiting so_far next told =
+-- one effect more: what is done next is the first of what is left
+pub one_played : (begun : Beginning) (from : Place) (tag : TagValue) (behind : List (List ℕ)) (waiting : List ℕ) (stimulus : Stimulus) (so_far : PlayedTo begun from)
+    → ((others : List Stimulus) × (so_far.left ≡ stimulus ∷ others) × SayStimuli behind others) → TellsNext from.number from.tag stimulus tag from.waiting waiting
+    → PlayedTo begun (place (from.number + 1) tag behind waiting from.written)
+one_played begun from tag behind waiting stimulus so_far next told =
     let piece : List ℕ = text_with (probe_lines_behind from.number told.effect from.tag) in
     record {
       sent = so_far.sent;
       added = so_far.added;
-      left = next.others;
-      say = next.say;
-      count = let count = so_far.count in let length_is = ap length next.is in omega arith;
+      left = next.0;
+      say = next.2;
+      count = let count = so_far.count in let length_is = ap length next.1 in omega arith;
       goes = λ effects each.
-          let by = so_far.goes (told.effect ∷ effects) (subst (λ (list : List Stimulus). AllZip HasEffect list (told.effect ∷ effects)) (sym next.is) (told.has, each)) in
+          let by = so_far.goes (told.effect ∷ effects) (subst (λ (list : List Stimulus). AllZip HasEffect list (told.effect ∷ effects)) (sym next.1) (told.has, each)) in
           record {
             all = by.all;
             each = by.each;

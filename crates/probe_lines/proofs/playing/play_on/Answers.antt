@@ -4,7 +4,7 @@ use Rattle.tag_machine.specs.Hearing.{tag_value_of}
 use Rattle.report_lines.specs.declared.mode.PlayFault.TheVariants.{OutOfMemory}
 use Rattle.probe_lines.specs.Said.{stimulus_with}
 use Rattle.probe_lines.specs.Played.{HasPlayed}
-use Rattle.probe_lines.proofs.PlayedParts.{Next, all_told, beginning, handed_on, last_told, no_memory, none_played, one_played, place, some_sent, stop_played}
+use Rattle.probe_lines.proofs.PlayedParts.{all_told, beginning, handed_on, last_told, no_memory, none_played, one_played, place, some_sent, stop_played}
 use Rattle.probe_lines.proofs.playing.play_on.Goals as goal
 
 pub loop-stimulus-init : goal.loop-stimulus-init
@@ -29,12 +29,9 @@ returns-in_err-write_page g c = λ said are.
     let begun = beginning (tag_value_of c.args.first) said (g.O.Sink.written c.args.out.now) (g.O.Sink.faults c.args.out.now) in
     let from = place c.loop-stimulus.number (tag_value_of c.loop-stimulus.tag) c.loop-stimulus.left (string_bytes c.loop-stimulus.rooms.text) (g.O.Sink.written c.loop-stimulus.out) in
     let so_far = c.loop-stimulus.invariant.played said are in
-    let some = c.in-Some.ensures.some.1 so_far.left so_far.say in
-    let next : Next so_far.left =
-    record { stimulus = stimulus_with c.in-Some.stimulus c.next_to.new.command; behind = c.next_to.new.self; others = some.0; is = some.1; say = some.2 } in
-    let waiting = string_bytes c.play_next.new.self.text in
-    let played = one_played begun from (tag_value_of c.in_ok-tag.tag) waiting so_far next c.in_ok-tag.ensures in
-    let behind = place (from.number + 1) (tag_value_of c.in_ok-tag.tag) next.behind waiting from.written in
+    let behind = place (from.number + 1) (tag_value_of c.in_ok-tag.tag) c.next_to.new.self (string_bytes c.play_next.new.self.text) from.written in
+    let played = one_played begun from behind.tag behind.left behind.waiting (stimulus_with c.in-Some.stimulus c.next_to.new.command) so_far
+    (c.in-Some.ensures.some.1 so_far.left so_far.say) c.in_ok-tag.ensures in
     let cause = c.from_residual-in_err-write_page in
     handed_on cause.result c.in_err-write_page.field-0.0 (HasPlayed begun.first said begun.written _ begun.faults _) cause.ensures.1
     (stop_played c.stimuli_have_one_effect.ensures.some begun behind _ _ c.in_err-write_page.field-0.0 played
@@ -52,12 +49,9 @@ loop-stimulus-preserved g c = record {
       let begun = beginning (tag_value_of c.args.first) said (g.O.Sink.written c.args.out.now) (g.O.Sink.faults c.args.out.now) in
       let from = place c.loop-stimulus.number (tag_value_of c.loop-stimulus.tag) c.loop-stimulus.left (string_bytes c.loop-stimulus.rooms.text) (g.O.Sink.written c.loop-stimulus.out) in
       let so_far = c.loop-stimulus.invariant.played said are in
-      let some = c.in-Some.ensures.some.1 so_far.left so_far.say in
-      let next : Next so_far.left =
-      record { stimulus = stimulus_with c.in-Some.stimulus c.next_to.new.command; behind = c.next_to.new.self; others = some.0; is = some.1; say = some.2 } in
-      let waiting = string_bytes c.play_next.new.self.text in
-      let played = one_played begun from (tag_value_of c.in_ok-tag.tag) waiting so_far next c.in_ok-tag.ensures in
-      let behind = place (from.number + 1) (tag_value_of c.in_ok-tag.tag) next.behind waiting from.written in
+      let behind = place (from.number + 1) (tag_value_of c.in_ok-tag.tag) c.next_to.new.self (string_bytes c.play_next.new.self.text) from.written in
+      let played = one_played begun from behind.tag behind.left behind.waiting (stimulus_with c.in-Some.stimulus c.next_to.new.command) so_far
+      (c.in-Some.ensures.some.1 so_far.left so_far.say) c.in_ok-tag.ensures in
       some_sent begun behind _ _ played c.in_ok-write_page.ensures.sent;
   steady = c.in_ok-write_page.ensures.steady ∙ c.loop-stimulus.invariant.steady;
 }
