@@ -1,5 +1,5 @@
 -- An encode line asks for one thing at most, or is faulty for one reason, and not both.
-use Rattle.std.proofs.Common.{◌≡◌, ℕ, ◌≤◌, List, [], ◌∷◌, drop, refl, sym, ◌∙◌, subst, arith, inl, inr}
+use Rattle.std.proofs.Common.{rules, ◌≡◌, ℕ, ◌≤◌, List, [], ◌∷◌, drop, refl, sym, ◌∙◌, subst, arith, inl, inr}
 use Rattle.std.specs.Fmt.{decimal}
 use Rattle.text_fields.specs.Lines.{fields_of}
 use Rattle.text_fields.specs.Binary.{binary, binary_digit}
@@ -45,8 +45,7 @@ one_reading kind kind' others others' same =
 lead_told : (one other : Lead) → lead_word one ≡ lead_word other → one ≡ other
 lead_told Preamble Preamble same = refl
 lead_told FrameSync FrameSync same = refl
-lead_told Preamble FrameSync same = cc
-lead_told FrameSync Preamble same = cc
+lead_told one other same = cc
 
 duration_told : (one other : ℕ) → one ≤ 999999 → other ≤ 999999 → decimal one ≡ decimal other → one ≡ other
 duration_told one other few few' = decimal_told one other (omega arith) (omega arith)
@@ -163,18 +162,9 @@ not_faulty line request reason asks faulty = behind_not_faulty line request reas
 -- the fields behind the first are faulty for one reason
 same_fault : (kind : LineKind) (others : List (List ℕ)) (one other : FaultReason) → AreFaultyToEncode kind others one → AreFaultyToEncode kind others other → one ≡ other
 same_fault kind others Word Word left right = refl
-same_fault kind others Word Shape left right = absurd (right.0 left)
-same_fault kind others Word Number left right = absurd (shaped_named kind others right.0 left)
-same_fault kind others Shape Word left right = absurd (left.0 right)
 same_fault kind others Shape Shape left right = refl
-same_fault kind others Shape Number left right = absurd (left.1 right.0)
-same_fault kind others Number Word left right = absurd (shaped_named kind others left.0 right)
-same_fault kind others Number Shape left right = absurd (right.1 left.0)
 same_fault kind others Number Number left right = refl
-same_fault kind others Word other left right = absurd right
-same_fault kind others Shape other left right = absurd right
-same_fault kind others Number other left right = absurd right
-same_fault kind others one other left right = absurd left
+same_fault kind others one other left right = absurd (search rules)
 
 same_fault_behind : (fields : List (List ℕ)) (one other : FaultReason) → HasFaultyFieldsToEncode fields one → HasFaultyFieldsToEncode fields other → one ≡ other
 same_fault_behind fields one other left right =
