@@ -1,5 +1,5 @@
 -- Whatever is done to a tag has one effect.
-use Rattle.std.proofs.Common.{◌≡◌, ℕ, Bool, List, [], ◌∷◌, length, refl, sym, ◌∙◌, ap, ◌⊎◌, inl, inr}
+use Rattle.std.proofs.Common.{rules, ◌≡◌, ℕ, Bool, List, [], ◌∷◌, length, refl, sym, ◌∙◌, ap, ◌⊎◌, inl, inr}
 use Rattle.std.specs.List.{AllZip}
 use Rattle.bit_strings.specs.Family.{IsBadAt, IsShortAt}
 use Rattle.command_grammar.specs.Commands.{Spellings, SpellsCommand}
@@ -38,12 +38,8 @@ one_effect : Known → (stimulus : Stimulus) (one other : StimulusEffect) → Ha
 one_effect known (stimuli.SendsCommand command) one other has has' = has ∙ sym has'
 one_effect known (stimuli.Brings event) one other has has' = has ∙ sym has'
 one_effect known (stimuli.SendsBits bits) (Hears c) (Hears d) has has' = ap Hears (known.one c d bits has has')
-one_effect known (stimuli.SendsBits bits) (Hears c) Nothing has has' = absurd (has' c has)
-one_effect known (stimuli.SendsBits bits) Nothing (Hears d) has has' = absurd (has d has')
 one_effect known (stimuli.SendsBits bits) Nothing Nothing has has' = refl
-one_effect known (stimuli.SendsBits bits) (Befalls event) other has has' = absurd has
-one_effect known (stimuli.SendsBits bits) (Hears c) (Befalls event) has has' = absurd has'
-one_effect known (stimuli.SendsBits bits) Nothing (Befalls event) has has' = absurd has'
+one_effect known (stimuli.SendsBits bits) one other has has' = absurd (search rules)
 
 pub one_effects : Known → (said : List Stimulus) (one other : List StimulusEffect) → AllZip HasEffect said one → AllZip HasEffect said other → one ≡ other
 one_effects known [] [] [] has has' = refl

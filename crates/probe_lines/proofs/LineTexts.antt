@@ -1,5 +1,5 @@
 -- Fields say one line of a probe, or are faulty for one reason.
-use Rattle.std.proofs.Common.{◌≡◌, ◌≢◌, ℕ, Bool, List, [], ◌∷◌, ap, get_or, arith, refl, sym, ◌∙◌, inl, inr, subst}
+use Rattle.std.proofs.Common.{rules, ◌≡◌, ◌≢◌, ℕ, Bool, List, [], ◌∷◌, ap, get_or, arith, refl, sym, ◌∙◌, inl, inr, subst}
 use Rattle.std.specs.Prelude.{codes}
 use Rattle.text_fields.specs.Binary.{binary}
 use Rattle.text_fields.proofs.FieldTextLaws.{IsFieldText-binary}
@@ -33,10 +33,7 @@ word_told : (one other : LineWord) → line_word one ≡ line_word other → one
 word_told words.Bits words.Bits same = refl
 word_told words.Event words.Event same = refl
 word_told words.End words.End same = refl
-word_told one other same =
-    let first = ap (λ (text : List ℕ). get_or text 0 0) same in
-    let second = ap (λ (text : List ℕ). get_or text 1 0) same in
-    absurd (omega arith)
+word_told one other same = cc
 
 -- ... and from the names of commands
 no_bits : (kind : CommandKind) → command_name kind ≡ codes "bits" → ⊥
@@ -85,23 +82,12 @@ told_with_word known fields others word line spells begins (lines.Does (lines.Se
 told_with_word known fields others word (lines.Does (lines.SendsBits a)) spells begins (lines.Does (lines.SendsBits b)) spells' =
     let same = behind_word fields (binary a ∷ []) (binary b ∷ []) words.Bits spells.spelling spells'.spelling in
     ap (λ (it : List Bool). lines.Does (lines.SendsBits it)) (known.bits_told a b (same_behind (binary a) (binary b) [] [] same).0)
-told_with_word known fields others word (lines.Does (lines.SendsBits a)) spells begins (lines.Does (lines.Brings e)) spells' =
-    absurd (word_or_word fields _ _ words.Bits words.Event (λ same. cc) spells.spelling spells'.spelling)
-told_with_word known fields others word (lines.Does (lines.SendsBits a)) spells begins lines.End spells' =
-    absurd (word_or_word fields _ _ words.Bits words.End (λ same. cc) spells.spelling spells'.spelling)
-told_with_word known fields others word (lines.Does (lines.Brings d)) spells begins (lines.Does (lines.SendsBits b)) spells' =
-    absurd (word_or_word fields _ _ words.Event words.Bits (λ same. cc) spells.spelling spells'.spelling)
 told_with_word known fields others word (lines.Does (lines.Brings d)) spells begins (lines.Does (lines.Brings e)) spells' =
     let same = behind_word fields (spelled_fields probe_events d) (spelled_fields probe_events e) words.Event spells.spelling spells'.spelling in
     ap (λ it. lines.Does (lines.Brings it))
     (event_told (spelled_fields probe_events d) d e (record { in_range = spells.is; spelling = refl }) (record { in_range = spells'.is; spelling = same }))
-told_with_word known fields others word (lines.Does (lines.Brings d)) spells begins lines.End spells' =
-    absurd (word_or_word fields _ _ words.Event words.End (λ same. cc) spells.spelling spells'.spelling)
-told_with_word known fields others word lines.End spells begins (lines.Does (lines.SendsBits b)) spells' =
-    absurd (word_or_word fields _ _ words.End words.Bits (λ same. cc) spells.spelling spells'.spelling)
-told_with_word known fields others word lines.End spells begins (lines.Does (lines.Brings e)) spells' =
-    absurd (word_or_word fields _ _ words.End words.Event (λ same. cc) spells.spelling spells'.spelling)
 told_with_word known fields others word lines.End spells begins lines.End spells' = refl
+told_with_word known fields others word line spells begins other spells' = let is = spells.spelling in let is' = spells'.spelling in absurd cc
 
 line_told : Known → (fields : List (List ℕ)) (one other : ProbeLine) → SpellsProbeLine fields one → SpellsProbeLine fields other → one ≡ other
 line_told known fields (lines.Does (lines.SendsCommand c)) (lines.Does (lines.SendsCommand d)) is is' =
@@ -138,23 +124,12 @@ word_not_faulty fields others (lines.Does (lines.SendsCommand c)) fault word spe
     command_or_word fields (other_command_fields c) others (command_kind c) word spells.spelling begins
 word_not_faulty fields others (lines.Does (lines.SendsBits b)) fault words.Bits spells begins faulty =
     bits_not_faulty b others fault (behind_word fields others (binary b ∷ []) words.Bits begins spells.spelling) (record { spelling = refl; is = spells.is }) faulty
-word_not_faulty fields others (lines.Does (lines.SendsBits b)) fault words.Event spells begins faulty =
-    word_or_word fields _ others words.Bits words.Event (λ same. cc) spells.spelling begins
-word_not_faulty fields others (lines.Does (lines.SendsBits b)) fault words.End spells begins faulty =
-    word_or_word fields _ others words.Bits words.End (λ same. cc) spells.spelling begins
-word_not_faulty fields others (lines.Does (lines.Brings e)) fault words.Bits spells begins faulty =
-    word_or_word fields _ others words.Event words.Bits (λ same. cc) spells.spelling begins
 word_not_faulty fields others (lines.Does (lines.Brings e)) fault words.Event spells begins faulty =
     spelling_is_not_faulty probe_events IsProbeEvent events_are others e fault
     (record { in_range = spells.is; spelling = behind_word fields others (spelled_fields probe_events e) words.Event begins spells.spelling }) faulty
-word_not_faulty fields others (lines.Does (lines.Brings e)) fault words.End spells begins faulty =
-    word_or_word fields _ others words.Event words.End (λ same. cc) spells.spelling begins
-word_not_faulty fields others lines.End fault words.Bits spells begins faulty =
-    word_or_word fields _ others words.End words.Bits (λ same. cc) spells.spelling begins
-word_not_faulty fields others lines.End fault words.Event spells begins faulty =
-    word_or_word fields _ others words.End words.Event (λ same. cc) spells.spelling begins
 word_not_faulty fields others lines.End fault words.End spells begins faulty =
     end_not_faulty others fault (behind_word fields others [] words.End begins spells.spelling) faulty
+word_not_faulty fields others line fault word spells begins faulty = let is = spells.spelling in cc
 
 -- ... and where it begins with no word, it is a command
 command_not_faulty : Known → (fields : List (List ℕ)) (line : ProbeLine) (fault : FieldsFault) → SpellsProbeLine fields line → MisspellsCommand fields fault → ⊥
@@ -181,18 +156,12 @@ stimulus_is_no_end fields (lines.Brings e) spells begins = word_or_word fields _
 -- one reason behind a word
 one_bits_fault : (others : List (List ℕ)) (one other : FieldsFault) → AreFaultyBehind words.Bits others one → AreFaultyBehind words.Bits others other → one ≡ other
 one_bits_fault others reasons.Shape reasons.Shape faulty faulty' = refl
-one_bits_fault others reasons.Shape reasons.Number faulty faulty' = absurd (faulty faulty'.0)
-one_bits_fault others reasons.Number reasons.Shape faulty faulty' = absurd (faulty' faulty.0)
 one_bits_fault others reasons.Number reasons.Number faulty faulty' = refl
-one_bits_fault others reasons.Word other faulty faulty' = absurd faulty
-one_bits_fault others one reasons.Word faulty faulty' = absurd faulty'
+one_bits_fault others one other faulty faulty' = absurd (search rules)
 
 one_end_fault : (others : List (List ℕ)) (one other : FieldsFault) → AreFaultyBehind words.End others one → AreFaultyBehind words.End others other → one ≡ other
 one_end_fault others reasons.Shape reasons.Shape faulty faulty' = refl
-one_end_fault others reasons.Word other faulty faulty' = absurd faulty
-one_end_fault others reasons.Number other faulty faulty' = absurd faulty
-one_end_fault others reasons.Shape reasons.Word faulty faulty' = absurd faulty'
-one_end_fault others reasons.Shape reasons.Number faulty faulty' = absurd faulty'
+one_end_fault others one other faulty faulty' = absurd (search rules)
 
 one_behind : (word : LineWord) (others : List (List ℕ)) (one other : FieldsFault) → AreFaultyBehind word others one → AreFaultyBehind word others other → one ≡ other
 one_behind words.Bits others one other faulty faulty' = one_bits_fault others one other faulty faulty'

@@ -1,5 +1,5 @@
 -- Fields say one tag, or are faulty for one reason.
-use Rattle.std.proofs.Common.{◌≡◌, ℕ, List, ◌∷◌, refl, sym, ◌∙◌, ◌⊎◌, inl, inr, subst}
+use Rattle.std.proofs.Common.{rules, ◌≡◌, ℕ, List, ◌∷◌, refl, sym, ◌∙◌, subst}
 use Rattle.scenario_lines.specs.declared.fault.LineFault.{LineFault}
 use Rattle.scenario_lines.specs.declared.fault.LineFault.TheVariants as reasons
 use Rattle.scenario_lines.specs.declared.first_fields.Keyword.TheVariants as keywords
@@ -54,29 +54,6 @@ tag_not_faulty known fields tag Pc spells faulty =
     known.not_faulty fields (lines.Tag tag) reasons.Pc (as_line fields tag spells) (pc_of_line fields faulty.0 faulty.1)
 tag_not_faulty known fields tag fault spells faulty = faulty
 
--- the fault of fields that begin as a tag
-abbrev IsBehindTag : List (List ℕ) → FaultReason → Type 0
-IsBehindTag fields fault =
-    ((fault ≡ Shape) × (begins : BeginsAsTag fields) × MisreadsTag begins.others reasons.Shape)
-    ⊎ (((fault ≡ Number) × (begins : BeginsAsTag fields) × MisreadsTag begins.others reasons.Number)
-    ⊎ ((fault ≡ Pc) × (begins : BeginsAsTag fields) × MisreadsTag begins.others reasons.Pc))
-
--- either the first field is another, or it is the one of a tag
-abbrev IsOneOf : List (List ℕ) → FaultReason → Type 0
-IsOneOf fields fault = ((fault ≡ Word) × (¬ BeginsAsTag fields)) ⊎ IsBehindTag fields fault
-
-one_of : (fields : List (List ℕ)) (fault : FaultReason) → IsFaultyTagLine fields fault → IsOneOf fields fault
-one_of fields Word faulty = inl (refl, faulty)
-one_of fields Shape faulty = inr (inl (refl, faulty.0, faulty.1))
-one_of fields Number faulty = inr (inr (inl (refl, faulty.0, faulty.1)))
-one_of fields Pc faulty = inr (inr (inr (refl, faulty.0, faulty.1)))
-one_of fields fault faulty = absurd faulty
-
-begun : (fields : List (List ℕ)) (fault : FaultReason) → IsBehindTag fields fault → BeginsAsTag fields
-begun fields fault (inl shape) = shape.1
-begun fields fault (inr (inl number)) = number.1
-begun fields fault (inr (inr pc)) = pc.1
-
 -- a field that isn't of its form, where there are as many as there have to be, and no tag but for its PC
 shape_or_number : (fields : List (List ℕ)) (begins begins' : BeginsAsTag fields) → MisreadsTag begins.others reasons.Shape → MisreadsTag begins'.others reasons.Number → ⊥
 shape_or_number fields begins begins' shape number =
@@ -92,25 +69,12 @@ shape_or_pc known fields begins begins' shape pc =
     let same = known.one_fault fields reasons.Shape reasons.Pc (shape_of_line fields begins shape) (pc_of_line fields begins' pc) in
     cc
 
-one_behind : Known → (fields : List (List ℕ)) (one other : FaultReason) → IsBehindTag fields one → IsBehindTag fields other → one ≡ other
-one_behind known fields one other (inl a) (inl b) = a.0 ∙ sym b.0
-one_behind known fields one other (inl a) (inr (inl b)) = absurd (shape_or_number fields a.1 b.1 a.2 b.2)
-one_behind known fields one other (inl a) (inr (inr b)) = absurd (shape_or_pc known fields a.1 b.1 a.2 b.2)
-one_behind known fields one other (inr (inl a)) (inl b) = absurd (shape_or_number fields b.1 a.1 b.2 a.2)
-one_behind known fields one other (inr (inl a)) (inr (inl b)) = a.0 ∙ sym b.0
-one_behind known fields one other (inr (inl a)) (inr (inr b)) = absurd (number_or_pc fields a.1 b.1 a.2 b.2)
-one_behind known fields one other (inr (inr a)) (inl b) = absurd (shape_or_pc known fields b.1 a.1 b.2 a.2)
-one_behind known fields one other (inr (inr a)) (inr (inl b)) = absurd (number_or_pc fields b.1 a.1 b.2 a.2)
-one_behind known fields one other (inr (inr a)) (inr (inr b)) = a.0 ∙ sym b.0
-
-one_fault_of : Known → (fields : List (List ℕ)) (one other : FaultReason) → IsOneOf fields one → IsOneOf fields other → one ≡ other
-one_fault_of known fields one other (inl a) (inl b) = a.0 ∙ sym b.0
-one_fault_of known fields one other (inl a) (inr b) = absurd (a.1 (begun fields other b))
-one_fault_of known fields one other (inr a) (inl b) = absurd (b.1 (begun fields one a))
-one_fault_of known fields one other (inr a) (inr b) = one_behind known fields one other a b
-
 one_tag_fault : Known → (fields : List (List ℕ)) (one other : FaultReason) → IsFaultyTagLine fields one → IsFaultyTagLine fields other → one ≡ other
-one_tag_fault known fields one other faulty faulty' = one_fault_of known fields one other (one_of fields one faulty) (one_of fields other faulty')
+one_tag_fault known fields Word Word faulty faulty' = refl
+one_tag_fault known fields Shape Shape faulty faulty' = refl
+one_tag_fault known fields Number Number faulty faulty' = refl
+one_tag_fault known fields Pc Pc faulty faulty' = refl
+one_tag_fault known fields one other faulty faulty' = absurd (search rules)
 
 pub tags_lawful : Known → TagLineLaws
 tags_lawful known = record { told = tag_told known; not_faulty = tag_not_faulty known; one_fault = one_tag_fault known }
