@@ -1,5 +1,5 @@
 -- What one decode line asks for and is answered, or why it is faulty, is one thing, by the laws of lower crates.
-use Rattle.std.proofs.Common.{◌≡◌, ℕ, List, ◌∷◌, refl, sym, ◌∙◌, subst}
+use Rattle.std.proofs.Common.{rules, ◌≡◌, ℕ, List, ◌∷◌, refl, sym, ◌∙◌, subst}
 use Rattle.checked_lines.specs.declared.fault.FaultReason.{FaultReason}
 use Rattle.checked_lines.specs.declared.fault.FaultReason.TheVariants.{Word, Shape, Number}
 use Rattle.checked_lines.specs.laws.OneLine.{TellLines, HaveOneAnswer}
@@ -21,15 +21,11 @@ one_reading fields kind kind' others others' read read' shape =
 -- fields have one first reason
 same_reason : (fields : List (List ℕ)) (one other : FaultReason) → IsFaultyToDecode fields one → IsFaultyToDecode fields other → one ≡ other
 same_reason fields Word Word left right = refl
-same_reason fields Word other left right = absurd (left right.0 right.1 right.2)
-same_reason fields one Word left right = absurd (right left.0 left.1 left.2)
 same_reason fields Shape Shape left right = refl
 same_reason fields Number Number left right = refl
 same_reason fields Shape Number left right = absurd (left.3 (one_reading fields right.0 left.0 right.1 left.1 right.2 left.2 right.3.0))
 same_reason fields Number Shape left right = absurd (right.3 (one_reading fields left.0 right.0 left.1 right.1 left.2 right.2 left.3.0))
-same_reason fields Shape other left right = absurd right.3
-same_reason fields Number other left right = absurd right.3
-same_reason fields one other left right = absurd left.3
+same_reason fields one other left right = absurd (search rules)
 
 pub tell_lines : TellLines decode_rules
 tell_lines = record { one_request = same_request; one_reason = same_reason; not_faulty = spelled_not_faulty }
