@@ -95,11 +95,6 @@ pub other_known : ProbeLineLaws → (fields : List (List ℕ)) (line : ProbeLine
 other_known laws fields line other spells (inl answer) = other answer.begins
 other_known laws fields line other spells (inr faulty) = laws.not_faulty fields line reasons.Word spells faulty.faulty
 
-shape_or_number : LogLineLaws → (fields : List (List ℕ)) → IsFaultyAsOther fields reasons.Shape → IsFaultyAsOther fields reasons.Number → ⊥
-shape_or_number known fields shape number =
-    let same = known.lines.one_fault fields reasons.Shape reasons.Number shape.faulty number.faulty in
-    cc
-
 seen_shape_or_number : LogLineLaws → (fields : List (List ℕ)) → IsFaultyAsAnswer fields reasons.Shape → IsFaultyAsAnswer fields reasons.Number → ⊥
 seen_shape_or_number known fields shape number =
     let same = known.seen.one_fault number.begins.others reasons.Shape reasons.Number
@@ -112,8 +107,7 @@ one_next_reason known count fields Order Order a b = refl
 one_next_reason known count fields Limit Limit a b = refl
 one_next_reason known count fields Shape Shape a b = refl
 one_next_reason known count fields Number Number a b = refl
-one_next_reason known count fields one other a b =
-    absurd (search (rules, inl, inr, no_unknown_other known.lines fields, shape_or_number known fields))
+one_next_reason known count fields one other a b = absurd (search rules)
 
 one_seen_reason : LogLineLaws → (count : ℕ) (fields : List (List ℕ)) (one other : FaultReason) → IsFaultySeen count fields one → IsFaultySeen count fields other → one ≡ other
 one_seen_reason known count fields Word Word a b = refl
