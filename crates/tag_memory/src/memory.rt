@@ -20,12 +20,23 @@ use std::marker::Model;
 /// any.
 ///
 /// A contract sees it as the words of its four banks.
-#[derive(Drop)]
 pub struct Memory {
     reserved: [u16; 4],
     epc: Vec<u16>,
     tid: Vec<u16>,
     user: Vec<u16>,
+}
+
+// Written out, so that whoever drops a memory calls this, and drops no bank by itself.
+impl Drop for Memory {
+    fn drop(self) {
+        let Memory {
+            reserved: _,
+            epc: _,
+            tid: _,
+            user: _,
+        } = self;
+    }
 }
 
 impl Model for Memory {

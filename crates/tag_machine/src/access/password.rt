@@ -1,7 +1,7 @@
 //! Kill and Access (6.3.2.11.3.4 and 6.3.2.11.3.6): a password comes in two halves, each with a cover of its own. How an
 //! unfinished Kill or Access ends is profile.
 ghost use Rattle.std.specs.Prelude.{◌≡◌, ◌+◌, ◌≤◌, Some};
-ghost use Rattle.tag_machine.specs.Access.{in_access, keep_half, kill_whole, kill, access_whole, access, password_outcome};
+ghost use Rattle.tag_machine.specs.Access.{in_access, kill_whole, kill, access_whole, access, password_outcome, whole_of};
 ghost use Rattle.tag_machine.specs.Hearing.{GivesOutcome, tag_value_of};
 ghost use Rattle.reply_grammar.specs.Table.{reply_room};
 
@@ -9,67 +9,53 @@ use super::rules::TagWithHandle;
 use crate::abilities::WithHandle;
 use crate::any_tag::{AnyTag, Heard};
 use crate::moves::{answer_header, go_back};
-use crate::states::{Half, Held, Killed, Password};
+use crate::states::{Half, Killed, Password};
 use crate::steps::Steps;
 use crate::tag::Tag;
 use bit_strings::Bits;
 use lock_rules::{ErrorCode, Level};
 use std::sync::ledger::Ledger;
 
-impl TagWithHandle {
-    /// Keeps the value as a first half, and answers the handle.
-    fn keep_half(self, password: Password, value: u16, out: &mut Bits) -> Heard
-        requires room { reply_room ≤ out.old.capacity }
-        ensures { GivesOutcome
-            (keep_half self.level password value self.held self.body) result out.old out.new }
-    {
-        let TagWithHandle { level, held, body } = self;
-        let held = Held {
-            half: Some(Half { password, value }),
-            ..held
-        };
-        TagWithHandle { level, held, body }.answer_handle(out)
-    }
+/// The password of these halves.
+fn whole_of(upper: u16, lower: u16) -> u32
+    ensures { result ≡ whole_of upper lower }
+{
+    (u32::from(upper) << 16) + u32::from(lower)
+}
 
+impl TagWithHandle {
     /// What both halves of a Kill give.
-    fn kill_whole(self, password: u32, out: &mut Bits) -> Heard
+    fn kill_whole(mut self, password: u32, out: &mut Bits) -> Heard
         requires room { reply_room ≤ out.old.capacity }
         ensures { GivesOutcome
             (kill_whole self.level password self.held self.body) result out.old out.new }
     {
-        let TagWithHandle { level, held, body } = self;
-        let own = body.parts.memory.kill_word();
+        let own = self.body.parts.memory.kill_word();
         if own == 0 {
-            let held = Held { half: None, ..held };
-            let tag = TagWithHandle { level, held, body };
-            return tag.answer_change(Err(ErrorCode::Other), out);
+            self.held.half = None;
+            return self.answer_change(Err(ErrorCode::Other), out);
         }
         if own != password {
-            return go_back(body, held.session, held.q, out);
+            return go_back(self.body, self.held.session, self.held.q, out);
         }
         let tag = Tag {
             state: Killed,
-            body,
+            body: self.body,
         };
-        answer_header(AnyTag::Killed(tag), held.handle, out)
+        answer_header(AnyTag::Killed(tag), self.held.handle, out)
     }
 
     /// What both halves of an Access give.
-    fn access_whole(self, password: u32, out: &mut Bits) -> Heard
+    fn access_whole(mut self, password: u32, out: &mut Bits) -> Heard
         requires room { reply_room ≤ out.old.capacity }
         ensures { GivesOutcome (access_whole password self.held self.body) result out.old out.new }
     {
-        let TagWithHandle {
-            level: _,
-            held,
-            body,
-        } = self;
-        if body.parts.memory.access_word() != password {
-            return go_back(body, held.session, held.q, out);
+        if self.body.parts.memory.access_word() != password {
+            return go_back(self.body, self.held.session, self.held.q, out);
         }
-        let held = Held { half: None, ..held };
-        let level = Level::Secured;
-        TagWithHandle { level, held, body }.answer_handle(out)
+        self.level = Level::Secured;
+        self.held.half = None;
+        self.answer_handle(out)
     }
 }
 
@@ -92,14 +78,15 @@ impl AnyTag {
             Ok(tag) => tag,
             Err(heard) => return heard,
         };
-        let (tag, value) = match tag.uncover(covered, out) {
+        let (mut tag, value) = match tag.uncover(covered, out) {
             Ok(found) => found,
             Err(heard) => return heard,
         };
         let Some(half) = tag.held.half else {
-            return tag.keep_half(password, value, out);
+            tag.held.half = Some(Half { password, value });
+            return tag.answer_handle(out);
         };
-        let whole = (u32::from(half.value) << 16) + u32::from(value);
+        let whole = whole_of(half.value, value);
         match password {
             Password::Kill => tag.kill_whole(whole, out),
             Password::Access => tag.access_whole(whole, out),

@@ -40,7 +40,7 @@ fn give_handle(mut body: Body, session: Session, q: QValue, out: &mut Bits) -> H
 
 impl TagWithHandle {
     /// Req_RN in open and secured: with the handle the tag draws a cover and answers it, and a first half stays.
-    fn req_rn(self, rn: u16, out: &mut Bits) -> Heard
+    fn req_rn(mut self, rn: u16, out: &mut Bits) -> Heard
         requires { reply_room ≤ out.old.capacity }
         ensures { GivesOutcome
             (req_rn_outcome self.level rn self.held self.body) result out.old out.new }
@@ -48,18 +48,9 @@ impl TagWithHandle {
         if self.held.handle != rn {
             return unanswered(self.tag(), out);
         }
-        let TagWithHandle {
-            level,
-            held,
-            mut body,
-        } = self;
-        let cover = body.draw();
-        let held = Held {
-            cover: Some(cover),
-            ..held
-        };
-        let tag = TagWithHandle { level, held, body };
-        answer_handle(tag.tag(), cover, out)
+        let cover = self.body.draw();
+        self.held.cover = Some(cover);
+        answer_handle(self.tag(), cover, out)
     }
 }
 

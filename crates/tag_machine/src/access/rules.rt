@@ -121,7 +121,7 @@ impl TagWithHandle {
     }
 
     /// The number under a cover, and the tag, which uses the cover up. Without a cover nothing changes, and there is no reply.
-    pub fn uncover(self, covered: u16, out: &mut Bits) -> Result<(TagWithHandle, u16), Heard>
+    pub fn uncover(mut self, covered: u16, out: &mut Bits) -> Result<(TagWithHandle, u16), Heard>
         ensures ok { IfOk result
             (λ found. (found.0.level ≡ self.level) × (found.0.body ≡ self.body)
             × ((acts : Held → ℕ → Outcome)
@@ -137,12 +137,8 @@ impl TagWithHandle {
         let Some(cover) = self.held.cover else {
             return Err(unanswered(self.tag(), out));
         };
-        let TagWithHandle { level, held, body } = self;
-        let held = Held {
-            cover: None,
-            ..held
-        };
-        Ok((TagWithHandle { level, held, body }, xor16(covered, cover)))
+        self.held.cover = None;
+        Ok((self, xor16(covered, cover)))
     }
 }
 
