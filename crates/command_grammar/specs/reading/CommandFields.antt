@@ -52,8 +52,8 @@ command_of kinds.Access v = commands.Access v.covered v.rn
 command_of kinds.BlockWrite v = commands.BlockWrite v.bank v.pointer v.words v.rn
 command_of kinds.BlockErase v = commands.BlockErase v.bank v.pointer v.word_count v.rn
 
--- A field: how it is read, where the first list has all bits from the code on, and which value it sets. Of a counted one the
--- number is read first, and then so many.
+-- A field: how it is read, and which value it sets. Of a counted one the number is read first, and then so many. Here and below
+-- `whole` are all bits from the code on, over which a check number is computed, and `bits` those that are still to come.
 pub data FieldReader : Type 1 where
   alone : {A : Type 0} → (List Bool → List Bool → Reading A) → (Fields → A → Fields) → FieldReader
   counted : {A : Type 0} → (List Bool → Reading ℕ) → (ℕ → List Bool → Reading A) → (Fields → A → Fields) → FieldReader
@@ -98,7 +98,7 @@ abbrev pub command_from : List Field → CommandKind → Fields → List Bool �
 command_from [] kind v whole bits = Ok (command_of kind v, bits)
 command_from (field ∷ behind) kind v whole bits = field_then (reader_of field) v whole bits (λ x. command_from behind kind x.0 whole x.1)
 
--- no field was read
+-- No field was read. None of these values comes into a command, since each field that a command has is read.
 abbrev pub no_fields : Fields
 no_fields = record {
   dr = false;

@@ -1,9 +1,10 @@
 -- Profile: what holds of a field of which some bits were read: its numbers are within their ranges. And at which bits a run ends.
-use Rattle.std.specs.Prelude.{◌≡◌, ℕ, ◌+◌, ◌/◌, ◌%◌, ◌^◌, ◌<◌, ◌≤◌, Bool, length, ◌==◌}
+use Rattle.std.specs.Prelude.{◌≡◌, ◌≢◌, ℕ, ◌+◌, ◌/◌, ◌%◌, ◌^◌, ◌<◌, ◌≤◌, Bool, length, IsSome, ◌==◌}
 use Rattle.command_grammar.specs.declared.reader.fields.Fields.{Fields}
 use Rattle.command_grammar.specs.declared.reader.stage.NumberFront.{NumberFront}
 use Rattle.command_grammar.specs.declared.reader.stage.NumberField.{NumberField}
 use Rattle.command_grammar.specs.declared.reader.stage.NumberField.TheVariants as number_fields
+use Rattle.command_grammar.specs.declared.reader.stage.TripleFront.TheVariants.{Nothing}
 use Rattle.command_grammar.specs.declared.reader.stage.Stage.{Stage}
 use Rattle.command_grammar.specs.declared.reader.stage.Stage.TheVariants as stages
 use Rattle.command_grammar.specs.declared.reader.stage.Next.{Next}
@@ -36,42 +37,32 @@ IsSmall number = (width : ℕ) × (width ≤ 20) × IsNumberFront width number
 
 -- words that are still to come have room
 abbrev pub IsSoundNumber : NumberField → Fields → Type 0
-IsSoundNumber number_fields.Session v = Unit {0}
-IsSoundNumber number_fields.Q v = Unit {0}
-IsSoundNumber number_fields.Action v = Unit {0}
-IsSoundNumber number_fields.Count v = Unit {0}
-IsSoundNumber number_fields.WordCount v = Unit {0}
-IsSoundNumber number_fields.Covered v = Unit {0}
-IsSoundNumber number_fields.Payload v = Unit {0}
-IsSoundNumber number_fields.Rn v = Unit {0}
-IsSoundNumber number_fields.MaskLength v = Unit {0}
-IsSoundNumber number_fields.WordsLength v = Unit {0}
 IsSoundNumber (number_fields.FirstWord left) v = left + 1 ≤ 255
 IsSoundNumber (number_fields.Word left) v = length v.words + left + 1 ≤ 255
+IsSoundNumber other v = Unit {0}
 
 -- what was read of a field is in its range, and what is still to come has room
 abbrev pub AreFieldsInRange : Stage → Fields → Type 0
-AreFieldsInRange (stages.Bit field) v = Unit {0}
-AreFieldsInRange (stages.Pair field first) v = Unit {0}
-AreFieldsInRange (stages.Triple field front) v = Unit {0}
 AreFieldsInRange (stages.Number field number) v = IsNumberFront (width_of field) number × IsSoundNumber field v
-AreFieldsInRange (stages.Ebv front) v = Unit {0}
 AreFieldsInRange (stages.Mask behind) v = length v.mask + behind + 1 ≤ 255
 AreFieldsInRange (stages.Known reason number) v = number.behind ≤ 15
+AreFieldsInRange other v = Unit {0}
 
 -- ... behind a bit of it
 abbrev pub IsSoundNext : Next → Fields → Type 0
 IsSoundNext (next.Stay stage) v = AreFieldsInRange stage v
-IsSoundNext next.Done v = Unit {0}
-IsSoundNext (next.Refused reason) v = Unit {0}
+IsSoundNext other v = Unit {0}
 
 -- the next bit of a number that is known
 abbrev pub next_bit : NumberFront → Bool
 next_bit number = number.value / 2 ^ number.behind % 2 == 1
 
--- the bit isn't inside a number, a mask or bits that are known: it ends them, is refused, or stands elsewhere
+-- the bit isn't inside a number, a mask or bits that are known, nor the first one of two or three: it ends them, is refused, or
+-- stands elsewhere
 abbrev pub IsEdge : Stage → Bool → Type 0
 IsEdge (stages.Number field number) bit = number.behind ≡ 0
 IsEdge (stages.Known reason number) bit = bit ≡ next_bit number → number.behind ≡ 0
 IsEdge (stages.Mask behind) bit = behind ≡ 0
+IsEdge (stages.Pair field first) bit = IsSome first
+IsEdge (stages.Triple field front) bit = front ≢ Nothing
 IsEdge other bit = Unit {0}

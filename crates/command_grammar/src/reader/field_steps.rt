@@ -1,9 +1,10 @@
 //! What comes of a bit of each kind of field, and of the number that the bits of a field are.
-ghost use Rattle.std.specs.Prelude.{◌≡◌, ◌+◌, ◌≤◌, ◌<◌, ◌^◌, ◌∷◌, List, Bool, length};
+ghost use Rattle.std.specs.Prelude.{◌≡◌, ◌+◌, ◌≤◌, ◌<◌, ◌^◌, ◌∷◌, List, Bool, Some, length};
 ghost use Rattle.command_grammar.specs.reading.FieldStages.{stage_from, next_from, pair_from, triple_from, bit_from, number_then, words_then};
 ghost use Rattle.command_grammar.specs.reading.FieldRanges.{IsSoundNumber, IsSoundNext, width_of};
 ghost use Rattle.command_grammar.specs.declared.reader.fields.Fields.{Fields};
 ghost use Rattle.command_grammar.specs.declared.reader.stage.Stage.TheVariants as stages;
+ghost use Rattle.command_grammar.specs.declared.reader.stage.TripleFront.TheVariants.{One, Two};
 
 use crate::choices::{
     BANK_VALUES, M_VALUES, MASK_BANK_VALUES, SEL_VALUES, query_target, select_target, updn,
@@ -32,20 +33,12 @@ pub(crate) fn take_bit(field: BitField, bit: bool, fields: &mut Fields) -> Next
     Next::Done
 }
 
-/// A bit of a field of two, behind the first one if that was read.
-pub(crate) fn take_pair(
-    field: PairField,
-    first: Option<bool>,
-    bit: bool,
-    fields: &mut Fields,
-) -> Next
+/// The last bit of a field of two.
+pub(crate) fn take_pair(field: PairField, first: bool, bit: bool, fields: &mut Fields) -> Next
     ensures reads { (rest : List Bool)
-        → pair_from field first fields.old (bit ∷ rest) ≡ next_from result fields.new rest }
+        → pair_from field (Some first) fields.old (bit ∷ rest) ≡ next_from result fields.new rest }
     ensures sound { IsSoundNext result fields.new }
 {
-    let Some(first) = first else {
-        return Next::Stay(Stage::Pair(field, Some(bit)));
-    };
     // The number that the two bits are.
     let number = 2 * usize::from(first) + usize::from(bit);
     match field {
@@ -60,42 +53,43 @@ pub(crate) fn take_pair(
     Next::Done
 }
 
-/// A bit of a field of three.
-pub(crate) fn take_triple(
+/// The second bit of a field of three.
+pub(crate) fn take_second(field: TripleField, first: bool, bit: bool) -> Next
+    ensures reads { (fields : Fields) (rest : List Bool)
+        → triple_from field (One first) fields (bit ∷ rest) ≡ next_from result fields rest }
+    ensures sound { (fields : Fields) → IsSoundNext result fields }
+{
+    match (field, first, bit) {
+        (TripleField::UpDn, true, false) => Next::Refused(Reason::UpDn),
+        (TripleField::SelectTarget, true, true) => Next::Refused(Reason::Target),
+        _ => Next::Stay(Stage::Triple(field, TripleFront::Two(first, bit))),
+    }
+}
+
+/// The last bit of a field of three.
+pub(crate) fn take_third(
     field: TripleField,
-    front: TripleFront,
+    first: bool,
+    second: bool,
     bit: bool,
     fields: &mut Fields,
 ) -> Next
     ensures reads { (rest : List Bool)
-        → triple_from field front fields.old (bit ∷ rest) ≡ next_from result fields.new rest }
+        → triple_from field (Two first second) fields.old (bit ∷ rest)
+        ≡ next_from result fields.new rest }
     ensures sound { IsSoundNext result fields.new }
 {
-    match (field, front, bit) {
-        (_, TripleFront::Nothing, _) => Next::Stay(Stage::Triple(field, TripleFront::One(bit))),
-        (TripleField::UpDn, TripleFront::One(true), false) => Next::Refused(Reason::UpDn),
-        (TripleField::SelectTarget, TripleFront::One(true), true) => Next::Refused(Reason::Target),
-        (_, TripleFront::One(first), _) => Next::Stay(Stage::Triple(
-            field,
-            TripleFront::Two(first, bit),
-        )),
-        (TripleField::UpDn, TripleFront::Two(first, second), _) => match updn(first, second, bit) {
-            Some(updn) => {
-                fields.updn = updn;
-                Next::Done
-            }
-            None => Next::Refused(Reason::UpDn),
+    match field {
+        TripleField::UpDn => match updn(first, second, bit) {
+            Some(updn) => fields.updn = updn,
+            None => return Next::Refused(Reason::UpDn),
         },
-        (TripleField::SelectTarget, TripleFront::Two(first, second), _) => match select_target(
-            first, second, bit,
-        ) {
-            Some(target) => {
-                fields.select_target = target;
-                Next::Done
-            }
-            None => Next::Refused(Reason::Target),
+        TripleField::SelectTarget => match select_target(first, second, bit) {
+            Some(target) => fields.select_target = target,
+            None => return Next::Refused(Reason::Target),
         },
     }
+    Next::Done
 }
 
 /// The whole number of a field.

@@ -266,8 +266,7 @@ impl Fields {
         }
     }
 
-    /// Answers with the Select whose fields were all read, and takes the mask out of them. It is a function of its
-    /// own, so that no other command sets up the list that takes the mask's place.
+    /// Answers with the Select whose fields were all read, and takes the mask out of them.
     fn answer_select(&mut self, answer: &mut Result<Command, CommandRefusal>)
         ensures { answer.new ≡ Ok (command_of kinds.Select self.old) }
     {
@@ -280,8 +279,7 @@ impl Fields {
         });
     }
 
-    /// Answers with the BlockWrite whose fields were all read, and takes the words out of them, as `answer_select`
-    /// does with a mask.
+    /// Answers with the BlockWrite whose fields were all read, and takes the words out of them.
     fn answer_block_write(&mut self, answer: &mut Result<Command, CommandRefusal>)
         ensures { answer.new ≡ Ok (command_of kinds.BlockWrite self.old) }
     {

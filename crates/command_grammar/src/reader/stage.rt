@@ -10,7 +10,9 @@ ghost use Rattle.command_grammar.specs.declared.reader.stage.Stage.TheVariants a
 ghost use Rattle.command_grammar.specs.declared.refusal.Reason.{Reason};
 
 use crate::reader::check::Check;
-use crate::reader::field_steps::{take_bit, take_ebv, take_number, take_pair, take_triple};
+use crate::reader::field_steps::{
+    take_bit, take_ebv, take_number, take_pair, take_second, take_third,
+};
 use crate::reader::fields::{Field, Fields};
 use crate::refusal::Reason;
 use bit_strings::EbvFront;
@@ -258,8 +260,15 @@ impl Stage {
     {
         match self {
             Stage::Bit(field) => take_bit(field, bit, fields),
-            Stage::Pair(field, first) => take_pair(field, first, bit, fields),
-            Stage::Triple(field, front) => take_triple(field, front, bit, fields),
+            Stage::Pair(field, first) => match first {
+                Some(first) => take_pair(field, first, bit, fields),
+                None => unreachable!(),
+            },
+            Stage::Triple(field, front) => match front {
+                TripleFront::Nothing => unreachable!(),
+                TripleFront::One(first) => take_second(field, first, bit),
+                TripleFront::Two(first, second) => take_third(field, first, second, bit, fields),
+            },
             Stage::Number(field, number) => take_number(field, number.with(bit), fields),
             Stage::Ebv(front) => take_ebv(front, bit, fields),
             Stage::Mask(_) => {
