@@ -18,39 +18,22 @@ tag_at state body = record { state = state; body = body }
 
 -- the time T2 ran out (6.3.2.4.3 Reply state, 6.3.2.4.4 Acknowledged state)
 abbrev pub after_timeout : StateValue → BodyValue → TagValue
-after_timeout ReadyState body = tag_at ReadyState body
-after_timeout (ArbitrateState session q slot) body = tag_at (ArbitrateState session q slot) body
 after_timeout (ReplyState session q rn) body = tag_at (ArbitrateState session q 0) body
 after_timeout (AcknowledgedState session q rn) body = tag_at (ArbitrateState session q 0) body
-after_timeout (OpenState held) body = tag_at (OpenState held) body
-after_timeout (SecuredState held) body = tag_at (SecuredState held) body
-after_timeout KilledState body = tag_at KilledState body
-after_timeout UnpoweredState body = tag_at UnpoweredState body
+after_timeout other body = tag_at other body
 
 -- power is lost, and the inventoried flag of S0 with it
 abbrev pub tag_without_power : BodyValue → TagValue
 tag_without_power body = tag_at UnpoweredState (record body { flags = flags_after_power_loss body.flags })
 
 abbrev pub after_off : StateValue → BodyValue → TagValue
-after_off ReadyState body = tag_without_power body
-after_off (ArbitrateState session q slot) body = tag_without_power body
-after_off (ReplyState session q rn) body = tag_without_power body
-after_off (AcknowledgedState session q rn) body = tag_without_power body
-after_off (OpenState held) body = tag_without_power body
-after_off (SecuredState held) body = tag_without_power body
 after_off KilledState body = tag_at KilledState body
-after_off UnpoweredState body = tag_without_power body
+after_off other body = tag_without_power body
 
 -- power comes: a tag that had none is ready, with StoredCRC computed again
 abbrev pub after_on : StateValue → BodyValue → TagValue
-after_on ReadyState body = tag_at ReadyState body
-after_on (ArbitrateState session q slot) body = tag_at (ArbitrateState session q slot) body
-after_on (ReplyState session q rn) body = tag_at (ReplyState session q rn) body
-after_on (AcknowledgedState session q rn) body = tag_at (AcknowledgedState session q rn) body
-after_on (OpenState held) body = tag_at (OpenState held) body
-after_on (SecuredState held) body = tag_at (SecuredState held) body
-after_on KilledState body = tag_at KilledState body
 after_on UnpoweredState body = tag_at ReadyState (record body { memory = with_stored_crc body.memory })
+after_on other body = tag_at other body
 
 -- the persistence of a flag ends: it goes by whether the tag has power, and whether it takes part in a round, as it does
 -- in every state but ready, killed and without power

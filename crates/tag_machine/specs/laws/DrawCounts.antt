@@ -31,50 +31,26 @@ query_draws sel session target q UnpoweredState body = 0
 
 -- a QueryRep of the tag's session lets it draw its RN16 where its counter falls to 0
 abbrev pub query_rep_draws : ℕ → StateValue → ℕ
-query_rep_draws session ReadyState = 0
 query_rep_draws session (ArbitrateState own q slot) = (if own == session then (if slot_below slot == 0 then 1 else 0) else 0)
-query_rep_draws session (ReplyState own q rn) = 0
-query_rep_draws session (AcknowledgedState own q rn) = 0
-query_rep_draws session (OpenState held) = 0
-query_rep_draws session (SecuredState held) = 0
-query_rep_draws session KilledState = 0
-query_rep_draws session UnpoweredState = 0
+query_rep_draws session other = 0
 
 -- a QueryAdjust of the tag's session lets it do ENTER in arbitrate and reply
 abbrev pub query_adjust_draws : ℕ → UpDn → StateValue → BodyValue → ℕ
-query_adjust_draws session updn ReadyState body = 0
 query_adjust_draws session updn (ArbitrateState own q slot) body = (if own == session then draws_to_enter (q_after_adjust updn q) body else 0)
 query_adjust_draws session updn (ReplyState own q rn) body = (if own == session then draws_to_enter (q_after_adjust updn q) body else 0)
-query_adjust_draws session updn (AcknowledgedState own q rn) body = 0
-query_adjust_draws session updn (OpenState held) body = 0
-query_adjust_draws session updn (SecuredState held) body = 0
-query_adjust_draws session updn KilledState body = 0
-query_adjust_draws session updn UnpoweredState body = 0
+query_adjust_draws session updn other body = 0
 
 -- a Req_RN with the tag's number lets it draw a handle or a cover
 abbrev pub req_rn_draws : ℕ → StateValue → ℕ
-req_rn_draws rn ReadyState = 0
-req_rn_draws rn (ArbitrateState session q slot) = 0
-req_rn_draws rn (ReplyState session q own) = 0
 req_rn_draws rn (AcknowledgedState session q own) = (if own == rn then 1 else 0)
 req_rn_draws rn (OpenState held) = (if held.handle == rn then 1 else 0)
 req_rn_draws rn (SecuredState held) = (if held.handle == rn then 1 else 0)
-req_rn_draws rn KilledState = 0
-req_rn_draws rn UnpoweredState = 0
+req_rn_draws rn other = 0
 
 -- no other command lets a tag draw
 abbrev pub draws_in : Command → StateValue → BodyValue → ℕ
 draws_in (commands.QueryRep session) state body = query_rep_draws session state
-draws_in (commands.Ack rn) state body = 0
 draws_in (commands.Query dr line_code trext sel session target q) state body = query_draws sel session target q state body
 draws_in (commands.QueryAdjust session updn) state body = query_adjust_draws session updn state body
-draws_in (commands.Select target action bank pointer mask) state body = 0
-draws_in commands.Nak state body = 0
 draws_in (commands.ReqRn rn) state body = req_rn_draws rn state
-draws_in (commands.Read bank pointer count rn) state body = 0
-draws_in (commands.Write bank pointer covered rn) state body = 0
-draws_in (commands.Kill covered rn) state body = 0
-draws_in (commands.Lock payload rn) state body = 0
-draws_in (commands.Access covered rn) state body = 0
-draws_in (commands.BlockWrite bank pointer words rn) state body = 0
-draws_in (commands.BlockErase bank pointer count rn) state body = 0
+draws_in other state body = 0

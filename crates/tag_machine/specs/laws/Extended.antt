@@ -3,32 +3,19 @@
 use Rattle.std.specs.Prelude.{Bool, true, false, is_some}
 use Rattle.command_grammar.specs.declared.commands.Command.{Command}
 use Rattle.command_grammar.specs.declared.commands.Command.TheVariants as commands
-use Rattle.tag_machine.specs.TagValue.{StateValue, ReadyState, ArbitrateState, ReplyState, AcknowledgedState, OpenState, SecuredState, KilledState, UnpoweredState}
+use Rattle.tag_machine.specs.TagValue.{StateValue, OpenState, SecuredState}
 
 -- a Kill or an Access is unfinished
 abbrev pub has_half : StateValue → Bool
-has_half ReadyState = false
-has_half (ArbitrateState session q slot) = false
-has_half (ReplyState session q rn) = false
-has_half (AcknowledgedState session q rn) = false
 has_half (OpenState held) = is_some held.half
 has_half (SecuredState held) = is_some held.half
-has_half KilledState = false
-has_half UnpoweredState = false
+has_half other = false
 
 -- the replies to Write, Lock, BlockWrite and BlockErase, and to a Kill that comes after a first half, errors too
 abbrev pub is_extended : Command → StateValue → Bool
-is_extended (commands.QueryRep session) state = false
-is_extended (commands.Ack rn) state = false
-is_extended (commands.Query dr line_code trext sel session target q) state = false
-is_extended (commands.QueryAdjust session updn) state = false
-is_extended (commands.Select target action bank pointer mask) state = false
-is_extended commands.Nak state = false
-is_extended (commands.ReqRn rn) state = false
-is_extended (commands.Read bank pointer count rn) state = false
 is_extended (commands.Write bank pointer covered rn) state = true
 is_extended (commands.Kill covered rn) state = has_half state
 is_extended (commands.Lock payload rn) state = true
-is_extended (commands.Access covered rn) state = false
 is_extended (commands.BlockWrite bank pointer words rn) state = true
 is_extended (commands.BlockErase bank pointer count rn) state = true
+is_extended other state = false

@@ -12,36 +12,15 @@ use Rattle.session_flags.specs.laws.FlagLaws.{flag_of}
 -- or QueryAdjust of the session
 abbrev pub MayChange : Command → ℕ → Type 0
 MayChange (commands.QueryRep own) session = own ≡ session
-MayChange (commands.Ack rn) session = ⊥
 MayChange (commands.Query dr line_code trext sel own target q) session = own ≡ session
 MayChange (commands.QueryAdjust own updn) session = own ≡ session
 MayChange (commands.Select target action bank pointer mask) session = target ≡ flag_of session
-MayChange commands.Nak session = ⊥
-MayChange (commands.ReqRn rn) session = ⊥
-MayChange (commands.Read bank pointer count rn) session = ⊥
-MayChange (commands.Write bank pointer covered rn) session = ⊥
-MayChange (commands.Kill covered rn) session = ⊥
-MayChange (commands.Lock payload rn) session = ⊥
-MayChange (commands.Access covered rn) session = ⊥
-MayChange (commands.BlockWrite bank pointer words rn) session = ⊥
-MayChange (commands.BlockErase bank pointer count rn) session = ⊥
+MayChange other session = ⊥
 
 -- ... and those that may change SL: a Select with SL as its target
 abbrev pub MayChangeSl : Command → Type 0
-MayChangeSl (commands.QueryRep own) = ⊥
-MayChangeSl (commands.Ack rn) = ⊥
-MayChangeSl (commands.Query dr line_code trext sel own target q) = ⊥
-MayChangeSl (commands.QueryAdjust own updn) = ⊥
 MayChangeSl (commands.Select target action bank pointer mask) = target ≡ flags.Sl
-MayChangeSl commands.Nak = ⊥
-MayChangeSl (commands.ReqRn rn) = ⊥
-MayChangeSl (commands.Read bank pointer count rn) = ⊥
-MayChangeSl (commands.Write bank pointer covered rn) = ⊥
-MayChangeSl (commands.Kill covered rn) = ⊥
-MayChangeSl (commands.Lock payload rn) = ⊥
-MayChangeSl (commands.Access covered rn) = ⊥
-MayChangeSl (commands.BlockWrite bank pointer words rn) = ⊥
-MayChangeSl (commands.BlockErase bank pointer count rn) = ⊥
+MayChangeSl other = ⊥
 
 -- the flags before a command and after it differ in those alone that it may change
 pub record IsIsolated (command : Command) (old new : Flags) : Type 0 where

@@ -8,21 +8,18 @@ use Rattle.reply_grammar.specs.declared.expected.Expect.TheVariants as expects
 use Rattle.reply_grammar.specs.declared.expected.Reply.{Reply}
 use Rattle.reply_grammar.specs.declared.expected.Reply.TheVariants.{Rn16, Epc, Handle, Words, Header, Error}
 use Rattle.tag_memory.specs.Memory.{pc_of, epc_of}
-use Rattle.tag_machine.specs.TagValue.{StateValue, ReadyState, ArbitrateState, ReplyState, AcknowledgedState, OpenState, SecuredState, KilledState, UnpoweredState, BodyValue}
+use Rattle.tag_machine.specs.TagValue.{StateValue, ReplyState, AcknowledgedState, OpenState, SecuredState, BodyValue}
 use Rattle.tag_machine.specs.Answers.{Sent}
 use Rattle.tag_machine.specs.Draws.{draw_of, body_after_draw}
 use Rattle.tag_machine.specs.laws.Extended.{has_half}
 
 -- the number that a command to this tag alone must carry: the RN16 in reply and acknowledged, the handle in open and secured
 abbrev pub rn_or_handle_of : StateValue → Option ℕ
-rn_or_handle_of ReadyState = None
-rn_or_handle_of (ArbitrateState session q slot) = None
 rn_or_handle_of (ReplyState session q rn) = Some rn
 rn_or_handle_of (AcknowledgedState session q rn) = Some rn
 rn_or_handle_of (OpenState held) = Some held.handle
 rn_or_handle_of (SecuredState held) = Some held.handle
-rn_or_handle_of KilledState = None
-rn_or_handle_of UnpoweredState = None
+rn_or_handle_of other = None
 
 -- to a slot command: this RN16, with the TRext of the Query
 pub record IsRn16Answer (drawn_word : ℕ) (sent : Sent) : Type 0 where
@@ -68,10 +65,7 @@ pub record IsReadAnswer (count rn : ℕ) (state : StateValue) (sent : Sent) : Ty
 abbrev pub IsHeaderOrError : Reply → Type 0
 IsHeaderOrError Header = Unit {0}
 IsHeaderOrError (Error code) = Unit {0}
-IsHeaderOrError (Rn16 rn) = ⊥
-IsHeaderOrError (Epc pc epc) = ⊥
-IsHeaderOrError (Handle rn) = ⊥
-IsHeaderOrError (Words words) = ⊥
+IsHeaderOrError other = ⊥
 
 pub record IsDelayedAnswer (rn : ℕ) (state : StateValue) (sent : Sent) : Type 0 where
   pub number : rn_or_handle_of state ≡ Some rn
