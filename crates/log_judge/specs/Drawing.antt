@@ -15,19 +15,10 @@ use Rattle.log_judge.specs.declared.draws.Draws.TheVariants as draws
 
 abbrev pub draws_at : Command → Draws
 draws_at (commands.QueryRep session) = draws.Turn session
-draws_at (commands.Ack rn) = draws.Nothing
 draws_at (commands.Query dr line_code trext sel session target q) = draws.Slot session
 draws_at (commands.QueryAdjust session updn) = draws.Slot session
-draws_at (commands.Select target action bank pointer mask) = draws.Nothing
-draws_at commands.Nak = draws.Nothing
 draws_at (commands.ReqRn rn) = draws.Number
-draws_at (commands.Read bank pointer count rn) = draws.Nothing
-draws_at (commands.Write bank pointer covered rn) = draws.Nothing
-draws_at (commands.Kill covered rn) = draws.Nothing
-draws_at (commands.Lock payload rn) = draws.Nothing
-draws_at (commands.Access covered rn) = draws.Nothing
-draws_at (commands.BlockWrite bank pointer words rn) = draws.Nothing
-draws_at (commands.BlockErase bank pointer count rn) = draws.Nothing
+draws_at other = draws.Nothing
 
 -- A tag that answers drew slot 0. One that doesn't is given slot 1, whatever slot it drew.
 abbrev pub first_slot : Option Seen → ℕ

@@ -34,16 +34,7 @@ pub(crate) fn draws_at(command: &Command) -> Draws
         }
         Command::QueryRep { session } => Draws::Turn(*session),
         Command::ReqRn { .. } => Draws::Number,
-        Command::Ack { .. }
-        | Command::Nak
-        | Command::Select { .. }
-        | Command::Read { .. }
-        | Command::Write { .. }
-        | Command::Kill { .. }
-        | Command::Lock { .. }
-        | Command::Access { .. }
-        | Command::BlockWrite { .. }
-        | Command::BlockErase { .. } => Draws::Nothing,
+        _ => Draws::Nothing,
     }
 }
 

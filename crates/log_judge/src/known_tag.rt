@@ -26,12 +26,18 @@ use tag_machine::{AnyTag, Steps, draw_laws};
 use tag_memory::BankImage;
 
 /// What is known of the tag behind a part of its log: all but its slot counter, since what it draws besides is heard when it is drawn.
-#[derive(Drop)]
 pub(crate) struct KnownTag {
     /// A tag that answered what the log says.
     tag: AnyTag,
     /// The largest slot that the tag may have, where it may have any from 1 up to that one. The tag above has slot 1 then.
     most: Option<u16>,
+}
+
+// Written out, so that a drop of it is one call, and not one for each state of the tag.
+impl Drop for KnownTag {
+    fn drop(self) {
+        let KnownTag { tag: _, most: _ } = self;
+    }
 }
 
 impl Model for KnownTag {
