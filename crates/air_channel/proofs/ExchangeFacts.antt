@@ -12,7 +12,7 @@ use Rattle.tag_population.specs.Hearing.{tags_after_events, hearing_from}
 use Rattle.air_model.specs.Channel.{given_in, wave_for, heard_levels}
 use Rattle.air_channel.specs.Air.{AirValue, air_after, next_exchange}
 use Rattle.air_channel.specs.Giving.{AreSentAnswers}
-use Rattle.air_channel.proofs.TagsBefallen.{length-befallen, one_exchange}
+use Rattle.tag_population.proofs.TagsBefallen.{length-befallen, one_exchange}
 
 -- what is known of an exchange: the command that the tags heard is the one that was sent, after each event befell its tag
 pub record Exchanged (old : List TagValue) (command : Command) (entry : Entry) : Type 0 where

@@ -1,3 +1,2 @@
 pub mod GivenAnswers
-pub mod TagsBefallen
 pub mod ExchangeFacts

@@ -37,7 +37,6 @@ const STREAM_ROOM: u32 = 132_208;
 ///
 /// A contract sees the link, what the channel gives of several replies, the tags, the frame that was sent last, the stream that
 /// came back, what tags answered, and the number of exchanges.
-#[derive(Drop)]
 pub struct Air {
     link: Link,
     several: Several,
@@ -49,6 +48,23 @@ pub struct Air {
     frame: Intervals,
     stream: Levels,
     exchanges: u64,
+}
+
+// A drop is one call so, in place of one for each part, in the proof of each function that owns an air.
+impl Drop for Air {
+    fn drop(self) {
+        let Air {
+            link: _,
+            several: _,
+            population: _,
+            receiver: _,
+            answers: _,
+            bits: _,
+            frame: _,
+            stream: _,
+            exchanges: _,
+        } = self;
+    }
 }
 
 impl Model for Air {

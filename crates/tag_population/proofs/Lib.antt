@@ -1,5 +1,6 @@
 pub mod KeptAnswers
 pub mod EventsOnTags
+pub mod TagsBefallen
 pub mod SeatedTags
 pub mod CalledTags
 pub mod HeardTags

@@ -27,11 +27,17 @@ use waiting_tags::TagSet;
 /// Tags, numbered from 0, of which there are at most 4,096.
 ///
 /// A contract sees the list of the tags.
-#[derive(Drop)]
 pub struct Population {
     floor: Floor,
     /// The tags that miss a command, while the others hear it, and else none.
     missed: TagSet,
+}
+
+// A drop is one call so, in place of one for each part, in the proof of each function that owns a population.
+impl Drop for Population {
+    fn drop(self) {
+        let Population { floor: _, missed: _ } = self;
+    }
 }
 
 impl Model for Population {

@@ -1,20 +1,17 @@
 -- Events that befall tags, and then a command, are what an exchange is for each of them; and events change no number of tags.
-use Rattle.std.proofs.Common.{◌≡◌, ℕ, suc, ◌+◌, List, [], ◌∷◌, length, refl, ap, ◌∙◌}
+use Rattle.std.proofs.Common.{◌≡◌, ℕ, ◌+◌, List, [], ◌∷◌, length, refl, ap, ◌∙◌}
 use Rattle.air_events.specs.declared.Entry.{Entry}
 use Rattle.air_events.specs.declared.Event.{Event}
 use Rattle.command_grammar.specs.declared.commands.Command.{Command}
 use Rattle.tag_machine.specs.Answers.{Outcome}
 use Rattle.tag_machine.specs.Exchange.{outcome_in, outcomes_from, outcomes_in, tag_after_events, tag_after_own_event, tags_after_event}
 use Rattle.tag_machine.specs.TagValue.{TagValue}
+use Rattle.tag_population.proofs.EventsOnTags.{length-tags_after_event}
 use Rattle.tag_population.specs.Hearing.{hearing_from, tags_after_events}
-
-pub length-after_event : (number : ℕ) (event : Event) (befallen : ℕ) (tags : List TagValue) → length (tags_after_event number event befallen tags) ≡ length tags
-length-after_event number event befallen [] = refl
-length-after_event number event befallen (tag ∷ tags) = ap suc (length-after_event (number + 1) event befallen tags)
 
 pub length-befallen : (number : ℕ) (events : List (Event × ℕ)) (tags : List TagValue) → length (tags_after_events number events tags) ≡ length tags
 length-befallen number [] tags = refl
-length-befallen number (event ∷ events) tags = length-befallen number events (tags_after_event number event.0 event.1 tags) ∙ length-after_event number event.0 event.1 tags
+length-befallen number (event ∷ events) tags = length-befallen number events (tags_after_event number event.0 event.1 tags) ∙ length-tags_after_event number event.1 event.0 tags
 
 -- what events make of the first tag and of the others
 events_apart : (number : ℕ) (events : List (Event × ℕ)) (tag : TagValue) (tags : List TagValue)
