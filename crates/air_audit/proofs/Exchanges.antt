@@ -19,7 +19,7 @@ use Rattle.tag_population.specs.Hearing.{tags_after_events}
 use Rattle.air_audit.specs.Auditing.{AreAsGiven, AuditorValue, IsHearing, KeepsUp}
 use Rattle.air_audit.specs.Standing.{Place, place_in, place_of_command, record_of}
 use Rattle.air_audit.specs.declared.auditor.Position.TheVariants as positions
-use Rattle.air_audit.proofs.OneExchange.{length-befallen}
+use Rattle.tag_population.proofs.TagsBefallen.{length-befallen}
 use Rattle.air_audit.specs.declared.verdict.AuditReason.{AuditReason}
 
 -- the entry of the next exchange names tags that there are, and chooses few levels

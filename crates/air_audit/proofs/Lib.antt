@@ -11,7 +11,6 @@ pub mod RxLines
 pub mod Behind
 pub mod Exchanges
 pub mod Following
-pub mod OneExchange
 pub mod HeardAnswers
 pub mod ReadLines
 pub mod Received

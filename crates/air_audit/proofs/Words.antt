@@ -1,5 +1,7 @@
 -- The words that lines begin with: each line of a report begins with its own.
-use Rattle.std.proofs.Common.{◌≡◌, ◌&&◌, ltb, ℕ, Bool, true, false, List, [], ◌∷◌, Option, Some, None, codes, get_or, ap, refl, sym, subst, ◌∙◌, ltb-true}
+use Rattle.std.proofs.Common.{◌≡◌, ◌&&◌, ◌||◌, ltb, if◌then◌else◌, ℕ, Bool, true, false, List, [], ◌∷◌, Option, Some, None, codes, get_or, ap, refl, sym, subst, ◌∙◌, ltb-true}
+use Rattle.std.proofs.lemmas.Slice.Eq.{bytes_eq-Decides}
+use Rattle.std.specs.Str.{bytes_eq}
 use Rattle.access_ops.specs.declared.op_next.OpResult.{OpResult}
 use Rattle.air_model.specs.Past.{Start, Record, Item}
 use Rattle.pie_line.specs.Link.{LinkValue}
@@ -63,6 +65,44 @@ link-is-other link = word-is (link_line link) (codes "blf") _ refl (word-text 98
 told-word : (told : ℕ) (next : Option TagValue) → word_of_line (text_of (told_line told next)) ≡ words.OfTags
 told-word told None = word-is DoneLine (codes "done") _ refl (word-text 100 (codes "one") refl)
 told-word told (Some tag) = word-is (TagLine told tag) (codes "tag") _ refl (word-text 116 (codes "ag") refl)
+
+-- what a word is by what it reads as
+read_as : (tx rx list unjudged of_tags : Bool) → Word
+read_as tx rx list unjudged of_tags =
+    if tx then words.Tx else if rx then words.Rx else if list then words.List else if unjudged then words.Unjudged else if of_tags then words.OfTags else words.Other
+
+tx_read : (tx rx list unjudged of_tags : Bool) → read_as tx rx list unjudged of_tags ≡ words.Tx → tx ≡ true
+unfolding read_as
+tx_read true rx list unjudged of_tags is = refl
+tx_read false true list unjudged of_tags is = absurd cc
+tx_read false false true unjudged of_tags is = absurd cc
+tx_read false false false true of_tags is = absurd cc
+tx_read false false false false true is = absurd cc
+tx_read false false false false false is = absurd cc
+
+rx_read : (tx rx list unjudged of_tags : Bool) → read_as tx rx list unjudged of_tags ≡ words.Rx → rx ≡ true
+unfolding read_as
+rx_read true rx list unjudged of_tags is = absurd cc
+rx_read false true list unjudged of_tags is = refl
+rx_read false false true unjudged of_tags is = absurd cc
+rx_read false false false true of_tags is = absurd cc
+rx_read false false false false true is = absurd cc
+rx_read false false false false false is = absurd cc
+
+-- no other word is taken for `tx` or for `rx`
+pub tx-only : (word : List ℕ) → word_of word ≡ words.Tx → word ≡ codes "tx"
+unfolding read_as
+tx-only word is =
+    (bytes_eq-Decides word (codes "tx")).0
+    (tx_read (bytes_eq word (codes "tx")) (bytes_eq word (codes "rx")) (bytes_eq word (codes "list"))
+    (bytes_eq word (codes "op") || bytes_eq word (codes "round") || bytes_eq word (codes "seen")) (bytes_eq word (codes "tag") || bytes_eq word (codes "done")) is)
+
+pub rx-only : (word : List ℕ) → word_of word ≡ words.Rx → word ≡ codes "rx"
+unfolding read_as
+rx-only word is =
+    (bytes_eq-Decides word (codes "rx")).0
+    (rx_read (bytes_eq word (codes "tx")) (bytes_eq word (codes "rx")) (bytes_eq word (codes "list"))
+    (bytes_eq word (codes "op") || bytes_eq word (codes "round") || bytes_eq word (codes "seen")) (bytes_eq word (codes "tag") || bytes_eq word (codes "done")) is)
 
 -- a line goes on by the word that it begins with
 pub goes-as : (start : Start) (from : TraceStanding) (line : List ℕ) (to : TraceStanding) (word : Word) → word_of_line line ≡ word → GoesOnAs start from word line to → TraceGoesOn start from line to

@@ -53,7 +53,6 @@ pub(crate) enum Position {
 }
 
 /// An audit that is under way: where the trace stands, and the tags as its commands left them.
-#[derive(Drop)]
 pub(crate) struct Auditor<'a, L: Ledger> {
     several: Several,
     population: Population,
@@ -74,6 +73,28 @@ pub(crate) struct Auditor<'a, L: Ledger> {
     received: Received,
     /// The line that has to come, where one is written.
     text: String,
+}
+
+// A drop is one call so, in place of one for each part, in the proof of each function that owns an audit.
+impl<'a, L: Ledger> Drop for Auditor<'a, L> {
+    fn drop(self) {
+        let Auditor {
+            several: _,
+            population: _,
+            entries: _,
+            steps: _,
+            position: _,
+            exchanges: _,
+            round: _,
+            slot: _,
+            frame: _,
+            answers: _,
+            heard: _,
+            room: _,
+            received: _,
+            text: _,
+        } = self;
+    }
 }
 
 impl<'a, L: Ledger> Model for Auditor<'a, L> {

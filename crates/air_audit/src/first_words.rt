@@ -24,9 +24,7 @@ pub(crate) enum Word {
 
 /// What this word says.
 fn word_of(word: &[u8]) -> Word
-    ensures is { result ≡ word_of word.now }
-    ensures tx { result ≡ Word.Tx → word.now ≡ codes "tx" }
-    ensures rx { result ≡ Word.Rx → word.now ≡ codes "rx" }
+    ensures { result ≡ word_of word.now }
 {
     match word {
         b"tx" => Word::Tx,

@@ -18,7 +18,7 @@ use Rattle.air_audit.specs.Standing.{Place}
 use Rattle.air_audit.specs.TraceLines.{Sends}
 use Rattle.air_audit.proofs.Exchanges.{Parts, parts-of, events-there, handed-on, hearing, left-before, missed-there, next-known, next-number, same-next}
 use Rattle.air_audit.proofs.HeardAnswers.{short-answers}
-use Rattle.air_audit.proofs.OneExchange.{length-befallen, one_exchange}
+use Rattle.tag_population.proofs.TagsBefallen.{length-befallen, one_exchange}
 use Rattle.air_audit.proofs.auditor.Auditor.send.Goals as goal
 
 pub befall_all-requires : goal.befall_all-requires
