@@ -195,8 +195,3 @@ cut-at-first l scenario told none = record {
 -- what a listener has heard that was lent, and was given back
 pub given-back : {A : Type 0} (l : Listening A) (first later : A) (lines : List ReportLine) → first ≡ l.old → later ≡ l.new → l.hears first lines later → l.hears l.old lines l.new
 given-back l first later lines was is told = subst (λ now. l.hears l.old lines now) is (subst (λ was_first. l.hears was_first lines later) was told)
-
--- what holds of a run that was told whole
-pub whole-of : (r : Result (Unit {0}) PlayFault) (Whole Other : Type 0) (CutOff : PlayFault → Type 0) → (Whole → Other) → EndsOrFails r Whole CutOff → OnOk r Other
-whole-of (Ok done) Whole Other CutOff from ends = from ends
-whole-of (Err fault) Whole Other CutOff from ends = tt

@@ -75,8 +75,8 @@ pub fn play<O: Sink>(
 {
     headline();
     rounds_are_complete();
-    let mut spelling = ModeSpelling::new(alloc, mode, scenario.link)?;
     let mut line = String::with_capacity(alloc, LINE_ROOM)?;
+    let mut spelling = ModeSpelling::new(alloc, mode, scenario.link)?;
     write_run(alloc, scenario, air, out, &mut spelling, &mut line)
 }
 
@@ -141,13 +141,34 @@ fn tell_run<L: Ledger, R: Listener>(
 {
     round_laws();
     prove!(air.len() <= u32::from(MOST_TAGS));
-    let empty = empty_entry(alloc);
     let bits = Bits::new(alloc, LONGEST_STREAM)?;
+    let empty = empty_entry(alloc);
     let entries = EntryCursor::new(scenario.entries.as_slice(), &empty);
     let mut run = Run::<L>::new(entries, Steps::new(blank), bits);
     let mut seen = SeenCounts::new(alloc);
-    tell_steps(scenario, air, &mut run, &mut seen, report)?;
-    run.finish(air, &seen, report);
+    tell_whole(scenario, air, &mut run, &mut seen, report)
+}
+
+/// Tells a listener all of a run, which is lent for it with its counts, so that they are dropped at one place.
+fn tell_whole<'a, L: Ledger, R: Listener>(
+    scenario: &Scenario,
+    air: &mut Air,
+    run: &mut Run<'a, L>,
+    seen: &mut SeenCounts,
+    report: &mut R,
+) -> Result<(), PlayFault>
+    requires scenario { IsScenario scenario.now }
+    requires fresh { air.old ≡ new_air (start_of scenario.now) }
+    requires at { RunIsAt (start_of scenario.now) 0 [] air.old run.old }
+    requires none { seen.old ≡ [] }
+    ensures { EndsOrFails result
+        (IsPlayed R.hears R.failed scenario.now report.old report.new air.new)
+        (IsCutShort R.hears R.failed report.old report.new
+        (run_lines (start_of scenario.now) scenario.now.steps)) }
+{
+    round_laws();
+    tell_steps(scenario, air, run, seen, report)?;
+    run.finish(air, seen, report);
     check(report)
 }
 

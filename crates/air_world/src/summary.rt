@@ -1,16 +1,12 @@
 //! What a run counts.
 ghost use Rattle.std.specs.Prelude.{◌≡◌, ◌+◌, ◌-◌, ◌^◌, ◌&&◌, min, IfOk, OnOk};
-ghost use Rattle.air_world.specs.Counting.{CountsLines, nothing_counted};
-ghost use Rattle.air_world.specs.NewAir.{new_air};
+ghost use Rattle.air_world.specs.Counting.{nothing_counted};
 ghost use Rattle.runs.specs.CompleteRounds.{RoundsAreComplete};
-ghost use Rattle.runs.specs.Report.{run_lines};
-ghost use Rattle.runs.specs.ScenarioStart.{start_of};
 ghost use Rattle.runs.specs.Summary.{is_quiet, summary_of};
 ghost use Rattle.scenario.specs.Limits.{IsScenario};
 
 use crate::playing::tell_scenario;
 use crate::start::set_up;
-use air_channel::Air;
 use bit_strings::OutOfMemory;
 use q_round::{RoundEnd, round_laws};
 use report_lines::{Line, Listener, PlayFault};
@@ -89,23 +85,6 @@ impl Listener for Counting {
     ghost nothing = { λ counting. counts-nothing counting.summary };
 }
 
-/// Plays a scenario on its air, to which no command was sent yet, and counts what its report would tell. The air is dropped here.
-fn count_on(
-    alloc: Global,
-    scenario: &Scenario,
-    air: Air,
-    counting: &mut Counting,
-) -> Result<(), PlayFault>
-    requires scenario { IsScenario scenario.now }
-    requires fresh { air ≡ new_air (start_of scenario.now) }
-    ensures { OnOk result (CountsLines
-        (run_lines (start_of scenario.now) scenario.now.steps) counting.old.summary
-        counting.new.summary) }
-{
-    let mut air = air;
-    tell_scenario(alloc, scenario, &mut air, counting)
-}
-
 /// Plays a scenario on an air of its own and counts what its report would tell. Nothing is written.
 ///
 /// # Errors
@@ -118,9 +97,9 @@ pub fn summarise(alloc: Global, scenario: &Scenario) -> Result<Summary, OutOfMem
 {
     round_laws();
     rounds_are_complete();
-    let air = set_up(alloc, scenario)?;
+    let mut air = set_up(alloc, scenario)?;
     let mut counting = Counting::new();
-    match count_on(alloc, scenario, air, &mut counting) {
+    match tell_scenario(alloc, scenario, &mut air, &mut counting) {
         Ok(()) => Ok(counting.summary),
         // Who only counts meets no fault, so there was no memory.
         Err(_) => Err(AllocError),
