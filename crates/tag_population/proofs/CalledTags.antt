@@ -1,5 +1,5 @@
 -- Tags are called to a QueryRep: those that miss it, and those whose slot comes next.
-use Rattle.std.proofs.Common.{◌≡◌, ◌≢◌, ℕ, zero, suc, ◌+◌, ◌-◌, ◌<◌, ◌≤◌, ◌==◌, ◌⊎◌, inl, inr, Bool, true, false, ◌||◌, cond, List, [], ◌∷◌, length, drop, Option, Some, None, get_or, set, refl, sym, ap, ◌∙◌, arith}
+use Rattle.std.proofs.Common.{◌≡◌, ◌≢◌, ℕ, zero, suc, ◌+◌, ◌-◌, ◌<◌, ◌≤◌, ◌==◌, ◌⊎◌, inl, inr, Bool, true, false, ◌||◌, cond, List, [], ◌∷◌, length, drop, Option, Some, None, get_or, set, sym, ap, ◌∙◌, arith}
 use Rattle.std.specs.List.{list_any, All}
 use Rattle.std.proofs.lemmas.Bool.{cases_lt}
 use Rattle.std.proofs.lemmas.Bool.Decides.{eqb_tells}
@@ -42,10 +42,6 @@ participation_inside participations number participation is =
       | inl within ↦ within
       | inr past ↦ absurd (no_participation participation (sym (get_or_past participations number None past) ∙ is))
     ]
-
--- no tag is called yet
-pub calls_none : (floor : FloorValue) (steps : ℕ) → CallsTags floor steps floor steps
-calls_none floor steps = record { tags = refl; whole = refl; counted = omega arith }
 
 -- one tag more is called
 pub record CallsOne (now : FloorValue) (steps : ℕ) : Type 0 where
@@ -92,9 +88,6 @@ IsMissedBelow session entry index number before after =
 pub record MissedBelow (session : ℕ) (entry : Entry) (before : FloorValue) (start index : ℕ) (now : FloorValue) (steps : ℕ) : Type 0 where
   pub calls : CallsTags before start now steps
   pub each : (number : ℕ) → IsMissedBelow session entry index number (participation_at before.parts number) (participation_at now.parts number)
-
-pub missed_none : (session : ℕ) (entry : Entry) (floor : FloorValue) (steps : ℕ) → MissedBelow session entry floor steps 0 floor steps
-missed_none session entry floor steps = record { calls = calls_none floor steps; each = λ number. inl (refl, λ k below is. absurd (omega (arith, below))) }
 
 any_missed : (number index : ℕ) (missed : List ℕ) → index < length missed → get_or missed index 0 ≡ number → list_any (λ tag. tag == number) missed ≡ true
 any_missed number index [] within is = absurd (omega (arith, within))
@@ -176,9 +169,6 @@ pub record DueSoFar (session : ℕ) (before : FloorValue) (start : ℕ) (now : F
   pub calls : CallsTags before start now steps
   pub each :
       (number : ℕ) → (participation_at now.parts number ≡ participation_at before.parts number) ⊎ ((participation_at now.parts number ≡ Some Called) × (participation_at before.parts number ≡ Some (Waits session 1)))
-
-pub due_none : (session : ℕ) (floor : FloorValue) (steps : ℕ) → DueSoFar session floor steps floor steps
-due_none session floor steps = record { calls = calls_none floor steps; each = λ number. inl refl }
 
 called_waits : (session slot : ℕ) → Some Called ≡ Some (Waits session slot) → ⊥
 called_waits session slot is = cc

@@ -12,7 +12,7 @@ use Rattle.tag_population.proofs.CalledTags.{participation_inside, counted_here,
 use Rattle.tag_population.proofs.EventsOnTags.{length-heard}
 use Rattle.tag_population.proofs.SeatedTags.{participation_of_tag}
 use Rattle.tag_population.specs.Answers.{AnswersValue, AnswerValue, answer_of, answers_of}
-use Rattle.tag_population.specs.Floor.{became, called_in, participation_in, participations_of, replies_below, no_tag, outcome_called, outcome_each, FloorValue, HeardEach, AreUncalledSettled}
+use Rattle.tag_population.specs.Floor.{floor_with, called_in, participation_in, participations_of, replies_below, no_tag, outcome_called, outcome_each, FloorValue, HeardEach, AreUncalledSettled}
 use Rattle.tag_population.specs.Hearing.{hearing_from, HearsAll}
 use Rattle.waiting_tags.specs.Waiting.{participation_at, is_called, IsNextCalled}
 use Rattle.waiting_tags.specs.declared.waiting.Participation.{Participation}
@@ -55,14 +55,14 @@ more_answers outcome number =
 pub record HearsNext (outcome : ℕ → Outcome) (number : ℕ) (now after : FloorValue) (answers more : List AnswerValue) : Type 0 where
   pub came : Outcome
   pub came_is : came ≡ outcome number
-  pub floor_is : after ≡ became now number came.tag
+  pub floor_is : after ≡ floor_with now number came.tag
   pub more_is : more ≡ answers ++ answers_of (reply_of number came.answer)
 
 pub heard_next : (outcome : ℕ → Outcome) (before : FloorValue) (number : ℕ) (now after : FloorValue) (answers more : List AnswerValue)
     → HeardBelow outcome before number now answers → number < length before.tags → HearsNext outcome number now after answers more → HeardBelow outcome before (number + 1) after more
 heard_next outcome before number now after answers more so_far within next =
     let tag : TagValue = (outcome number).tag in
-    let is : after ≡ became now number tag = next.floor_is ∙ ap (λ (o : Outcome). became now number o.tag) next.came_is in
+    let is : after ≡ floor_with now number tag = next.floor_is ∙ ap (λ (o : Outcome). floor_with now number o.tag) next.came_is in
     let tags : after.tags ≡ set now.tags number tag = ap (λ (f : FloorValue). f.tags) is in
     let parts : after.parts ≡ set now.parts number (participation_in tag.state) = ap (λ (f : FloorValue). f.parts) is in
     let answered : more ≡ answers ++ answers_of (reply_of number (outcome number).answer) =

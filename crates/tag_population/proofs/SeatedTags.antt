@@ -1,8 +1,7 @@
 -- Tags in their seats: what they are seen as, and how a slot counter is written back.
-use Rattle.std.proofs.Common.{◌≡◌, ◌≢◌, ℕ, zero, suc, ◌+◌, ◌<◌, ◌≤◌, ◌==◌, inl, inr, List, [], ◌∷◌, ◌++◌, length, map, take, drop, Option, Some, None, get_or, set, refl, sym, ap, ◌∙◌, subst, arith, if◌then◌else◌}
+use Rattle.std.proofs.Common.{◌≡◌, ◌≢◌, ℕ, zero, suc, ◌+◌, ◌<◌, ◌≤◌, ◌==◌, List, [], ◌∷◌, ◌++◌, length, map, take, drop, Option, Some, None, get_or, set, refl, sym, ap, ◌∙◌, subst, arith, if◌then◌else◌}
 use Rattle.std.specs.Prelude.{slice_get}
-use Rattle.std.proofs.lemmas.Bool.Decides.{eqb_tells}
-use Rattle.std.proofs.lemmas.List.{get_or-set_same, get_or-set_other, get_or_default, set-get_or, set-set, length-set, length-map, map-set, ext_get_or}
+use Rattle.std.proofs.lemmas.List.{get_or-set_same, get_or_default, set-get_or, set-set, length-set, length-map, map-set, ext_get_or}
 use Rattle.std.proofs.lemmas.Option.{same_Some}
 use Rattle.std.proofs.Math.Seq.{take-append_seam}
 use Rattle.air_events.specs.TagNumbers.{most_tags}
@@ -10,7 +9,7 @@ use Rattle.tag_machine.specs.Exchange.{AreLegalTags}
 use Rattle.tag_machine.specs.Inventory.{slot_below}
 use Rattle.tag_machine.specs.TagValue.{StateValue, ReadyState, ArbitrateState, ReplyState, AcknowledgedState, OpenState, SecuredState, KilledState, UnpoweredState, BodyValue, TagValue, IsLegalState, IsLegalTag}
 use Rattle.tag_population.proofs.EventsOnTags.{legal-set}
-use Rattle.tag_population.specs.Floor.{with_slot, tag_seated, seated_tags, participation_in, participations_of, seats_written_back, steps_back, became, calling, counted_floor, no_tag, FloorValue, AreSeated}
+use Rattle.tag_population.specs.Floor.{with_slot, tag_seated, seated_tags, participation_in, participations_of, seats_written_back, steps_back, floor_with, calling, counted_floor, no_tag, FloorValue, AreSeated}
 use Rattle.waiting_tags.specs.Waiting.{participation_at, waiting_slot, counted_down, AreSlots}
 use Rattle.waiting_tags.specs.declared.waiting.Participation.{Participation}
 use Rattle.waiting_tags.specs.declared.waiting.Participation.TheVariants.{Waits, Called}
@@ -106,43 +105,6 @@ participation_of_tag (tag ∷ tags) (suc number) = participation_of_tag tags num
 pub record SettledBelow (seats : List TagValue) (number : ℕ) (participations : List (Option Participation)) : Type 0 where
   pub whole : length participations ≡ length seats
   pub each : (other : ℕ) → other < number → participation_at participations other ≡ participation_in (get_or seats other no_tag).state
-
-pub settled_none : (seats : List TagValue) (participations : List (Option Participation)) → length participations ≡ length seats → SettledBelow seats 0 participations
-settled_none seats participations same = record { whole = same; each = λ other below. absurd (omega (arith, below)) }
-
--- ... where the next one has become another, and is put where it takes part
-pub record SettlesNext (seats : List TagValue) (number : ℕ) (participations : List (Option Participation)) : Type 0 where
-  pub became : List TagValue
-  pub after : List (Option Participation)
-  pub participation : Option Participation
-  pub seat : TagValue
-  pub within : number < length seats
-  pub long : length became ≡ length seats
-  pub at : get_or became number no_tag ≡ seat
-  pub others : (other : ℕ) → other ≢ number → get_or became other no_tag ≡ get_or seats other no_tag
-  pub is : participation ≡ participation_in seat.state
-  pub put : after ≡ set participations number participation
-
-pub settled_next : (seats : List TagValue) (number : ℕ) (participations : List (Option Participation)) → SettledBelow seats number participations
-    → (next : SettlesNext seats number participations) → SettledBelow next.became (number + 1) next.after
-settled_next seats number participations so_far next = record {
-  whole = ap (λ (l : List (Option Participation)). length l) next.put ∙ length-set participations number next.participation ∙ so_far.whole ∙ sym next.long;
-  each = λ other below.
-      elim (eqb_tells other number) [
-        | inl same ↦
-            ap (λ n. participation_at next.after n) same.1
-            ∙ ap (λ (l : List (Option Participation)). participation_at l number) next.put
-            ∙ get_or-set_same participations number next.participation None (rw so_far.whole next.within)
-            ∙ next.is
-            ∙ ap (λ (t : TagValue). participation_in t.state) (sym next.at)
-            ∙ ap (λ n. participation_in (get_or next.became n no_tag).state) (sym same.1)
-        | inr apart ↦
-            ap (λ (l : List (Option Participation)). participation_at l other) next.put
-            ∙ get_or-set_other participations number other next.participation None apart.1
-            ∙ so_far.each other (omega (arith, below, apart.1))
-            ∙ ap (λ (t : TagValue). participation_in t.state) (sym (next.others other apart.1))
-      ];
-}
 
 pub settled_all : (seats : List TagValue) (number : ℕ) (participations : List (Option Participation)) → SettledBelow seats number participations → length seats ≤ number → participations ≡ participations_of seats
 settled_all seats number participations so_far past =
@@ -303,7 +265,7 @@ pub record Becomes (b : Back) : Type 0 where
   pub slots : AreSlots after
   pub legal : IsLegalTag new
 
-pub becomes_floor : (b : Back) (n : Becomes b) (floor : FloorValue) (at : ℕ) → floor_of b.parts b.items ≡ floor → at ≡ b.number → floor_of n.after (set b.seated at n.new) ≡ became floor b.number n.new
+pub becomes_floor : (b : Back) (n : Becomes b) (floor : FloorValue) (at : ℕ) → floor_of b.parts b.items ≡ floor → at ≡ b.number → floor_of n.after (set b.seated at n.new) ≡ floor_with floor b.number n.new
 becomes_floor b n floor at is same =
     let after_is : n.after ≡ set b.parts b.number (participation_in n.new.state) = n.put ∙ ap (λ (p : Option Participation). set b.parts b.number p) n.takes in
     let seats_are : set b.seated b.number n.new ≡ set b.items b.number n.new =
@@ -314,7 +276,7 @@ becomes_floor b n floor at is same =
     ∙ ap (λ (l : List TagValue). floor_of n.after l) seats_are
     ∙ ap (λ (l : List (Option Participation)). floor_of l (set b.items b.number n.new)) after_is
     ∙ ap (λ (l : List TagValue). let changed : FloorValue = record { tags = l; parts = set b.parts b.number (participation_in n.new.state) } in changed) tags_are
-    ∙ ap (λ (f : FloorValue). became f b.number n.new) is
+    ∙ ap (λ (f : FloorValue). floor_with f b.number n.new) is
 
 then_seated : (b : Back) (n : Becomes b) → AreSeated n.after (set b.seated b.number n.new)
 then_seated b n =
@@ -348,7 +310,7 @@ counted_is session parts after items floor is counted =
     ∙ ap (λ (l : List TagValue). let changed : FloorValue = record { tags = l; parts = map (counted_down session) parts } in changed) (counted_tags session parts items)
     ∙ ap (λ (f : FloorValue). counted_floor session f) is
 
-pub became_settled : (floor after : FloorValue) (number : ℕ) (tag : TagValue) → floor.parts ≡ participations_of floor.tags → after ≡ became floor number tag → after.parts ≡ participations_of after.tags
-became_settled floor after number tag settled is =
+pub settled_with : (floor after : FloorValue) (number : ℕ) (tag : TagValue) → floor.parts ≡ participations_of floor.tags → after ≡ floor_with floor number tag → after.parts ≡ participations_of after.tags
+settled_with floor after number tag settled is =
     rw is
     (ap (λ (l : List (Option Participation)). set l number (participation_in tag.state)) settled ∙ sym (map-set (λ (t : TagValue). participation_in t.state) floor.tags number tag))

@@ -76,9 +76,9 @@ pub record AreSeated (parts : List (Option Participation)) (seats : List TagValu
   pub legal : AreLegalTags seats
   pub slots : AreSlots parts
 
--- the tag of a number became another, and takes part as its state says
-abbrev pub became : FloorValue → ℕ → TagValue → FloorValue
-became floor number tag = record { tags = slice_set floor.tags number tag; parts = slice_set floor.parts number (participation_in tag.state) }
+-- the floor with another tag of a number, which takes part as its state says
+abbrev pub floor_with : FloorValue → ℕ → TagValue → FloorValue
+floor_with floor number tag = record { tags = slice_set floor.tags number tag; parts = slice_set floor.parts number (participation_in tag.state) }
 
 -- the tag of a number was called
 abbrev pub calling : FloorValue → ℕ → FloorValue

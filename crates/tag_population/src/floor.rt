@@ -8,7 +8,7 @@ ghost use Rattle.tag_machine.specs.Exchange.{AreLegalTags, outcome_unless, reply
 ghost use Rattle.tag_machine.specs.Hearing.{tag_value_of};
 ghost use Rattle.tag_machine.specs.TagValue.{IsLegalTag};
 ghost use Rattle.tag_population.specs.Answers.{answers_of};
-ghost use Rattle.tag_population.specs.Floor.{became, calling, counted_floor, no_tag, participations_of, seats_written_back, steps_back};
+ghost use Rattle.tag_population.specs.Floor.{floor_with, calling, counted_floor, no_tag, participations_of, seats_written_back, steps_back};
 ghost use Rattle.tag_population.specs.Lent.{KeepsFloor};
 ghost use Rattle.waiting_tags.specs.Waiting.{IsDue, IsNextCalled, participation_at, waits_in};
 
@@ -95,7 +95,7 @@ impl Floor {
     )
         requires { number < length self.old.tags }
         ensures floor { self.new
-            ≡ became self.old number
+            ≡ floor_with self.old number
             (tag_after_event event (get_or self.old.tags number no_tag).state
             (get_or self.old.tags number no_tag).body) }
         ensures counted { steps.new ≤ steps.old + 1 }
@@ -120,7 +120,7 @@ impl Floor {
         requires number { number < length self.old.tags }
         requires room { length answers.old.items < answers.old.tags }
         ensures floor { self.new
-            ≡ became self.old number
+            ≡ floor_with self.old number
             (outcome_unless misses command.now (get_or self.old.tags number no_tag)).tag }
         ensures answers { answers.new
             ≡ record answers.old {

@@ -281,7 +281,7 @@ fn hear_each<L: Ledger>(
     }
 }
 
-/// Whether a command passes over a tag: a QueryAdjust does where the tag takes part in no round.
+/// Whether a command passes over a tag: a QueryAdjust does nothing to one in ready, or where else it takes part in no round.
 fn passes_over(floor: &Floor, number: TagNumber, command: &Command) -> bool
     requires { number < length floor.now.tags }
     ensures { result ≡ true → IsPassedOver command.now (participation_at floor.now.parts number) }

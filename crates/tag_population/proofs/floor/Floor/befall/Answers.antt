@@ -2,7 +2,7 @@ use Rattle.std.proofs.Common.{◌∙◌, ap, arith, get_or, set, subst, sym, Lis
 use Rattle.tag_machine.specs.Events.{tag_after_event}
 use Rattle.tag_machine.specs.TagValue.{TagValue}
 use Rattle.tag_population.proofs.SeatedTags.{Back, Becomes, all_written, floor_of, written, back_read, becomes_floor, becomes_seated, parts_within, seats_within}
-use Rattle.tag_population.specs.Floor.{became, AreSeated}
+use Rattle.tag_population.specs.Floor.{floor_with, AreSeated}
 use Rattle.tag_population.proofs.floor.Floor.befall.Goals as goal
 
 pub write_back-requires-clause-number : goal.write_back-requires-clause-number
@@ -44,5 +44,5 @@ returns-clause-floor g c =
     } in
     ap (λ (l : List TagValue). floor_of c.put.new.self (set l c.index-at.result n.new)) (all_written b c.self.inside.seats.len c.self.inside.seats.ok.0)
     ∙ becomes_floor b n c.args.self.now c.index-at.result c.self.view_is c.index-at.ensures.value
-    ∙ ap (λ (t : TagValue). became c.args.self.now c.args.number t)
+    ∙ ap (λ (t : TagValue). floor_with c.args.self.now c.args.number t)
     (c.befall.ensures.tag ∙ ap (λ (t : TagValue). tag_after_event c.args.event t.state t.body) (back_read b c.args.self.now c.index-at.result c.index_mut-seat.result.now c.self.view_is c.index-at.ensures.value (c.index_mut-seat.ensures.value ∙ ap (λ (l : List TagValue). get_or l c.index-at.result c.index_mut-seat.result.now) (all_written b c.self.inside.seats.len c.self.inside.seats.ok.0))))

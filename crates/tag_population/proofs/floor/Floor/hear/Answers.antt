@@ -3,7 +3,7 @@ use Rattle.tag_machine.specs.Exchange.{outcome_unless, reply_of}
 use Rattle.tag_machine.specs.TagValue.{TagValue}
 use Rattle.tag_population.proofs.SeatedTags.{Back, Becomes, all_written, floor_of, written, back_read, becomes_floor, becomes_seated, parts_within, seats_within}
 use Rattle.tag_population.specs.Answers.{answers_of, AnswersValue}
-use Rattle.tag_population.specs.Floor.{became, AreSeated}
+use Rattle.tag_population.specs.Floor.{floor_with, AreSeated}
 use Rattle.std.proofs.Common.{◌++◌}
 use Rattle.tag_population.proofs.floor.Floor.hear.Goals as goal
 
@@ -46,7 +46,7 @@ returns-clause-floor g c =
     } in
     ap (λ (l : List TagValue). floor_of c.put.new.self (set l c.index-at.result n.new)) (all_written b c.self.inside.seats.len c.self.inside.seats.ok.0)
     ∙ becomes_floor b n c.args.self.now c.index-at.result c.self.view_is c.index-at.ensures.value
-    ∙ ap (λ (t : TagValue). became c.args.self.now c.args.number t)
+    ∙ ap (λ (t : TagValue). floor_with c.args.self.now c.args.number t)
     (c.hear.ensures.tag ∙ ap (λ (t : TagValue). (outcome_unless c.args.misses c.args.command.now t).tag) (back_read b c.args.self.now c.index-at.result c.index_mut-seat.result.now c.self.view_is c.index-at.ensures.value (c.index_mut-seat.ensures.value ∙ ap (λ (l : List TagValue). get_or l c.index-at.result c.index_mut-seat.result.now) (all_written b c.self.inside.seats.len c.self.inside.seats.ok.0))))
 
 pub returns-clause-answers : goal.returns-clause-answers
