@@ -1,6 +1,6 @@
 -- Each standing that lines lead to can be completed to the end of a trace, so that a refused line is the first with which none
 -- goes on.
-use Rattle.std.proofs.Common.{◌≡◌, ◌+◌, ◌<◌, ◌≤◌, ℕ, zero, suc, List, [], ◌∷◌, ◌++◌, length, map, take, drop, Option, Some, None, slice_get, arith, ap, inl, inr, refl, ◌∙◌, subst}
+use Rattle.std.proofs.Common.{◌≡◌, ◌+◌, ◌<◌, ◌≤◌, ℕ, zero, suc, List, [], ◌∷◌, ◌++◌, map, take, drop, Option, Some, None, slice_get, arith, ap, inl, inr, refl, ◌∙◌, subst}
 use Rattle.text_fields.specs.Lines.{lines_of}
 use Rattle.air_model.specs.Past.{Start, Item, exchanged, tags_behind}
 use Rattle.checked_lines.specs.TextRules.{Faulty, HasOutcomeFrom, Lead}

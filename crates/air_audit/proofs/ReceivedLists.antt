@@ -1,5 +1,5 @@
 -- The list lines of an audited trace are what is received of the levels before them.
-use Rattle.std.proofs.Common.{◌≡◌, ℕ, ◌+◌, inl, inr, Bool, true, false, List, [], ◌∷◌, ◌++◌, Option, Some, None, codes, arith, refl, sym, ap, ◌∙◌, subst, length, append_assoc}
+use Rattle.std.proofs.Common.{◌≡◌, ℕ, ◌+◌, inl, inr, Bool, true, false, List, [], ◌∷◌, ◌++◌, Option, Some, None, codes, refl, sym, ap, ◌∙◌, subst, length, append_assoc}
 use Rattle.std.proofs.lemmas.List.{append-nil}
 use Rattle.air_events.specs.declared.Entry.{Entry}
 use Rattle.command_grammar.specs.Commands.{IsLegalCommand}

@@ -277,7 +277,7 @@ impl<'a, L: Ledger> Auditor<'a, L> {
         ) {
             return Err(Stop::Refused(reason));
         }
-        let Some((pc, epc)) = self.listed() else {
+        let Some((pc, epc)) = self.pair_to_list() else {
             self.position = Position::Between;
             return Ok(());
         };
@@ -288,7 +288,7 @@ impl<'a, L: Ledger> Auditor<'a, L> {
     }
 
     /// What the last exchange lists: the PC and the EPC that come whole in reply to an ACK.
-    fn listed(&mut self) -> Option<(u16, EpcWords)>
+    fn pair_to_list(&mut self) -> Option<(u16, EpcWords)>
         ensures same { self.new ≡ self.old }
         ensures lists { (start : Start) (past : List Item) (sent : Record)
             → IsHearing start past sent self.old → Lists result sent }

@@ -30,14 +30,14 @@ returns-in-Err-clause-follows g c = λ start past sent is.
       first = first;
     })
 
-pub returns-in_default-listed-clause-follows : goal.returns-in_default-listed-clause-follows
-returns-in_default-listed-clause-follows g c = λ start past sent is.
-    let same = c.self-2.view_is ∙ c.listed.ensures.same ∙ c.self.view_is in
+pub returns-in_default-pair_to_list-clause-follows : goal.returns-in_default-pair_to_list-clause-follows
+returns-in_default-pair_to_list-clause-follows g c = λ start past sent is.
+    let same = c.self-2.view_is ∙ c.pair_to_list.ensures.same ∙ c.self.view_is in
     heard-on start past sent c.args.line.now c.args.self.now _ [] is c.requires.word
     (c.in_default.ensures.same refl
     ∙ rx-alike _ _ _ _ _ _ (ap (λ (a : AuditorValue). a.exchanges) c.self.view_is) (c.len.ensures.count ∙ ap (λ (a : AuditorValue). a.answers.count) c.self.view_is)
     (c.levels.ensures.value ∙ ap (λ (a : AuditorValue). a.answers.levels) c.self.view_is))
-    (c.in_default-listed.ensures.lists start past sent (subst (λ (a : AuditorValue). IsHearing start past sent a) (sym c.self.view_is) is))
+    (c.in_default-pair_to_list.ensures.lists start past sent (subst (λ (a : AuditorValue). IsHearing start past sent a) (sym c.self.view_is) is))
     (record {
       position_is = refl;
       keeps = keeps-moved start (exchanged sent ∷ past) c.args.self.now _
@@ -46,7 +46,7 @@ returns-in_default-listed-clause-follows g c = λ start past sent is.
 
 pub returns-clause-follows : goal.returns-clause-follows
 returns-clause-follows g c = λ start past sent is.
-    let same = c.self-2.view_is ∙ c.listed.ensures.same ∙ c.self.view_is in
+    let same = c.self-2.view_is ∙ c.pair_to_list.ensures.same ∙ c.self.view_is in
     heard-on start past sent c.args.line.now c.args.self.now _ _ is c.requires.word
     (c.in_default.ensures.same refl
     ∙ rx-alike _ _ _ _ _ _ (ap (λ (a : AuditorValue). a.exchanges) c.self.view_is) (c.len.ensures.count ∙ ap (λ (a : AuditorValue). a.answers.count) c.self.view_is)

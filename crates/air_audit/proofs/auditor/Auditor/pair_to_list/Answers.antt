@@ -2,7 +2,7 @@ use Rattle.std.proofs.Common.{◌≢◌, [], refl, sym, ap, ◌∙◌}
 use Rattle.runs.proofs.Answering.{TagLaws}
 use Rattle.air_audit.specs.Auditing.{AuditorValue}
 use Rattle.air_audit.proofs.Received.{lists-received}
-use Rattle.air_audit.proofs.auditor.Auditor.listed.Goals as goal
+use Rattle.air_audit.proofs.auditor.Auditor.pair_to_list.Goals as goal
 
 pub returns-clause-lists : goal.returns-clause-lists
 returns-clause-lists g c = λ start past sent is.
