@@ -55,10 +55,10 @@ fn play_all<H: Hall>(
         (λ lines. lines.items ≡ portal_lines H.played (H.tags joint.old) specs.now) }
     ensures independent { IfOk result (λ lines. AreIndependent lines.items) }
 {
-    let mut heard = Pairs::new(alloc, joint.len())?;
-    let mut heard_alone = Pairs::new(alloc, joint.len())?;
     let mut lines = Vec::with_capacity(alloc, specs.len())?;
     let mut lines3 = Vec::with_capacity(alloc, specs.len())?;
+    let mut heard = Pairs::new(alloc, joint.len())?;
+    let mut heard_alone = Pairs::new(alloc, joint.len())?;
     for spec in specs {
         if spec.session().get() == 2 {
             play_both(
