@@ -103,15 +103,6 @@ rn16-heard t trext levels (receiveds.Whole (replies.Rn16 own)) rn is found = ap 
 rn16-heard t trext levels (receiveds.Whole reply) rn is found = absurd is.answers.suits
 rn16-heard t trext levels (receiveds.Refused place) rn is found = ap rn16_reception found
 
--- where no RN16 was received, none came whole, and so of an EPC
-pub no-rn16 : (received : Received) → ((rn : ℕ) → received ≡ receiveds.Whole (replies.Rn16 rn) → ⊥) → None ≡ rn16_received (reception_from received)
-no-rn16 (receiveds.Whole (replies.Rn16 rn)) other = absurd (other rn refl)
-no-rn16 received other = refl
-
-pub no-epc : (received : Received) → ((pc : ℕ) (epc : List ℕ) → received ≡ receiveds.Whole (replies.Epc pc epc) → ⊥) → None ≡ pair_received (reception_from received)
-no-epc (receiveds.Whole (replies.Epc pc epc)) other = absurd (other pc epc refl)
-no-epc received other = refl
-
 -- what is heard changes nothing of a run
 pub run-kept : (start : Start) (earlier : ℕ) (past : List Item) (air : AirValue) (run later : RunValue) → later ≡ run → RunIsAt start earlier past air run → RunIsAt start earlier past air later
 run-kept start earlier past air run later same at = subst (λ (r : RunValue). RunIsAt start earlier past air r) (sym same) at

@@ -53,7 +53,7 @@ impl<'a, L: Ledger> Run<'a, L> {
         let mut is_answered = false;
         let mut index = 1;
         'moves: loop {
-            run.next(operations, given(is_answered, &answer), &mut next);
+            run.next(operations, last_answer(is_answered, &answer), &mut next);
             match &next {
                 OpNext::Send {
                     command,
@@ -109,7 +109,7 @@ impl<'a, L: Ledger> Run<'a, L> {
 }
 
 /// The answer, where there is one to what was done last.
-fn given(is_answered: bool, answer: &Answer) -> Option<&Answer>
+fn last_answer(is_answered: bool, answer: &Answer) -> Option<&Answer>
     ensures { option_copied result ≡ if is_answered then Some answer.now else None }
 {
     if is_answered { Some(answer) } else { None }

@@ -124,7 +124,7 @@ fn reply_of(answers: &Answers, tag: u32, command: &Command, bits: &mut Bits) -> 
 }
 
 /// What the channel gave, with the reply that came whole.
-fn gave(air: &Air, got: Got, command: &Command, bits: &mut Bits) -> Gave
+fn gave_of(air: &Air, got: Got, command: &Command, bits: &mut Bits) -> Gave
     requires room { longest_reply ≤ bits.old.capacity }
     requires short { AreShort air.now.answers }
     ensures room { bits.new.capacity ≡ bits.old.capacity }
@@ -156,7 +156,7 @@ fn tell_given<R: Listener>(
         → PassesOn R.hears before report.old report.new
         (before ++ GivenLine (exchanged_by link sent) ∷ []) }
 {
-    let given = gave(air, got, command, bits);
+    let given = gave_of(air, got, command, bits);
     report.tell(&Line::Given(Exchanged {
         number: exchange,
         command,

@@ -22,7 +22,7 @@ converse-requires-clause-underway g c =
     let r = c.requires.underway in
     let begun = c.requires.begun in
     let u = c.moves.invariant r.start r.earlier r.past begun.epc begun.rn r.at begun.stands in
-    let next = subst (λ (n : OpNext). IsNextOperation n c.next.new.self c.args.operations.now begun.epc begun.rn u.are.moves) c.in-Send.is (c.next.ensures.next begun.epc begun.rn u.are.moves u.are.goes (c.given.ensures ∙ u.are.last)) in
+    let next = subst (λ (n : OpNext). IsNextOperation n c.next.new.self c.args.operations.now begun.epc begun.rn u.are.moves) c.in-Send.is (c.next.ensures.next begun.epc begun.rn u.are.moves u.are.goes (c.last_answer.ensures ∙ u.are.last)) in
     let asked : Asked = record { command = c.in-Send.command; expect = c.in-Send.expect; extended = c.in-Send.extended } in
     let sent = sends-next (record { at = record { start = r.start; round = c.args.round; slot = c.args.slot }; list = c.args.operations.now; epc = begun.epc; rn = begun.rn; earlier = r.earlier; before = r.past })
     u.are.moves asked _ next in
@@ -34,7 +34,7 @@ converse-requires-clause-expects g c =
     let r = c.requires.underway in
     let begun = c.requires.begun in
     let u = c.moves.invariant r.start r.earlier r.past begun.epc begun.rn r.at begun.stands in
-    let next = subst (λ (n : OpNext). IsNextOperation n c.next.new.self c.args.operations.now begun.epc begun.rn u.are.moves) c.in-Send.is (c.next.ensures.next begun.epc begun.rn u.are.moves u.are.goes (c.given.ensures ∙ u.are.last)) in
+    let next = subst (λ (n : OpNext). IsNextOperation n c.next.new.self c.args.operations.now begun.epc begun.rn u.are.moves) c.in-Send.is (c.next.ensures.next begun.epc begun.rn u.are.moves u.are.goes (c.last_answer.ensures ∙ u.are.last)) in
     let asked : Asked = record { command = c.in-Send.command; expect = c.in-Send.expect; extended = c.in-Send.extended } in
     let sent = sends-next (record { at = record { start = r.start; round = c.args.round; slot = c.args.slot }; list = c.args.operations.now; epc = begun.epc; rn = begun.rn; earlier = r.earlier; before = r.past })
     u.are.moves asked _ next in
@@ -43,7 +43,7 @@ converse-requires-clause-expects g c =
 pub moves-preserved-in-Send : goal.moves-preserved-in-Send
 moves-preserved-in-Send g c = λ start earlier past epc rn at stands.
     let u = c.moves.invariant start earlier past epc rn at stands in
-    let next = subst (λ (n : OpNext). IsNextOperation n c.next.new.self c.args.operations.now epc rn u.are.moves) c.in-Send.is (c.next.ensures.next epc rn u.are.moves u.are.goes (c.given.ensures ∙ u.are.last)) in
+    let next = subst (λ (n : OpNext). IsNextOperation n c.next.new.self c.args.operations.now epc rn u.are.moves) c.in-Send.is (c.next.ensures.next epc rn u.are.moves u.are.goes (c.last_answer.ensures ∙ u.are.last)) in
     let asked : Asked = record { command = c.in-Send.command; expect = c.in-Send.expect; extended = c.in-Send.extended } in
     let sent = sends-next (record { at = record { start = start; round = c.args.round; slot = c.args.slot }; list = c.args.operations.now; epc = epc; rn = rn; earlier = earlier; before = past })
     u.are.moves asked _ next in
@@ -72,7 +72,7 @@ overflow_add-index g c =
 pub moves-preserved : goal.moves-preserved
 moves-preserved g c = λ start earlier past epc rn at stands.
     let u = c.moves.invariant start earlier past epc rn at stands in
-    let next = subst (λ (n : OpNext). IsNextOperation n c.next.new.self c.args.operations.now epc rn u.are.moves) c.in-Result.is (c.next.ensures.next epc rn u.are.moves u.are.goes (c.given.ensures ∙ u.are.last)) in
+    let next = subst (λ (n : OpNext). IsNextOperation n c.next.new.self c.args.operations.now epc rn u.are.moves) c.in-Result.is (c.next.ensures.next epc rn u.are.moves u.are.goes (c.last_answer.ensures ∙ u.are.last)) in
     let lines : List ReportLine = lines_to_tell start u.past in
     let told = passes-then (listening g.R.Listener.hears g.R.Listener.failed _ _) _ (lines_to_tell start past) lines (lines ++ OpLine c.args.round c.args.slot c.moves.index c.in-Result.ended ∷ [])
     u.stands.told (c.tell_result.ensures lines) in
@@ -86,5 +86,5 @@ moves-preserved g c = λ start earlier past epc rn at stands.
 pub returns-in-End : goal.returns-in-End
 returns-in-End g c = λ start earlier past epc rn at stands.
     let u = c.moves.invariant start earlier past epc rn at stands in
-    let next = subst (λ (n : OpNext). IsNextOperation n c.next.new.self c.args.operations.now epc rn u.are.moves) c.in-End.is (c.next.ensures.next epc rn u.are.moves u.are.goes (c.given.ensures ∙ u.are.last)) in
+    let next = subst (λ (n : OpNext). IsNextOperation n c.next.new.self c.args.operations.now epc rn u.are.moves) c.in-End.is (c.next.ensures.next epc rn u.are.moves u.are.goes (c.last_answer.ensures ∙ u.are.last)) in
     stands-same _ start _ _ _ _ _ (sym (operations-end _ _ u.past u.are c.next.new.self next)) u.stands

@@ -3,7 +3,7 @@ use Rattle.air_world.proofs.Saying.{gave-broken, gave-raw, gave-silence, gave-wh
 use Rattle.air_world.specs.Saying.{AnswersCommand}
 use Rattle.command_grammar.specs.declared.commands.Command.{Command}
 use Rattle.runs.specs.laws.Replies.{AreReplies}
-use Rattle.air_world.proofs.run.saying.gave.Goals as goal
+use Rattle.air_world.proofs.run.saying.gave_of.Goals as goal
 
 pub returns-in-Silence-clause-gave : goal.returns-in-Silence-clause-gave
 returns-in-Silence-clause-gave c = λ link sent behind command. gave-silence link sent.given (sym c.in-Silence.is ∙ behind.got_is)
