@@ -1,5 +1,5 @@
 -- What is listed is what was heard, whoever sent it.
-use Rattle.std.proofs.Common.{◌≡◌, ℕ, ◌∷◌, ◌++◌, [], List, length, Some, refl, ap, arith}
+use Rattle.std.proofs.Common.{◌≡◌, ℕ, ◌∷◌, ◌++◌, [], List, length, Some, ap, arith}
 use Rattle.tag_machine.specs.Exchange.{AreLegalTags}
 use Rattle.air_model.specs.Channel.{Given, silence, whole, broken, raw, heard_levels, IsReadBy}
 use Rattle.air_model.specs.Past.{Item, Record, exchanged, tags_behind}

@@ -102,21 +102,21 @@ sent-legal : (start : Start) (later : List Item) (sent : Record) (earlier : List
 sent-legal start [] sent earlier are = are.1
 sent-legal start (item ∷ later) sent earlier are = sent-legal start later sent earlier are.2
 
-first-legal : (number : ℕ) (starts : List TagValue) → AreLegalTags starts → AreLegalTags (tags_behind_from number starts [])
+pub first-legal : (number : ℕ) (starts : List TagValue) → AreLegalTags starts → AreLegalTags (tags_behind_from number starts [])
 first-legal number [] are = tt
 first-legal number (start ∷ starts) are = (are.0, first-legal (number + 1) starts are.1)
 
 -- a tag that misses a command or hears it is legal after it
-outcome-legal : (misses : Bool) (command : Command) (tag : TagValue) → Laws → IsLegalCommand command → IsLegalTag tag → IsLegalTag (outcome_unless misses command tag).tag
-outcome-legal true command tag laws legal is = is
-outcome-legal false command tag laws legal is = laws.heard command tag.state tag.body legal is
+outcome-legal : (misses : Bool) (command : Command) (tag : TagValue) → HeardLegal → IsLegalCommand command → IsLegalTag tag → IsLegalTag (outcome_unless misses command tag).tag
+outcome-legal true command tag heard legal is = is
+outcome-legal false command tag heard legal is = heard command tag.state tag.body legal is
 
-outcomes-legal : (number : ℕ) (command : Command) (entry : Entry) (tags : List TagValue) → Laws → IsLegalCommand command → AreLegalTags tags
+pub outcomes-legal : (number : ℕ) (command : Command) (entry : Entry) (tags : List TagValue) → HeardLegal → StaysLegal → IsLegalCommand command → AreLegalTags tags
     → AreLegalTags (tags_after (outcomes_from number command entry tags))
-outcomes-legal number command entry [] laws legal are = tt
-outcomes-legal number command entry (tag ∷ tags) laws legal are = (
-  outcome-legal (is_missed number entry) command (tag_after_events number entry.events tag) laws legal (events-legal number entry.events tag laws.befallen are.0),
-  outcomes-legal (number + 1) command entry tags laws legal are.1,
+outcomes-legal number command entry [] heard stays legal are = tt
+outcomes-legal number command entry (tag ∷ tags) heard stays legal are = (
+  outcome-legal (is_missed number entry) command (tag_after_events number entry.events tag) heard legal (events-legal number entry.events tag stays are.0),
+  outcomes-legal (number + 1) command entry tags heard stays legal are.1,
 )
 
 befallen-legal : (number : ℕ) (event : Event) (befallen : ℕ) (tags : List TagValue) → Laws → AreLegalTags tags → AreLegalTags (tags_after_event number event befallen tags)
@@ -129,7 +129,7 @@ legal-sent : Laws → (start : Start) (round slot : ℕ) (command : Command) (pa
     → AreLegalBehind start (past_behind_command start round slot command past)
 legal-sent laws start round slot command past legal are = (
   subst AreLegalTags (sym (tags-exchanged start (next_record start round slot command past) past))
-      (outcomes-legal 0 command (next_entry start past) (tags_behind start past) laws legal (now-legal start past are)),
+      (outcomes-legal 0 command (next_entry start past) (tags_behind start past) laws.heard laws.befallen legal (now-legal start past are)),
   legal,
   are,
 )
