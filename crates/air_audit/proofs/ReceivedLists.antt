@@ -1,8 +1,6 @@
 -- The list lines of an audited trace are what is received of the levels before them.
-use Rattle.std.proofs.Common.{◌≡◌, ℕ, ◌+◌, inl, inr, Bool, true, false, List, [], ◌∷◌, ◌++◌, Option, Some, None, codes, refl, sym, ap, ◌∙◌, subst, length, append_assoc}
+use Rattle.std.proofs.Common.{◌≡◌, ℕ, ◌+◌, inl, inr, List, [], ◌∷◌, ◌++◌, Option, Some, None, codes, refl, sym, ap, ◌∙◌, subst, length, append_assoc}
 use Rattle.std.proofs.lemmas.List.{append-nil}
-use Rattle.air_events.specs.declared.Entry.{Entry}
-use Rattle.command_grammar.specs.Commands.{IsLegalCommand}
 use Rattle.command_grammar.specs.declared.commands.Command.{Command}
 use Rattle.command_grammar.specs.declared.commands.Command.TheVariants as commands
 use Rattle.line_codes.specs.Codes.{table_of}
@@ -12,20 +10,19 @@ use Rattle.reply_grammar.specs.declared.expected.Expect.TheVariants as expects
 use Rattle.reply_grammar.specs.declared.expected.Received.TheVariants.{Whole}
 use Rattle.reply_grammar.specs.declared.expected.Reply.TheVariants as replies
 use Rattle.reply_wire.specs.Received.{IsReceived}
-use Rattle.tag_machine.specs.Exchange.{AreLegalTags, outcome_unless, outcomes_from, tags_after, tag_after_events, is_missed}
-use Rattle.tag_machine.specs.Step.{step}
-use Rattle.tag_machine.specs.TagValue.{TagValue, StateValue, BodyValue, IsLegalTag}
+use Rattle.tag_machine.specs.Exchange.{AreLegalTags}
+use Rattle.tag_machine.specs.TagValue.{TagValue}
 use Rattle.air_model.specs.Channel.{Given, heard_levels}
-use Rattle.air_model.specs.Past.{Start, Record, Item, exchanged, exchanges_in, next_entry, tags_behind, tags_behind_from}
+use Rattle.air_model.specs.Past.{Start, Record, Item, exchanged, exchanges_in, next_entry, tags_behind}
 use Rattle.air_model.specs.Reception.{IsGivenFor, reception_of}
 use Rattle.air_model.proofs.ReceptionLaws.{whole_is_heard}
 use Rattle.report_lines.specs.ReadLines.{first_field, text_of}
 use Rattle.runs.proofs.Answering.{TagLaws, given-in-expected}
+use Rattle.runs.proofs.LegalPasts.{HeardLegal, first-legal, outcomes-legal}
 use Rattle.runs.proofs.MadeRecords.{made-read}
 use Rattle.runs.specs.Listing.{Listed, listed_by, listed_from, reception_of_ack}
 use Rattle.runs.specs.NextItem.{expectation_of}
 use Rattle.runs.specs.Report.{list_line}
-use Rattle.runs.specs.laws.Replies.{events-legal}
 use Rattle.runs.proofs.Tags.{tags-exchanged}
 use Rattle.text_fields.specs.Lines.{lines_of}
 use Rattle.checked_lines.specs.TextRules.{HasOutcomeFrom, Whole}
@@ -40,29 +37,9 @@ use Rattle.air_audit.proofs.Received.{made-again}
 use Rattle.air_audit.proofs.Words.{link-is-other}
 
 -- the laws of tags that this goes by
-abbrev pub HeardLegal : Type 0
-HeardLegal = (command : Command) (state : StateValue) (body : BodyValue) → IsLegalCommand command → IsLegalTag (record { state = state; body = body })
-    → IsLegalTag (step command state body).tag
-
 pub record Laws : Type 0 where
   pub tags : TagLaws
   pub heard : HeardLegal
-
-outcome-legal : (misses : Bool) (command : Command) (tag : TagValue) → HeardLegal → IsLegalCommand command → IsLegalTag tag → IsLegalTag (outcome_unless misses command tag).tag
-outcome-legal true command tag heard legal is = is
-outcome-legal false command tag heard legal is = heard command tag.state tag.body legal is
-
-outcomes-legal : (number : ℕ) (command : Command) (entry : Entry) (tags : List TagValue) → Laws → IsLegalCommand command → AreLegalTags tags
-    → AreLegalTags (tags_after (outcomes_from number command entry tags))
-outcomes-legal number command entry [] laws legal are = tt
-outcomes-legal number command entry (tag ∷ tags) laws legal are = (
-  outcome-legal (is_missed number entry) command (tag_after_events number entry.events tag) laws.heard legal (events-legal number entry.events tag laws.tags.stays are.0),
-  outcomes-legal (number + 1) command entry tags laws legal are.1,
-)
-
-first-legal : (number : ℕ) (starts : List TagValue) → AreLegalTags starts → AreLegalTags (tags_behind_from number starts [])
-first-legal number [] are = tt
-first-legal number (start ∷ starts) are = (are.0, first-legal (number + 1) starts are.1)
 
 -- a record whose tx line stands last
 record IsSentLast (start : Start) (front : List (List ℕ)) (past : List Item) (sent : Record) : Type 0 where
@@ -114,7 +91,7 @@ behind-legal : Laws → (start : Start) (front : List (List ℕ)) (past : List I
     → AreLegalTags (tags_behind start (exchanged sent ∷ past))
 behind-legal laws start front past sent last =
     subst AreLegalTags (sym (tags-exchanged start sent past))
-    (outcomes-legal 0 sent.command sent.entry (tags_behind start past) laws last.sends.frame.spells.legal last.legal)
+    (outcomes-legal 0 sent.command sent.entry (tags_behind start past) laws.heard laws.tags.stays last.sends.frame.spells.legal last.legal)
 
 -- what is listed is received of the levels that are heard
 heard-whole : Laws → (start : Start) (front : List (List ℕ)) (past : List Item) (sent : Record) (listed : Listed) → IsSentLast start front past sent
