@@ -69,16 +69,7 @@ row-expected (commands.QueryRep session) expect state body sent asked legal is =
 row-expected (commands.Ack rn) expect state body sent asked legal is = same-epc expect sent asked (epc-expected sent _ _ legal is.reply is.plain)
 row-expected (commands.Query dr line_code trext sel session target q) expect state body sent asked legal is = same-rn16 expect sent asked (rn16-expected sent _ legal is.reply is.plain)
 row-expected (commands.QueryAdjust session updn) expect state body sent asked legal is = same-rn16 expect sent asked (rn16-expected sent _ legal is.reply is.plain)
-row-expected (commands.Select target action bank pointer mask) expect state body sent asked legal is = absurd (cc)
-row-expected commands.Nak expect state body sent asked legal is = absurd (cc)
-row-expected (commands.ReqRn rn) expect state body sent asked legal is = absurd (cc)
-row-expected (commands.Read bank pointer count rn) expect state body sent asked legal is = absurd (cc)
-row-expected (commands.Write bank pointer covered rn) expect state body sent asked legal is = absurd (cc)
-row-expected (commands.Kill covered rn) expect state body sent asked legal is = absurd (cc)
-row-expected (commands.Lock payload rn) expect state body sent asked legal is = absurd (cc)
-row-expected (commands.Access covered rn) expect state body sent asked legal is = absurd (cc)
-row-expected (commands.BlockWrite bank pointer words rn) expect state body sent asked legal is = absurd (cc)
-row-expected (commands.BlockErase bank pointer count rn) expect state body sent asked legal is = absurd (cc)
+row-expected command expect state body sent asked legal is = absurd (cc)
 
 -- what holds of whatever legal tags answer to a command holds of what the channel gives
 pub given-of-answers : (P : Sent → Type 0) (start : Start) (command : Command) (entry : Entry) (tags : List TagValue) → AnswersSo P command → StaysLegal → AreLegalTags tags

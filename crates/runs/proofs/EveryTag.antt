@@ -92,11 +92,7 @@ pub data Lists (listed : List Listed) (senders : List ℕ) : Type 0 where
 
 lists-reply : (sent : Record) (reply : Reply) (number : ℕ) → Lists (listed_from sent (whole_reply reply)) (if_listed (listed_from sent (whole_reply reply)) number)
 lists-reply sent (replies.Epc pc epc) number = somebody (record { round = sent.round; slot = sent.slot; pc = pc; epc = epc }) number refl refl
-lists-reply sent (replies.Rn16 rn) number = nobody refl refl
-lists-reply sent (replies.Handle rn) number = nobody refl refl
-lists-reply sent (replies.Words words) number = nobody refl refl
-lists-reply sent replies.Header number = nobody refl refl
-lists-reply sent (replies.Error code) number = nobody refl refl
+lists-reply sent reply number = nobody refl refl
 
 lists-expected : (sent : Record) (expected : Bool) (reply : Reply) (number : ℕ)
     → let listed = listed_from sent (if expected then whole_reply reply else no_such_reply) in Lists listed (if_listed listed number)

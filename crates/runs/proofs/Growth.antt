@@ -95,12 +95,8 @@ pub begun-holds : (Holds : Dialogue → Type 0) (operations : OpList) (rn : ℕ)
     → Holds (dialogue_begun operations rn reception)
 begun-holds Holds operations rn no_stream none whole = none
 begun-holds Holds operations rn no_such_reply none whole = none
-begun-holds Holds operations rn (whole_reply (replies.Rn16 number)) none whole = none
 begun-holds Holds operations rn (whole_reply (replies.Epc pc epc)) none whole = whole pc epc refl
-begun-holds Holds operations rn (whole_reply (replies.Handle number)) none whole = none
-begun-holds Holds operations rn (whole_reply (replies.Words words)) none whole = none
-begun-holds Holds operations rn (whole_reply replies.Header) none whole = none
-begun-holds Holds operations rn (whole_reply (replies.Error code)) none whole = none
+begun-holds Holds operations rn (whole_reply reply) none whole = none
 
 -- each command of it awaits a reply of its kind
 pub begun-awaits : (operations : OpList) (rn : ℕ) (reception : Reception) → AwaitsReplies (dialogue_begun operations rn reception)
@@ -123,11 +119,7 @@ pub outcome-cases : (Holds : Outcome → List Item → Type 0) (at : SlotOfRun) 
 outcome-cases Holds at operations no_stream past none whole = none refl
 outcome-cases Holds at operations no_such_reply past none whole = none refl
 outcome-cases Holds at operations (whole_reply (replies.Rn16 rn)) past none whole = whole rn refl
-outcome-cases Holds at operations (whole_reply (replies.Epc pc epc)) past none whole = none refl
-outcome-cases Holds at operations (whole_reply (replies.Handle rn)) past none whole = none refl
-outcome-cases Holds at operations (whole_reply (replies.Words words)) past none whole = none refl
-outcome-cases Holds at operations (whole_reply replies.Header) past none whole = none refl
-outcome-cases Holds at operations (whole_reply (replies.Error code)) past none whole = none refl
+outcome-cases Holds at operations (whole_reply reply) past none whole = none refl
 
 -- ... also what says nothing of the outcome
 pub answer-cases : (Holds : List Item → Type 0) (at : SlotOfRun) (operations : OpList) (reception : Reception) (past : List Item)

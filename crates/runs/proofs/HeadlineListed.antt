@@ -51,9 +51,6 @@ is_ack command = false
 
 slot-no-ack : (command : Command) → begins_slot command ≡ true → is_ack command ≡ false
 slot-no-ack (commands.Ack rn) begins = absurd (cc)
-slot-no-ack (commands.Query dr code trext sel session target q) begins = refl
-slot-no-ack (commands.QueryAdjust session updn) begins = refl
-slot-no-ack (commands.QueryRep session) begins = refl
 slot-no-ack command begins = refl
 
 select-no-ack : (command : Command) → IsSelect command → is_ack command ≡ false
@@ -221,11 +218,7 @@ lists-elsewhere : (round slot : ℕ) (sent : Record) (reception : Reception) →
 lists-elsewhere round slot sent no_stream other = refl
 lists-elsewhere round slot sent no_such_reply other = refl
 lists-elsewhere round slot sent (whole_reply (replies.Epc pc epc)) other = rw other refl
-lists-elsewhere round slot sent (whole_reply (replies.Rn16 rn)) other = refl
-lists-elsewhere round slot sent (whole_reply (replies.Handle rn)) other = refl
-lists-elsewhere round slot sent (whole_reply (replies.Words words)) other = refl
-lists-elsewhere round slot sent (whole_reply replies.Header) other = refl
-lists-elsewhere round slot sent (whole_reply (replies.Error code)) other = refl
+lists-elsewhere round slot sent (whole_reply reply) other = refl
 
 other-place : (a b c d : ℕ) → IsEarlier a b c d → (a == c && b == d) ≡ false
 other-place a b c d (inl less) = let other : (a == c) ≡ false = ne_eqb a c (λ same. absurd (omega (arith, less, same))) in rw other refl
@@ -279,11 +272,7 @@ none-after link (ended number end slots ∷ later) sent earlier rise ack =
 epc-expected : (reply : Reply) (handle pc : ℕ) (epc : List ℕ) → reply ≡ replies.Epc pc epc
     → (suits reply expects.Epc && has_handle reply handle (handle_of expects.Epc)) ≡ true
 epc-expected (replies.Epc in_pc in_epc) handle pc epc is = refl
-epc-expected (replies.Rn16 rn) handle pc epc is = absurd (cc)
-epc-expected (replies.Handle rn) handle pc epc is = absurd (cc)
-epc-expected (replies.Words words) handle pc epc is = absurd (cc)
-epc-expected replies.Header handle pc epc is = absurd (cc)
-epc-expected (replies.Error code) handle pc epc is = absurd (cc)
+epc-expected reply handle pc epc is = absurd (cc)
 
 -- what a record lists in whose ACK this PC and EPC were heard
 own-listed : (sent : Record) (listed : Listed) → Tells sent listed → map list_line (listed_by sent) ≡ list_line listed ∷ []

@@ -37,11 +37,7 @@ line-of sent no_stream listed among = absurd among
 line-of sent no_such_reply listed among = absurd among
 line-of sent (whole_reply (replies.Epc pc epc)) listed (inl is) = record { round_is = cc; slot_is = cc; heard = cc }
 line-of sent (whole_reply (replies.Epc pc epc)) listed (inr none) = absurd none
-line-of sent (whole_reply (replies.Rn16 rn)) listed among = absurd among
-line-of sent (whole_reply (replies.Handle rn)) listed among = absurd among
-line-of sent (whole_reply (replies.Words words)) listed among = absurd among
-line-of sent (whole_reply replies.Header) listed among = absurd among
-line-of sent (whole_reply (replies.Error code)) listed among = absurd among
+line-of sent (whole_reply reply) listed among = absurd among
 
 told-command : (sent : Record) (command : Command) (listed : Listed) → sent.command ≡ command
     → Among (list_line listed) (map list_line (listed_from sent (reception_of_ack sent command))) → Tells sent listed

@@ -27,7 +27,7 @@ use Rattle.reply_grammar.specs.declared.expected.Reply.{Reply}
 use Rattle.reply_grammar.specs.declared.expected.Reply.TheVariants as replies
 use Rattle.tag_machine.specs.Answers.{Sent}
 use Rattle.tag_machine.specs.Inventory.{epc_reply}
-use Rattle.tag_machine.specs.TagValue.{TagValue, StateValue, BodyValue, ReadyState, ArbitrateState, ReplyState, AcknowledgedState, OpenState, SecuredState, KilledState, UnpoweredState}
+use Rattle.tag_machine.specs.TagValue.{TagValue, StateValue, BodyValue, ReplyState}
 
 -- where nothing is said of an exchange, the channel goes by its default
 pub slot-heard : (start : Start) (round slot : ℕ) (command : Command) (past : List Item) (reception : Reception) → next_entry start past ≡ no_entry
@@ -131,29 +131,17 @@ rn16_sent rn = record { reply = replies.Rn16 rn; handle = 0; extended = false }
 -- a tag that an ACK acknowledges answered with its RN16 ..
 acknowledged-answered : (rn : ℕ) (state : StateValue) → is_acknowledged_by rn state ≡ true
     → slot_answer_of state ≡ Some (record { reply = replies.Rn16 rn; handle = 0; extended = false })
-acknowledged-answered rn ReadyState is = absurd (cc)
-acknowledged-answered rn (ArbitrateState session q slot) is = absurd (cc)
 acknowledged-answered rn (ReplyState session q own) is =
     ap (λ n. Some (record { reply = replies.Rn16 n; handle = 0; extended = false })) (eqb-true own rn is)
-acknowledged-answered rn (AcknowledgedState session q own) is = absurd (cc)
-acknowledged-answered rn (OpenState held) is = absurd (cc)
-acknowledged-answered rn (SecuredState held) is = absurd (cc)
-acknowledged-answered rn KilledState is = absurd (cc)
-acknowledged-answered rn UnpoweredState is = absurd (cc)
+acknowledged-answered rn state is = absurd (cc)
 
 -- .. and the other way round
 answered-acknowledged : (rn : ℕ) (state : StateValue) (sent : Sent) → slot_answer_of state ≡ Some sent → sent.reply ≡ replies.Rn16 rn → is_acknowledged_by rn state ≡ true
-answered-acknowledged rn ReadyState sent answered same = absurd (cc)
-answered-acknowledged rn (ArbitrateState session q slot) sent answered same = absurd (cc)
 answered-acknowledged rn (ReplyState session q own) sent answered same =
     let said : rn16_sent own ≡ sent = cc in
     let reply : replies.Rn16 own ≡ sent.reply = ap (λ (s : Sent). s.reply) said in
     eq-eqb own rn (cc)
-answered-acknowledged rn (AcknowledgedState session q own) sent answered same = absurd (cc)
-answered-acknowledged rn (OpenState held) sent answered same = absurd (cc)
-answered-acknowledged rn (SecuredState held) sent answered same = absurd (cc)
-answered-acknowledged rn KilledState sent answered same = absurd (cc)
-answered-acknowledged rn UnpoweredState sent answered same = absurd (cc)
+answered-acknowledged rn state sent answered same = absurd (cc)
 
 -- a slot command of a run: what was past when it was sent, and what was past just behind it
 pub record SlotCommand : Type 0 where

@@ -51,11 +51,7 @@ later-replies item history round of = λ sent earlier rn recorded same ack. of s
 -- what a record lists is told with its round
 reply-round : (sent : Record) (reply : Reply) (one : Listed) → listed_from sent (whole_reply reply) ≡ one ∷ [] → one.round ≡ sent.round
 reply-round sent (replies.Epc pc epc) one is = cc
-reply-round sent (replies.Rn16 rn) one is = absurd (cc)
-reply-round sent (replies.Handle rn) one is = absurd (cc)
-reply-round sent (replies.Words words) one is = absurd (cc)
-reply-round sent replies.Header one is = absurd (cc)
-reply-round sent (replies.Error code) one is = absurd (cc)
+reply-round sent reply one is = absurd (cc)
 
 reception-round : (sent : Record) (reception : Reception) (one : Listed) → listed_from sent reception ≡ one ∷ [] → one.round ≡ sent.round
 reception-round sent no_stream one is = absurd (cc)
@@ -73,11 +69,7 @@ none-elsewhere : (sent : Record) (reception : Reception) (round : ℕ) → is_of
 none-elsewhere sent no_stream round other = refl
 none-elsewhere sent no_such_reply round other = refl
 none-elsewhere sent (whole_reply (replies.Epc pc epc)) round other = rw other refl
-none-elsewhere sent (whole_reply (replies.Rn16 rn)) round other = refl
-none-elsewhere sent (whole_reply (replies.Handle rn)) round other = refl
-none-elsewhere sent (whole_reply (replies.Words words)) round other = refl
-none-elsewhere sent (whole_reply replies.Header) round other = refl
-none-elsewhere sent (whole_reply (replies.Error code)) round other = refl
+none-elsewhere sent (whole_reply reply) round other = refl
 
 -- one entry and its sender count where the record is of the round
 zip-one : (history : List Item) (round : ℕ) (here : Bool) (one : Listed) (number : ℕ) → here ≡ true → IsEntryOf history round one number

@@ -106,22 +106,14 @@ pairs-from : (sent sent2 : Record) (reception : Reception)
     → map pair_listed (listed_from sent reception) ≡ map pair_listed (listed_from sent2 reception)
 pairs-from sent sent2 no_stream = refl
 pairs-from sent sent2 no_such_reply = refl
-pairs-from sent sent2 (whole_reply (replies.Rn16 rn)) = refl
 pairs-from sent sent2 (whole_reply (replies.Epc pc epc)) = refl
-pairs-from sent sent2 (whole_reply (replies.Handle rn)) = refl
-pairs-from sent sent2 (whole_reply (replies.Words words)) = refl
-pairs-from sent sent2 (whole_reply replies.Header) = refl
-pairs-from sent sent2 (whole_reply (replies.Error code)) = refl
+pairs-from sent sent2 (whole_reply reply) = refl
 
 senders-from : (sent sent2 : Record) (reception : Reception) (given : Given) → sender_where (listed_from sent reception) given ≡ sender_where (listed_from sent2 reception) given
 senders-from sent sent2 no_stream given = refl
 senders-from sent sent2 no_such_reply given = refl
-senders-from sent sent2 (whole_reply (replies.Rn16 rn)) given = refl
 senders-from sent sent2 (whole_reply (replies.Epc pc epc)) given = refl
-senders-from sent sent2 (whole_reply (replies.Handle rn)) given = refl
-senders-from sent sent2 (whole_reply (replies.Words words)) given = refl
-senders-from sent sent2 (whole_reply replies.Header) given = refl
-senders-from sent sent2 (whole_reply (replies.Error code)) given = refl
+senders-from sent sent2 (whole_reply reply) given = refl
 
 -- what is received of an ACK goes by what was given
 heard-one : (record1 record2 : Record) (sent : Sent) → record1.given ≡ record2.given → reception_of_ack record1 (command_of sent) ≡ reception_of_ack record2 (command2_of sent)
@@ -223,11 +215,7 @@ answer-alike : (b : Both) (slot slot2 : ℕ) (reception : Reception) (past past2
 answer-alike b slot slot2 no_stream past past2 alike = alike
 answer-alike b slot slot2 no_such_reply past past2 alike = alike
 answer-alike b slot slot2 (whole_reply (replies.Rn16 rn)) past past2 alike = ack-alike b slot slot2 rn past past2 alike
-answer-alike b slot slot2 (whole_reply (replies.Epc pc epc)) past past2 alike = alike
-answer-alike b slot slot2 (whole_reply (replies.Handle rn)) past past2 alike = alike
-answer-alike b slot slot2 (whole_reply (replies.Words words)) past past2 alike = alike
-answer-alike b slot slot2 (whole_reply replies.Header) past past2 alike = alike
-answer-alike b slot slot2 (whole_reply (replies.Error code)) past past2 alike = alike
+answer-alike b slot slot2 (whole_reply reply) past past2 alike = alike
 
 received-alike : (b : Both) (slot slot2 : ℕ) (sent : Sent) (past past2 : List Item) → AreBoth b past past2
     → slot_reception b.start b.round slot (command_of sent) past ≡ slot_reception b.start2 b.round2 slot2 (command2_of sent) past2

@@ -2,7 +2,6 @@
 use Rattle.std.proofs.Common.{◌≡◌, ℕ, zero, suc, ◌+◌, ◌*◌, ◌≤◌, Bool, true, false, ◌⊎◌, inl, inr, List, [], ◌∷◌, ◌++◌, length, if◌then◌else◌, refl, ap, sym, ◌∙◌, subst, arith}
 use Rattle.std.proofs.lemmas.List.{append_assoc}
 use Rattle.access_ops.specs.declared.OpList.{OpList}
-use Rattle.air_model.specs.Past.{Record, Item}
 use Rattle.command_fields.specs.declared.choices.Side.{Side}
 use Rattle.command_fields.specs.declared.choices.Sel.{Sel}
 use Rattle.command_fields.specs.declared.choices.Side.TheVariants.{A}

@@ -114,9 +114,6 @@ pub record StandsNext (round : PlayedRound) (outcome : Outcome) (before : List O
 
 slot-lists-none : (sent : Record) (command : Command) → begins_slot command ≡ true → listed_from sent (reception_of_ack sent command) ≡ []
 slot-lists-none sent (commands.Ack rn) begins = absurd (cc)
-slot-lists-none sent (commands.Query dr code trext sel session target q) begins = refl
-slot-lists-none sent (commands.QueryAdjust session updn) begins = refl
-slot-lists-none sent (commands.QueryRep session) begins = refl
 slot-lists-none sent command begins = refl
 
 -- a slot command lists nobody

@@ -55,12 +55,8 @@ nothing-done operations epc rn none =
 pub nothing-begun : (operations : OpList) (rn : ℕ) (reception : Reception) → operations.ops ≡ [] → dialogue_begun operations rn reception ≡ done
 nothing-begun operations rn no_stream none = refl
 nothing-begun operations rn no_such_reply none = refl
-nothing-begun operations rn (whole_reply (replies.Rn16 number)) none = refl
 nothing-begun operations rn (whole_reply (replies.Epc pc epc)) none = nothing-done operations epc rn none
-nothing-begun operations rn (whole_reply (replies.Handle number)) none = refl
-nothing-begun operations rn (whole_reply (replies.Words words)) none = refl
-nothing-begun operations rn (whole_reply replies.Header) none = refl
-nothing-begun operations rn (whole_reply (replies.Error code)) none = refl
+nothing-begun operations rn (whole_reply reply) none = refl
 
 some-or-none : (ops : List Op) → (ops ≢ []) ⊎ (ops ≡ [])
 some-or-none [] = inr refl
