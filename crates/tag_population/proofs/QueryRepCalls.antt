@@ -77,13 +77,9 @@ none_called_for command entry floor settled some = record {
 -- a QueryAdjust passes over a tag in no round
 adjust_past : (session : ℕ) (updn : UpDn) (state : StateValue) (body : BodyValue) → participation_in state ≡ None → step (commands.QueryAdjust session updn) state body ≡ silent state body
 adjust_past session updn ReadyState body none = refl
-adjust_past session updn (ArbitrateState own q slot) body none = absurd (cc)
-adjust_past session updn (ReplyState own q rn) body none = absurd (cc)
-adjust_past session updn (AcknowledgedState own q rn) body none = absurd (cc)
-adjust_past session updn (OpenState held) body none = absurd (cc)
-adjust_past session updn (SecuredState held) body none = absurd (cc)
 adjust_past session updn KilledState body none = refl
 adjust_past session updn UnpoweredState body none = refl
+adjust_past session updn state body none = absurd (cc)
 
 pub passed_silent : (command : Command) (entry : Entry) (floor : FloorValue) (number : ℕ) → floor.parts ≡ participations_of floor.tags → IsPassedOver command (participation_at floor.parts number)
     → StaysSilent (outcome_each command entry floor) floor number
@@ -150,17 +146,9 @@ arbitrate_rep session false own q slot body missed apart =
 rep_state : (session : ℕ) (misses : Bool) (state : StateValue) (body : BodyValue) → (misses ≡ true → waits_in session (participation_in state) ≡ false) → participation_in state ≢ Some (Waits session 1)
     → outcome_part misses (commands.QueryRep session) (counted_down session (participation_in state)) (tag_seated (counted_down session (participation_in state)) (record { state = state; body = body }))
     ≡ outcome_unless misses (commands.QueryRep session) (record { state = state; body = body })
-rep_state session true ReadyState body missed apart = refl
-rep_state session false ReadyState body missed apart = refl
 rep_state session misses (ArbitrateState own q slot) body missed apart = arbitrate_rep session misses own q slot body missed apart
-rep_state session misses (ReplyState own q rn) body missed apart = refl
-rep_state session misses (AcknowledgedState own q rn) body missed apart = refl
-rep_state session misses (OpenState held) body missed apart = refl
-rep_state session misses (SecuredState held) body missed apart = refl
-rep_state session true KilledState body missed apart = refl
-rep_state session false KilledState body missed apart = refl
-rep_state session true UnpoweredState body missed apart = refl
-rep_state session false UnpoweredState body missed apart = refl
+rep_state session true state body missed apart = refl
+rep_state session false state body missed apart = refl
 
 rep_outcome : (session : ℕ) (misses : Bool) (part : Option Participation) (tag : TagValue) → IsRep session misses part tag
     → outcome_part misses (commands.QueryRep session) (counted_down session part) (tag_seated (counted_down session part) tag) ≡ outcome_unless misses (commands.QueryRep session) tag
@@ -175,14 +163,8 @@ rep_outcome session misses part tag (inr others) =
 
 counted_settled : (session : ℕ) (state : StateValue) (body : BodyValue)
     → counted_down session (participation_in state) ≡ participation_in (tag_seated (counted_down session (participation_in state)) (record { state = state; body = body })).state
-counted_settled session ReadyState body = refl
 counted_settled session (ArbitrateState own q slot) body = refl
-counted_settled session (ReplyState own q rn) body = refl
-counted_settled session (AcknowledgedState own q rn) body = refl
-counted_settled session (OpenState held) body = refl
-counted_settled session (SecuredState held) body = refl
-counted_settled session KilledState body = refl
-counted_settled session UnpoweredState body = refl
+counted_settled session state body = refl
 
 rep_settled : (session : ℕ) (misses : Bool) (part : Option Participation) (tag : TagValue) → IsRep session misses part tag → counted_down session part ≢ Some Called
     → counted_down session part ≡ participation_in (tag_seated (counted_down session part) tag).state
@@ -272,32 +254,23 @@ or_third false false true is = refl
 or_third a b false is = absurd (cc)
 
 beyond_called : (state : StateValue) → participation_in state ≡ Some Called → is_beyond_arbitrate state ≡ true
-beyond_called ReadyState is = absurd (cc)
-beyond_called (ArbitrateState session q slot) is = absurd (cc)
 beyond_called (ReplyState session q rn) is = refl
 beyond_called (AcknowledgedState session q rn) is = refl
 beyond_called (OpenState held) is = refl
 beyond_called (SecuredState held) is = refl
-beyond_called KilledState is = absurd (cc)
-beyond_called UnpoweredState is = absurd (cc)
+beyond_called state is = absurd (cc)
 
 answers_now : (session q : ℕ) (body : BodyValue) → is_some (step (commands.QueryRep session) (ArbitrateState session q 1) body).answer ≡ true
 answers_now session q body =
     ap (λ (b : Bool). is_some (if b then count_down session q 1 body else silent (ArbitrateState session q 1) body).answer) (eq-eqb session session refl)
 
 answers_next : (session : ℕ) (state : StateValue) (body : BodyValue) → participation_in state ≡ Some (Waits session 1) → is_some (step (commands.QueryRep session) state body).answer ≡ true
-answers_next session ReadyState body is = absurd (cc)
 answers_next session (ArbitrateState own q slot) body is =
     let same = same_waits own slot session 1 is in
     ap (λ n. is_some (step (commands.QueryRep session) (ArbitrateState n q slot) body).answer) same.0
     ∙ ap (λ n. is_some (step (commands.QueryRep session) (ArbitrateState session q n) body).answer) same.1
     ∙ answers_now session q body
-answers_next session (ReplyState own q rn) body is = absurd (cc)
-answers_next session (AcknowledgedState own q rn) body is = absurd (cc)
-answers_next session (OpenState held) body is = absurd (cc)
-answers_next session (SecuredState held) body is = absurd (cc)
-answers_next session KilledState body is = absurd (cc)
-answers_next session UnpoweredState body is = absurd (cc)
+answers_next session state body is = absurd (cc)
 
 called_busy : (session : ℕ) (entry : Entry) (before called : FloorValue) → RepCalls session entry before called → (number : ℕ) → participation_at called.parts number ≡ Some Called
     → is_busy number (commands.QueryRep session) entry (get_or before.tags number no_tag) ≡ true

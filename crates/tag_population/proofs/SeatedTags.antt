@@ -7,7 +7,7 @@ use Rattle.std.proofs.Math.Seq.{take-append_seam}
 use Rattle.air_events.specs.TagNumbers.{most_tags}
 use Rattle.tag_machine.specs.Exchange.{AreLegalTags}
 use Rattle.tag_machine.specs.Inventory.{slot_below}
-use Rattle.tag_machine.specs.TagValue.{StateValue, ReadyState, ArbitrateState, ReplyState, AcknowledgedState, OpenState, SecuredState, KilledState, UnpoweredState, BodyValue, TagValue, IsLegalState, IsLegalTag}
+use Rattle.tag_machine.specs.TagValue.{StateValue, ArbitrateState, BodyValue, TagValue, IsLegalState, IsLegalTag}
 use Rattle.tag_population.proofs.EventsOnTags.{legal-set}
 use Rattle.tag_population.specs.Floor.{with_slot, tag_seated, seated_tags, participation_in, participations_of, seats_written_back, steps_back, floor_with, calling, counted_floor, no_tag, FloorValue, AreSeated}
 use Rattle.waiting_tags.specs.Waiting.{participation_at, waiting_slot, counted_down, AreSlots}
@@ -40,27 +40,15 @@ tags-set (own ∷ participations) (first ∷ seats) (suc number) participation s
 
 -- a tag takes part as its state says where it has the slot counter of its state
 seated_in_state : (state : StateValue) (body : BodyValue) → tag_seated (participation_in state) (record { state = state; body = body }) ≡ record { state = state; body = body }
-seated_in_state ReadyState body = refl
 seated_in_state (ArbitrateState session q slot) body = refl
-seated_in_state (ReplyState session q rn) body = refl
-seated_in_state (AcknowledgedState session q rn) body = refl
-seated_in_state (OpenState held) body = refl
-seated_in_state (SecuredState held) body = refl
-seated_in_state KilledState body = refl
-seated_in_state UnpoweredState body = refl
+seated_in_state state body = refl
 
 pub seated_as_is : (tag : TagValue) → tag_seated (participation_in tag.state) tag ≡ tag
 seated_as_is tag = seated_in_state tag.state tag.body
 
 pub with_slot_twice : (slot old : ℕ) (state : StateValue) → with_slot slot (with_slot old state) ≡ with_slot slot state
-with_slot_twice slot old ReadyState = refl
 with_slot_twice slot old (ArbitrateState session q own) = refl
-with_slot_twice slot old (ReplyState session q rn) = refl
-with_slot_twice slot old (AcknowledgedState session q rn) = refl
-with_slot_twice slot old (OpenState held) = refl
-with_slot_twice slot old (SecuredState held) = refl
-with_slot_twice slot old KilledState = refl
-with_slot_twice slot old UnpoweredState = refl
+with_slot_twice slot old state = refl
 
 seated_twice : (participation : Option Participation) (seat : TagValue) → tag_seated participation (tag_seated participation seat) ≡ tag_seated participation seat
 seated_twice None seat = refl
@@ -76,14 +64,8 @@ reseated session (Some Called) seat = refl
 
 -- legal tags, with slot counters of 15 bits
 pub legal_with_slot : (slot : ℕ) (state : StateValue) → slot < 32768 → IsLegalState state → IsLegalState (with_slot slot state)
-legal_with_slot slot ReadyState below legal = legal
 legal_with_slot slot (ArbitrateState session q old) below legal = (legal.0, legal.1, omega (arith, below))
-legal_with_slot slot (ReplyState session q rn) below legal = legal
-legal_with_slot slot (AcknowledgedState session q rn) below legal = legal
-legal_with_slot slot (OpenState held) below legal = legal
-legal_with_slot slot (SecuredState held) below legal = legal
-legal_with_slot slot KilledState below legal = legal
-legal_with_slot slot UnpoweredState below legal = legal
+legal_with_slot slot state below legal = legal
 
 legal_seated : (participation : Option Participation) (seat : TagValue) → ((slot : ℕ) → waiting_slot participation ≡ Some slot → slot < 32768) → IsLegalTag seat → IsLegalTag (tag_seated participation seat)
 legal_seated None seat slots legal = legal
@@ -117,14 +99,8 @@ settled_tags (seat ∷ seats) =
     ap (λ (t : TagValue). t ∷ seated_tags (participations_of seats) seats) (seated_as_is seat) ∙ ap (λ (l : List TagValue). seat ∷ l) (settled_tags seats)
 
 legal_slots : (state : StateValue) (slot : ℕ) → IsLegalState state → waiting_slot (participation_in state) ≡ Some slot → slot < 32768
-legal_slots ReadyState slot legal is = absurd (cc)
 legal_slots (ArbitrateState session q own) slot legal is = omega (arith, legal.2, same_Some own slot is)
-legal_slots (ReplyState session q rn) slot legal is = absurd (cc)
-legal_slots (AcknowledgedState session q rn) slot legal is = absurd (cc)
-legal_slots (OpenState held) slot legal is = absurd (cc)
-legal_slots (SecuredState held) slot legal is = absurd (cc)
-legal_slots KilledState slot legal is = absurd (cc)
-legal_slots UnpoweredState slot legal is = absurd (cc)
+legal_slots state slot legal is = absurd (cc)
 
 slots_at : (seat : TagValue) (seats : List TagValue) → AreLegalTags (seat ∷ seats) → (number slot : ℕ) → waiting_slot (participation_at (participations_of (seat ∷ seats)) number) ≡ Some slot → slot < 32768
 slots_at seat seats legal zero slot is = legal_slots seat.state slot legal.0.state is
