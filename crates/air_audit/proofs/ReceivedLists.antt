@@ -5,7 +5,7 @@ use Rattle.command_grammar.specs.declared.commands.Command.{Command}
 use Rattle.command_grammar.specs.declared.commands.Command.TheVariants as commands
 use Rattle.line_codes.specs.Codes.{table_of}
 use Rattle.pie_line.specs.Link.{LinkValue}
-use Rattle.reply_grammar.specs.Reception.{Reception, no_stream, whole_reply, no_such_reply}
+use Rattle.reply_grammar.specs.Reception.{Reception, whole_reply}
 use Rattle.reply_grammar.specs.declared.expected.Expect.TheVariants as expects
 use Rattle.reply_grammar.specs.declared.expected.Received.TheVariants.{Whole}
 use Rattle.reply_grammar.specs.declared.expected.Reply.TheVariants as replies
@@ -67,18 +67,12 @@ record IsListed (sent : Record) (listed : Listed) (command : Command) : Type 0 w
 
 listed-whole : (sent : Record) (listed : Listed) (others : List Listed) (reception : Reception) → listed ∷ others ≡ listed_from sent reception
     → reception ≡ whole_reply (replies.Epc listed.pc listed.epc)
-listed-whole sent listed others no_stream same = absurd (cc)
 listed-whole sent listed others (whole_reply (replies.Epc pc epc)) same =
     let one : listed ≡ record { round = sent.round; slot = sent.slot; pc = pc; epc = epc } = cc in
     let first : pc ≡ listed.pc = sym (ap (λ (l : Listed). l.pc) one) in
     let second : epc ≡ listed.epc = sym (ap (λ (l : Listed). l.epc) one) in
     ap (λ p. whole_reply (replies.Epc p epc)) first ∙ ap (λ (e : List ℕ). whole_reply (replies.Epc listed.pc e)) second
-listed-whole sent listed others (whole_reply (replies.Rn16 rn)) same = absurd (cc)
-listed-whole sent listed others (whole_reply (replies.Handle rn)) same = absurd (cc)
-listed-whole sent listed others (whole_reply (replies.Words words)) same = absurd (cc)
-listed-whole sent listed others (whole_reply replies.Header) same = absurd (cc)
-listed-whole sent listed others (whole_reply (replies.Error code)) same = absurd (cc)
-listed-whole sent listed others no_such_reply same = absurd (cc)
+listed-whole sent listed others reception same = absurd (cc)
 
 listed-by-ack : (sent : Record) (listed : Listed) (others : List Listed) (command : Command) → listed ∷ others ≡ listed_from sent (reception_of_ack sent command)
     → IsListed sent listed command

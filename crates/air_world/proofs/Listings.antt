@@ -108,11 +108,7 @@ few-from : (sent : Record) (reception : Reception) → length (listed_from sent 
 few-from sent no_stream = omega arith
 few-from sent no_such_reply = omega arith
 few-from sent (whole_reply (replies.Epc pc epc)) = omega arith
-few-from sent (whole_reply (replies.Rn16 rn)) = omega arith
-few-from sent (whole_reply (replies.Handle rn)) = omega arith
-few-from sent (whole_reply (replies.Words words)) = omega arith
-few-from sent (whole_reply replies.Header) = omega arith
-few-from sent (whole_reply (replies.Error code)) = omega arith
+few-from sent (whole_reply reply) = omega arith
 
 pub few-listed : (past : List Item) → length (listing_of past) ≤ exchanges_in past
 few-listed [] = omega arith
