@@ -44,10 +44,7 @@ impl Wheel {
     {
         let links = vec![in alloc; MOST_TAGS; PLACES + usize::from(MOST_TAGS)]?;
         let backs = vec![in alloc; 0; usize::from(MOST_TAGS) + 1]?;
-        let mut places = Vec::with_capacity(alloc, count)?;
-        for _number in 0..count {
-            places.push_reserved(None);
-        }
+        let places = vec![in alloc; None; count]?;
         Ok(Wheel {
             links,
             backs,

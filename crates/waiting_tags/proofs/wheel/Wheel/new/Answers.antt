@@ -1,11 +1,14 @@
-use Rattle.std.proofs.Common.{◌≡◌, ◌∙◌, ℕ, Option, None, ap, arith, replicate}
+use Rattle.std.proofs.Common.{◌≡◌, ℕ, Option, Some, None, arith, refl}
 use Rattle.waiting_tags.proofs.WheelLinks.{lead_nowhere, new_linked}
 use Rattle.waiting_tags.proofs.wheel.Wheel.new.Goals as goal
 
+-- what is a clone of none is none
+clone_of_none : (IsClone : Option ℕ → Type 0) → ((place : ℕ) → IsClone (Some place) → ⊥) → (clone : Option ℕ) → IsClone clone → clone ≡ None
+clone_of_none IsClone apart None is = refl
+clone_of_none IsClone apart (Some place) is = absurd (apart place is)
+
 pub invariant_of-result : goal.invariant_of-result
 invariant_of-result c =
-    let all : c.loop-number._number ≡ c.args.count = omega arith in
-    let none : c.loop-number.places.items ≡ replicate {A = Option ℕ} c.args.count None =
-    c.loop-number.invariant.0 ∙ ap (λ n. replicate {A = Option ℕ} n None) all in
-    new_linked c.args.count c.loop-number.places.items c.in_ok-links.links.items c.in_ok-backs.backs.items c.requires none
+    new_linked c.args.count c.in_ok-places.places.items c.in_ok-links.links.items c.in_ok-backs.backs.items c.requires
+    (c.in_ok-places.ensures.items_if_clones_equal (clone_of_none _ (λ place is. is)))
     (lead_nowhere c.in_ok-links.links.items _ (omega arith) (c.in_ok-links.ensures.items_if_clones_equal (λ y is. is))) (omega (arith, c.in_ok-backs.ensures.len))
