@@ -50,7 +50,7 @@ pub struct Air {
     exchanges: u64,
 }
 
-// A drop is one call so, in place of one for each part, in the proof of each function that owns an air.
+// So a drop is one call, in place of one for each part, in the proof of each function that owns an air.
 impl Drop for Air {
     fn drop(self) {
         let Air {

@@ -14,16 +14,10 @@ use std::marker::Model;
 /// A tag's receiver. It keeps the command that it heard last.
 ///
 /// A contract sees that command, or why what it heard is none.
+#[derive(Drop)]
 pub(crate) struct Receiver {
     framer: Framer,
     heard: Result<Command, CommandRefusal>,
-}
-
-// A drop is one call so, in place of one for each part, in the proof of each function that owns a receiver.
-impl Drop for Receiver {
-    fn drop(self) {
-        let Receiver { framer: _, heard: _ } = self;
-    }
 }
 
 impl Model for Receiver {

@@ -51,10 +51,14 @@ pub struct Answers {
     room: Bits,
 }
 
-// A drop is one call so, in place of one for each part, in the proof of each function that owns answers.
+// So a drop is one call, in place of one for each part, in the proof of each function that owns answers.
 impl Drop for Answers {
     fn drop(self) {
-        let Answers { bits: _, kept: _, room: _ } = self;
+        let Answers {
+            bits: _,
+            kept: _,
+            room: _,
+        } = self;
     }
 }
 
@@ -134,11 +138,12 @@ impl Answers {
         ensures counted { steps.new ≡ steps.old + 1 }
     {
         let heard = tag.hear(command, &mut self.room, steps);
-        match heard.answered {
-            Answered::Silent => {}
-            Answered::Plain => keep(number, false, &self.room, &mut self.bits, &mut self.kept),
-            Answered::Extended => keep(number, true, &self.room, &mut self.bits, &mut self.kept),
-        }
+        let extended = match heard.answered {
+            Answered::Silent => return heard.tag,
+            Answered::Plain => false,
+            Answered::Extended => true,
+        };
+        keep(number, extended, &self.room, &mut self.bits, &mut self.kept);
         heard.tag
     }
 }

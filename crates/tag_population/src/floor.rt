@@ -27,16 +27,10 @@ use waiting_tags::{Participation, Waiting};
 /// says, and is written back into its seat before anything else is done to it.
 ///
 /// A contract sees the tags, and how each takes part.
+#[derive(Drop)]
 pub(crate) struct Floor {
     seats: Vec<Seat>,
     waiting: Waiting,
-}
-
-// A drop is one call so, in place of one for each part, in the proof of each function that owns a floor.
-impl Drop for Floor {
-    fn drop(self) {
-        let Floor { seats: _, waiting: _ } = self;
-    }
 }
 
 impl Model for Floor {

@@ -33,10 +33,13 @@ pub struct Population {
     missed: TagSet,
 }
 
-// A drop is one call so, in place of one for each part, in the proof of each function that owns a population.
+// So a drop is one call, in place of one for each part, in the proof of each function that owns a population.
 impl Drop for Population {
     fn drop(self) {
-        let Population { floor: _, missed: _ } = self;
+        let Population {
+            floor: _,
+            missed: _,
+        } = self;
     }
 }
 
