@@ -75,7 +75,7 @@ pub(crate) struct Auditor<'a, L: Ledger> {
     text: String,
 }
 
-// A drop is one call so, in place of one for each part, in the proof of each function that owns an audit.
+// So a drop is one call, in place of one for each part, in the proof of each function that owns an audit.
 impl<'a, L: Ledger> Drop for Auditor<'a, L> {
     fn drop(self) {
         let Auditor {

@@ -24,18 +24,12 @@ const LONGEST_REPLY: u32 = 8_225;
 /// The levels that the interrogator hears.
 ///
 /// A contract sees the link and these levels.
+#[derive(Drop)]
 pub(crate) struct HeardLevels {
     link: Link,
     /// Room for the bits of an answer.
     bits: Bits,
     levels: Levels,
-}
-
-// A drop is one call so, in place of one for each part, in the proof of each function that owns levels.
-impl Drop for HeardLevels {
-    fn drop(self) {
-        let HeardLevels { link: _, bits: _, levels: _ } = self;
-    }
 }
 
 impl Model for HeardLevels {

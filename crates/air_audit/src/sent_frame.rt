@@ -27,10 +27,14 @@ pub(crate) struct SentFrame {
     command: Result<Command, CommandRefusal>,
 }
 
-// A drop is one call so, in place of one for each part, in the proof of each function that owns a frame.
+// So a drop is one call, in place of one for each part, in the proof of each function that owns a frame.
 impl Drop for SentFrame {
     fn drop(self) {
-        let SentFrame { intervals: _, bits: _, command: _ } = self;
+        let SentFrame {
+            intervals: _,
+            bits: _,
+            command: _,
+        } = self;
     }
 }
 
