@@ -1,2 +1,2 @@
 pub mod DumpTexts
-pub mod JoinedFields
+pub mod FieldsWithByte

@@ -93,13 +93,13 @@ abbrev pub none_text : List ℕ
 none_text = codes "-"
 
 -- a line as the value of a string variable: its fields with `_` in place of each space
-abbrev pub joined : List ℕ → List ℕ
-joined line = join_with_byte 95 (fields_of line)
+abbrev pub with_underscores : List ℕ → List ℕ
+with_underscores line = join_with_byte 95 (fields_of line)
 
 -- what is read of a stream
 abbrev pub reply_value : Gave → List ℕ
 reply_value gave.Silence = none_text
-reply_value (gave.Whole tag reply) = joined (reply_line reply)
+reply_value (gave.Whole tag reply) = with_underscores (reply_line reply)
 reply_value (gave.Broken tag place) = codes "broken"
 reply_value gave.Raw = codes "raw"
 
@@ -113,7 +113,7 @@ first_signals = idle_between 0 0 none_text
 
 -- from the frame of an exchange on: the reader is high but in the lows of the frame, and no tag replies
 abbrev pub sent_signals : Exchanged → Signals
-sent_signals exchanged = idle_between exchanged.number 0 (joined (command_line exchanged.command))
+sent_signals exchanged = idle_between exchanged.number 0 (with_underscores (command_line exchanged.command))
 
 -- ... where tags replied, of which no stream came
 abbrev pub unheard_signals : Exchanged → Signals

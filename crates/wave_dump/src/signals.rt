@@ -1,12 +1,13 @@
 //! The signals of a dump, and how they change.
-ghost use Rattle.std.specs.Prelude.{◌≡◌, ◌++◌, ◌↔◌, ◌==◌, IsTrue, OnOk, [], ◌∷◌};
+ghost use Rattle.std.specs.Prelude.{◌≡◌, ◌++◌, ◌↔◌, ◌==◌, IsTrue, OnOk, [], ◌∷◌, codes};
+ghost use Rattle.std.specs.Fmt.{decimal};
 ghost use Rattle.std.specs.String.{string_bytes};
 ghost use Rattle.text_fields.specs.Lines.{text_with};
-ghost use Rattle.wave_dump.specs.Waves.{change_line, change_lines, command_value_line, exchange_line, level_digit, reader_line, replies_line, reply_value_line, same_bool, same_level, same_text, tag_line, text_at, time_line};
+ghost use Rattle.wave_dump.specs.Waves.{change_line, change_lines, level_digit, reader_line, same_bool, same_level, same_text, tag_line, text_at, time_line};
 ghost use Rattle.wave_dump.specs.Borrowed.{signals_of};
 
 use bit_strings::OutOfMemory;
-use text_fields::{push_long_number, push_number};
+use text_fields::push_long_number;
 
 /// The values of the signals.
 #[derive(Clone, Copy)]
@@ -93,56 +94,32 @@ fn push_tag(text: &mut String, old: Option<bool>, new: Option<bool>) -> Result<(
     text.push_str("t\n")
 }
 
-/// Writes the number of the exchange, where it changes.
-fn push_exchange(text: &mut String, old: u64, new: u64) -> Result<(), OutOfMemory>
+/// Writes a number, where it changes, with what stands behind it.
+fn push_number_value(text: &mut String, old: u64, new: u64, signal: &str) -> Result<(), OutOfMemory>
     ensures { OnOk result (string_bytes text.new ≡ string_bytes text.old
-        ++ text_with (change_line (old == new) (exchange_line new))) }
+        ++ text_with (change_line (old == new) (codes "r" ++ decimal new ++ signal.now))) }
 {
     if old == new {
         return Ok(());
     }
     text.push('r')?;
     push_long_number(text, new)?;
-    text.push_str(" e\n")
+    text.push_str(signal)?;
+    text.push('\n')
 }
 
-/// Writes how many tags reply, where it changes.
-fn push_replies(text: &mut String, old: u32, new: u32) -> Result<(), OutOfMemory>
+/// Writes a text, where it changes, with what stands behind it.
+fn push_text_value(text: &mut String, old: &str, new: &str, signal: &str) -> Result<(), OutOfMemory>
     ensures { OnOk result (string_bytes text.new ≡ string_bytes text.old
-        ++ text_with (change_line (old == new) (replies_line new))) }
-{
-    if old == new {
-        return Ok(());
-    }
-    text.push('r')?;
-    push_number(text, new)?;
-    text.push_str(" n\n")
-}
-
-/// Writes the command, where it changes.
-fn push_command_value(text: &mut String, old: &str, new: &str) -> Result<(), OutOfMemory>
-    ensures { OnOk result (string_bytes text.new ≡ string_bytes text.old
-        ++ text_with (change_line (same_text old.now new.now) (command_value_line new.now))) }
+        ++ text_with (change_line (same_text old.now new.now) (codes "s" ++ new.now ++ signal.now))) }
 {
     if same_text(old, new) {
         return Ok(());
     }
     text.push('s')?;
     text.push_str(new)?;
-    text.push_str(" c\n")
-}
-
-/// Writes the reply, where it changes.
-fn push_reply_value(text: &mut String, old: &str, new: &str) -> Result<(), OutOfMemory>
-    ensures { OnOk result (string_bytes text.new ≡ string_bytes text.old
-        ++ text_with (change_line (same_text old.now new.now) (reply_value_line new.now))) }
-{
-    if same_text(old, new) {
-        return Ok(());
-    }
-    text.push('s')?;
-    text.push_str(new)?;
-    text.push_str(" g\n")
+    text.push_str(signal)?;
+    text.push('\n')
 }
 
 /// Writes each signal that changes.
@@ -156,10 +133,10 @@ pub(crate) fn push_changes(
 {
     push_reader(text, old.reader, new.reader)?;
     push_tag(text, old.tag, new.tag)?;
-    push_exchange(text, old.exchange, new.exchange)?;
-    push_replies(text, old.replies, new.replies)?;
-    push_command_value(text, old.command, new.command)?;
-    push_reply_value(text, old.reply, new.reply)
+    push_number_value(text, old.exchange, new.exchange, " e")?;
+    push_number_value(text, u64::from(old.replies), u64::from(new.replies), " n")?;
+    push_text_value(text, old.command, new.command, " c")?;
+    push_text_value(text, old.reply, new.reply, " g")
 }
 
 /// Writes a time.

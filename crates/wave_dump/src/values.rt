@@ -2,7 +2,7 @@
 ghost use Rattle.std.specs.Prelude.{◌≡◌, ◌++◌, ◌∷◌, OnOk, if◌then◌else◌};
 ghost use Rattle.std.specs.String.{string_bytes};
 ghost use Rattle.command_text.specs.CommandText.{command_line};
-ghost use Rattle.wave_dump.specs.Waves.{joined, reply_value};
+ghost use Rattle.wave_dump.specs.Waves.{with_underscores, reply_value};
 
 use crate::exchanged::Gave;
 use bit_strings::OutOfMemory;
@@ -23,8 +23,8 @@ fn push_field(text: &mut String, field: &str, first: bool) -> Result<(), OutOfMe
 }
 
 /// Adds a line, with `_` in place of each space.
-fn push_joined(text: &mut String, line: &str) -> Result<(), OutOfMemory>
-    ensures { OnOk result (string_bytes text.new ≡ string_bytes text.old ++ joined line.now) }
+fn push_with_underscores(text: &mut String, line: &str) -> Result<(), OutOfMemory>
+    ensures { OnOk result (string_bytes text.new ≡ string_bytes text.old ++ with_underscores line.now) }
 {
     let mut first = true;
     for field in line.split(' ') {
@@ -40,12 +40,12 @@ pub(crate) fn set_command(
     line: &mut String,
     command: &Command,
 ) -> Result<(), OutOfMemory>
-    ensures { OnOk result (string_bytes text.new ≡ joined (command_line command.now)) }
+    ensures { OnOk result (string_bytes text.new ≡ with_underscores (command_line command.now)) }
 {
     line.clear();
     push_command(line, command)?;
     text.clear();
-    push_joined(text, line.as_str())
+    push_with_underscores(text, line.as_str())
 }
 
 /// What is read of a stream as a value. The line is room.
@@ -62,7 +62,7 @@ pub(crate) fn set_reply(
         Gave::Whole(_, reply) => {
             line.clear();
             push_reply(line, reply)?;
-            push_joined(text, line.as_str())
+            push_with_underscores(text, line.as_str())
         }
         Gave::Broken(_, _) => text.push_str("broken"),
         Gave::Raw => text.push_str("raw"),

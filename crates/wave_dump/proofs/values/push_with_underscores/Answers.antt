@@ -5,8 +5,8 @@ use Rattle.std.specs.String.{string_bytes}
 use Rattle.std.proofs.lemmas.Iterator.Consumers.{YieldsList-end}
 use Rattle.std.proofs.lemmas.Iterator.Splits.{YieldsList-from_str_split}
 use Rattle.std.proofs.lemmas.List.{map-append}
-use Rattle.wave_dump.proofs.JoinedFields.{first-mapped, is-not-first, join-field}
-use Rattle.wave_dump.proofs.values.push_joined.Goals as goal
+use Rattle.wave_dump.proofs.FieldsWithByte.{first-mapped, is-not-first, join-field}
+use Rattle.wave_dump.proofs.values.push_with_underscores.Goals as goal
 
 pub loop-field-preserved : goal.loop-field-preserved
 loop-field-preserved c =

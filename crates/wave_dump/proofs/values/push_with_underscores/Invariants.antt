@@ -1,8 +1,8 @@
 use Rattle.std.proofs.Common.{◌≡◌, ◌++◌, map}
 use Rattle.std.specs.List.{join_with_byte}
 use Rattle.std.specs.String.{string_bytes}
-use Rattle.wave_dump.proofs.JoinedFields.{IsFirst}
-use Rattle.wave_dump.proofs.values.push_joined.Given as goal
+use Rattle.wave_dump.proofs.FieldsWithByte.{IsFirst}
+use Rattle.wave_dump.proofs.values.push_with_underscores.Given as goal
 
 abbrev pub invariant-loop-field : goal.invariant-loop-field
 invariant-loop-field l =
