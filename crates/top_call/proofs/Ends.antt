@@ -1,12 +1,13 @@
 -- How a run ends: what a failed write left, and which status an input that the grammar allows has.
-use Rattle.std.proofs.Common.{◌≡◌, ◌≢◌, ◌⊎◌, ℕ, ◌+◌, ◌≤◌, ◌<◌, Bool, List, ◌++◌, length, take, drop, Option, Some, None, Result, Err, true, false, [], refl, sym, ◌∙◌, ap, subst, arith, inl, inr, length-append}
+use Rattle.std.proofs.Common.{◌≡◌, ◌≢◌, ◌⊎◌, ℕ, ◌+◌, ◌≤◌, ◌<◌, Bool, List, ◌++◌, length, take, drop, Option, Some, None, Result, Ok, Err, true, false, [], refl, sym, ◌∙◌, ap, subst, arith, inl, inr, length-append}
 use Rattle.std.proofs.lemmas.List.{take-append-drop, append-nil}
 use Rattle.air_io.specs.Flow.{TakesBytes, Adds, AtEnd, FaultsRose}
 use Rattle.top_call.specs.Job.{Job, Defines, IsLawful}
-use Rattle.top_call.specs.Outcome.{input_limit, ReadsWithin, TakesInput, AddsFront, EndsSo, SinkChange, SourceChange, Tells, WritesWhole, NothingFailed, WritesFront}
+use Rattle.top_call.specs.Outcome.{input_limit, ReadsWithin, TakesInput, AddsFront, EndsSo, IsTextOf, WritesAs, SinkChange, SourceChange, Tells, WritesWhole, NothingFailed, WritesFront}
 use Rattle.top_call.specs.declared.ending.Wrote.{Wrote}
+use Rattle.top_call.specs.declared.ending.Wrote.TheVariants.{Text, FaultLine}
 use Rattle.top_call.specs.declared.ending.WriteEnd.{WriteEnd}
-use Rattle.top_call.specs.declared.ending.WriteEnd.TheVariants.{Fault}
+use Rattle.top_call.specs.declared.ending.WriteEnd.TheVariants as ends
 use Rattle.top_call.specs.declared.status.Status.{Status}
 use Rattle.top_call.specs.declared.status.Status.TheVariants.{Done, BadWords, BadInput, ReadFault, WriteFault, TooLong, OutOfMemory}
 
@@ -14,17 +15,37 @@ use Rattle.top_call.specs.declared.status.Status.TheVariants.{Done, BadWords, Ba
 abbrev pub AddsSome : Option (List ℕ) → Option (List ℕ) → List ℕ → Type 0
 AddsSome written written' text = (count : ℕ) × (count ≤ length text) × Adds written written' (take count text)
 
--- the writing of a word's text ended where a write of it failed
-pub write_failed : (job : Job) (bytes : List ℕ) (sink : SinkChange) (text : List ℕ) (end : Result Wrote WriteEnd)
-    → end ≡ Err Fault → Defines job bytes text → FaultsRose sink.writes sink.writes' → AddsSome sink.written sink.written' text → EndsSo job bytes sink end
-write_failed job bytes sink text end is named rose added =
-    let front : AddsFront (Defines job bytes) sink.written sink.written' = record {
+-- a write failed behind a front of a text
+pub part_written : (wrote : Wrote) (sink : SinkChange) (text : List ℕ) (end : Result Wrote WriteEnd)
+    → end ≡ Err ends.Fault → FaultsRose sink.writes sink.writes' → AddsSome sink.written sink.written' text → WritesAs end wrote text sink
+part_written wrote sink text end is rose added =
+    let front : AddsFront (λ whole. whole ≡ text) sink.written sink.written' = record {
       front = take added.0 text;
       rest = drop added.0 text;
-      named = subst (Defines job bytes) (sym (take-append-drop added.0 text)) named;
+      named = take-append-drop added.0 text;
       added = added.2;
     } in
-    subst (EndsSo job bytes sink) (sym is) (rose, front)
+    subst (λ (end : Result Wrote WriteEnd). WritesAs end wrote text sink) (sym is) (rose, front)
+
+-- a text is a defined one, whatever it is written as
+defined_as : (job : Job) (wrote : Wrote) (bytes text : List ℕ) → IsTextOf job wrote bytes text → Defines job bytes text
+defined_as job Text bytes text named = inl named
+defined_as job FaultLine bytes text named = inr named
+
+-- a text was written whole
+written_whole : (job : Job) (wrote : Wrote) (bytes : List ℕ) (sink : SinkChange) (text : List ℕ)
+    → IsTextOf job wrote bytes text → sink.writes' ≡ sink.writes → Adds sink.written sink.written' text → EndsSo job bytes sink (Ok wrote)
+written_whole job Text bytes sink text named steady added = (steady, record { text = text; named = named; added = added })
+written_whole job FaultLine bytes sink text named steady added = (steady, record { text = text; named = named; added = added })
+
+-- the writing of a defined text is that of a word
+pub ends_so : (job : Job) (bytes : List ℕ) (wrote : Wrote) (sink : SinkChange) (text : List ℕ) (end : Result Wrote WriteEnd)
+    → WritesAs end wrote text sink → IsTextOf job wrote bytes text → EndsSo job bytes sink end
+ends_so job bytes wrote sink text (Ok done) so named =
+    subst (λ (done : Wrote). EndsSo job bytes sink (Ok done)) (sym so.0) (written_whole job wrote bytes sink text named so.1 so.2)
+ends_so job bytes wrote sink text (Err ends.Fault) so named =
+    (so.0, record { front = so.1.front; rest = so.1.rest; named = subst (Defines job bytes) (sym so.1.named) (defined_as job wrote bytes text named); added = so.1.added })
+ends_so job bytes wrote sink text (Err ends.OutOfMemory) so named = absurd so
 
 -- what was read of a source that tells what it has left is a front of that
 front_read : (told : List ℕ) (left' : Option (List ℕ)) (bytes : List ℕ) → TakesBytes (Some told) left' bytes → (rest : List ℕ) × (told ≡ bytes ++ rest) × (left' ≡ Some rest)

@@ -83,6 +83,17 @@ pub record SinkChange : Type 0 where
   pub writes : ℕ
   pub writes' : ℕ
 
+-- the text is written as this for these bytes: as what the word has to write, or as their fault line
+abbrev pub IsTextOf : Job → Wrote → List ℕ → List ℕ → Type 0
+IsTextOf job Text = job.writes
+IsTextOf job FaultLine = job.refuses
+
+-- The end of the writing of a text, as what it is: it was added whole, or a write failed behind a front of it.
+abbrev pub WritesAs : Result Wrote WriteEnd → Wrote → (text : List ℕ) → SinkChange → Type 0
+WritesAs (Ok done) wrote text sink = (done ≡ wrote) × (sink.writes' ≡ sink.writes) × Adds sink.written sink.written' text
+WritesAs (Err ends.Fault) wrote text sink = FaultsRose sink.writes sink.writes' × AddsFront (λ whole. whole ≡ text) sink.written sink.written'
+WritesAs (Err ends.OutOfMemory) wrote text sink = ⊥
+
 -- how a source of any kind changed
 abbrev pub source_change : {A : Type 0} → (left : A → Option (List ℕ)) → (faults : A → ℕ) → (old new : A) → SourceChange
 source_change left faults old new = record { left = left old; left' = left new; reads = faults old; reads' = faults new }

@@ -1,9 +1,9 @@
 //! How the reading of an input and the writing of a word's text ended, and the status of that.
-ghost use Rattle.std.specs.Prelude.{◌≡◌, Result};
-ghost use Rattle.top_call.specs.Outcome.{status_of, unread_status};
+ghost use Rattle.std.specs.Prelude.{◌≡◌, ◌≢◌, Err, Result};
+ghost use Rattle.top_call.specs.Outcome.{WritesAs, sink_change, status_of, unread_status};
 
 use crate::status::Status;
-use air_io::{ReadEnd, WriteFailed};
+use air_io::{ReadEnd, Sink, WriteFailed, write_all};
 use air_world::PlayFault;
 use std::alloc::AllocError;
 
@@ -62,6 +62,20 @@ impl From<PlayFault> for WriteEnd {
             PlayFault::OutOfMemory => WriteEnd::OutOfMemory,
         }
     }
+}
+
+/// Writes a text whole, as what it is.
+pub(crate) fn write_text<O: Sink>(
+    wrote: Wrote,
+    text: &[u8],
+    output: &mut O,
+) -> Result<Wrote, WriteEnd>
+    ensures ends { WritesAs result wrote text.now
+        (sink_change O.written O.faults output.old output.new) }
+    ensures memory { result ≢ Err WriteEnd.OutOfMemory }
+{
+    write_all(output, text)?;
+    Ok(wrote)
 }
 
 /// The status of an end of the writing.

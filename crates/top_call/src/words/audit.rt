@@ -5,13 +5,13 @@ ghost use Rattle.top_call.specs.Job.{Defines, IsLawful};
 ghost use Rattle.top_call.specs.Outcome.{EndsSo, Tells, input_limit, source_change, sink_change};
 ghost use Rattle.top_call.specs.words.Audited.{SaysEvent, SaysVerdict, audit_job};
 
-use crate::ending::{MOST_INPUT_BYTES, WriteEnd, Wrote, status_of, unread_status};
+use crate::ending::{MOST_INPUT_BYTES, WriteEnd, Wrote, status_of, unread_status, write_text};
 use crate::status::Status;
 use air_audit::{
     audit, event_text, has_event_step, list_lines_are_received, split_scenario,
     traces_have_a_verdict, traces_have_at_most_one_verdict, verdict_text,
 };
-use air_io::{Sink, Source, read_to_end, write_all};
+use air_io::{Sink, Source, read_to_end};
 use air_world::tags_at_start;
 use arrayvec::ArrayVec;
 use bit_strings::OutOfMemory;
@@ -45,13 +45,11 @@ fn write_audited<O: Sink>(alloc: Global, input: &[u8], output: &mut O) -> Result
     match read_scenario(alloc, text) {
         Ok(scenario) => {
             let line = audited_line(alloc, scenario, trace)?;
-            write_all(output, line.as_slice())?;
-            Ok(Wrote::Text)
+            write_text(Wrote::Text, line.as_slice(), output)
         }
         Err(ScenarioFault::Line(number, fault)) => {
             let line = fault_text(number, fault);
-            write_all(output, line.as_slice())?;
-            Ok(Wrote::FaultLine)
+            write_text(Wrote::FaultLine, line.as_slice(), output)
         }
         Err(ScenarioFault::OutOfMemory) => Err(WriteEnd::OutOfMemory),
     }

@@ -6,9 +6,9 @@ ghost use Rattle.top_call.specs.Job.{IsLawful};
 ghost use Rattle.top_call.specs.Outcome.{EndsSo, Tells, source_change, sink_change};
 ghost use Rattle.top_call.specs.words.Decoded.{decode_job};
 
-use crate::ending::{MOST_INPUT_BYTES, WriteEnd, Wrote, status_of, unread_status};
+use crate::ending::{MOST_INPUT_BYTES, WriteEnd, Wrote, status_of, unread_status, write_text};
 use crate::status::Status;
-use air_io::{Sink, Source, write_all};
+use air_io::{Sink, Source};
 use decode_lines::{
     FaultyLine, answer_source, decode_lines_are_not_faulty, decode_lines_have_one_text, fault_text,
 };
@@ -36,14 +36,10 @@ fn write_answered<O: Sink>(
         → EndsSo decode_job input (sink_change O.written O.faults output.old output.new) result }
 {
     match answered {
-        Ok(text) => {
-            write_all(output, text.as_bytes())?;
-            Ok(Wrote::Text)
-        }
+        Ok(text) => write_text(Wrote::Text, text.as_bytes(), output),
         Err(fault) => {
             let line = fault_text(*fault);
-            write_all(output, line.as_slice())?;
-            Ok(Wrote::FaultLine)
+            write_text(Wrote::FaultLine, line.as_slice(), output)
         }
     }
 }

@@ -9,10 +9,10 @@ ghost use Rattle.top_call.specs.Outcome.{input_limit, AddsWhole, AddsFront, Ends
 ghost use Rattle.top_call.specs.UnwrittenBytes.{WritesWaiting, Loses};
 ghost use Rattle.top_call.specs.words.Encoded.{encode_job};
 
-use crate::ending::{MOST_INPUT_BYTES, WriteEnd, Wrote, status_of, unread_status};
+use crate::ending::{MOST_INPUT_BYTES, WriteEnd, Wrote, status_of, unread_status, write_text};
 use crate::status::Status;
 use crate::words::page::Page;
-use air_io::{Sink, Source, read_to_end, write_all};
+use air_io::{Sink, Source, read_to_end};
 use encode_lines::{
     Encoder, check_lines, encode_lines_are_not_faulty, encode_lines_have_a_text,
     encode_lines_have_one_text, fault_text, requests_have_a_line,
@@ -47,8 +47,7 @@ fn write_encoded<O: Sink>(alloc: Global, input: &[u8], output: &mut O) -> Result
         }
         Err(fault) => {
             let line = fault_text(fault);
-            write_all(output, line.as_slice())?;
-            Ok(Wrote::FaultLine)
+            write_text(Wrote::FaultLine, line.as_slice(), output)
         }
     }
 }

@@ -7,9 +7,9 @@ ghost use Rattle.top_call.specs.Outcome.{EndsSo, SpeaksOfNoInput, Tells, source_
 ghost use Rattle.made_scenario.specs.Made.{most_made_tags};
 ghost use Rattle.text_fields.specs.Lines.{line_feed};
 
-use crate::ending::{WriteEnd, Wrote, status_of};
+use crate::ending::{WriteEnd, Wrote, status_of, write_text};
 use crate::status::Status;
-use air_io::{Sink, Source, write_all};
+use air_io::{Sink, Source};
 use air_world::{Summary, summarise};
 use arrayvec::ArrayVec;
 use itoa::Buffer;
@@ -48,8 +48,7 @@ fn write_summary<O: Sink>(
     let scenario = made_scenario(alloc, seed, tags)?;
     let summary = summarise(alloc, &scenario)?;
     let text = summary_text(&summary);
-    write_all(output, text.as_slice())?;
-    Ok(Wrote::Text)
+    write_text(Wrote::Text, text.as_slice(), output)
 }
 
 /// The text of a summary, a line a count.

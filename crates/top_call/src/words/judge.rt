@@ -4,9 +4,9 @@ ghost use Rattle.top_call.specs.Job.{Defines, IsLawful};
 ghost use Rattle.top_call.specs.Outcome.{EndsSo, Tells, source_change, sink_change};
 ghost use Rattle.top_call.specs.words.Judged.{judge_job};
 
-use crate::ending::{MOST_INPUT_BYTES, WriteEnd, Wrote, status_of, unread_status};
+use crate::ending::{MOST_INPUT_BYTES, WriteEnd, Wrote, status_of, unread_status, write_text};
 use crate::status::Status;
-use air_io::{Sink, Source, read_to_end, write_all};
+use air_io::{Sink, Source, read_to_end};
 use judge_lines::{
     Refusal, fault_text, judge_log, log_texts_are_not_faulty, log_texts_have_one_fault,
     log_texts_have_one_verdict, push_verdict, texts_are_logs_or_faulty,
@@ -35,13 +35,11 @@ fn write_judged<O: Sink>(alloc: Global, input: &[u8], output: &mut O) -> Result<
         Ok(verdict) => {
             let mut line = String::new(alloc);
             push_verdict(&mut line, &verdict)?;
-            write_all(output, line.as_bytes())?;
-            Ok(Wrote::Text)
+            write_text(Wrote::Text, line.as_bytes(), output)
         }
         Err(Refusal::Line(fault)) => {
             let line = fault_text(fault);
-            write_all(output, line.as_slice())?;
-            Ok(Wrote::FaultLine)
+            write_text(Wrote::FaultLine, line.as_slice(), output)
         }
         Err(Refusal::OutOfMemory) => Err(WriteEnd::OutOfMemory),
     }

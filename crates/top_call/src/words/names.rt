@@ -9,10 +9,10 @@ ghost use Rattle.top_call.specs.words.Named.{IsOfLines, AddsNames, IsCutAt, name
 ghost use Rattle.top_call.specs.Outcome.{input_limit, AddsWhole, AddsFront, EndsSo, Tells, source_change, sink_change};
 ghost use Rattle.top_call.specs.UnwrittenBytes.{WritesWaiting, Loses};
 
-use crate::ending::{MOST_INPUT_BYTES, WriteEnd, Wrote, status_of, unread_status};
+use crate::ending::{MOST_INPUT_BYTES, WriteEnd, Wrote, status_of, unread_status, write_text};
 use crate::status::Status;
 use crate::words::page::Page;
-use air_io::{Sink, Source, WriteFailed, read_to_end, write_all};
+use air_io::{Sink, Source, WriteFailed, read_to_end};
 use arrayvec::ArrayVec;
 use epc_sgtin::{Sgtin, Uri};
 use report_lines::{lines_have_names, named};
@@ -47,8 +47,7 @@ fn write_with_names<O: Sink>(input: &[u8], output: &mut O) -> Result<Wrote, Writ
         }
         Some(number) => {
             let line = fault_line(number, "end");
-            write_all(output, line.as_slice())?;
-            Ok(Wrote::FaultLine)
+            write_text(Wrote::FaultLine, line.as_slice(), output)
         }
     }
 }

@@ -5,14 +5,14 @@ ghost use Rattle.top_call.specs.Job.{Defines, IsLawful};
 ghost use Rattle.top_call.specs.Outcome.{EndsSo, Tells, source_change, sink_change};
 ghost use Rattle.top_call.specs.words.Objects.{objects_job, plain_job};
 
-use crate::ending::{WriteEnd, Wrote, status_of};
+use crate::ending::{WriteEnd, Wrote, status_of, write_text};
 use crate::status::Status;
 use crate::words::audit::{self, audit_is_lawful};
 use crate::words::decode::{self, decode_is_lawful};
 use crate::words::judge::{self, judge_is_lawful};
 use crate::words::probe::{self, probe_is_lawful};
 use crate::words::run::{self, run_is_lawful};
-use air_io::{Sink, Source, write_all};
+use air_io::{Sink, Source};
 use air_world::Mode;
 use line_objects::{LineSet, PlainText, objects_of, texts_have_objects};
 use std::alloc::Global;
@@ -30,7 +30,7 @@ pub fn answer<I: Source, O: Sink>(
     let mut plain = PlainText::new(alloc);
     match answer_plain(alloc, set, input, &mut plain) {
         Status::Done => status_of(write_objects(alloc, set, plain.as_slice(), output)),
-        Status::BadInput => status_of(write_fault(plain.as_slice(), output)),
+        Status::BadInput => status_of(write_text(Wrote::FaultLine, plain.as_slice(), output)),
         // There was no memory for the plain text.
         Status::WriteFault => Status::OutOfMemory,
         status => status,
@@ -68,18 +68,7 @@ fn write_objects<O: Sink>(
         (sink_change O.written O.faults output.old output.new) result }
 {
     let text = objects_of(alloc, set, plain)?;
-    write_all(output, text.as_slice())?;
-    Ok(Wrote::Text)
-}
-
-/// Writes a fault line.
-fn write_fault<O: Sink>(line: &[u8], output: &mut O) -> Result<Wrote, WriteEnd>
-    ensures { (set : LineSet) (bytes : List ℕ) → (plain_job set).refuses bytes line.now
-        → EndsSo (objects_job set) bytes
-        (sink_change O.written O.faults output.old output.new) result }
-{
-    write_all(output, line)?;
-    Ok(Wrote::FaultLine)
+    write_text(Wrote::Text, text.as_slice(), output)
 }
 
 /// An input has one text of objects or one fault line at most, and never both; and it has one of them where the word itself has a text

@@ -10,9 +10,9 @@ ghost use Rattle.top_call.specs.Outcome.{
 };
 ghost use Rattle.top_call.specs.words.OwnTexts.{text_job};
 
-use crate::ending::{WriteEnd, Wrote, status_of};
+use crate::ending::{WriteEnd, Wrote, status_of, write_text};
 use crate::status::Status;
-use air_io::{Sink, Source, write_all};
+use air_io::{Sink, Source};
 
 /// Writes a text of the program's own. Nothing is read, and no memory is taken.
 pub fn answer<I: Source, O: Sink>(text: &[u8], _input: &mut I, output: &mut O) -> Status
@@ -20,16 +20,15 @@ pub fn answer<I: Source, O: Sink>(text: &[u8], _input: &mut I, output: &mut O) -
         (sink_change O.written O.faults output.old output.new) (output.new ≡ output.old) result }
     ensures unread { (_input.new ≡ _input.old) × SpeaksOfNoInput result }
 {
-    status_of(write_text(text, output))
+    status_of(write_own_text(text, output))
 }
 
 /// Writes the text.
-fn write_text<O: Sink>(text: &[u8], output: &mut O) -> Result<Wrote, WriteEnd>
+fn write_own_text<O: Sink>(text: &[u8], output: &mut O) -> Result<Wrote, WriteEnd>
     ensures { EndsSo (text_job text.now) []
         (sink_change O.written O.faults output.old output.new) result }
 {
-    write_all(output, text)?;
-    Ok(Wrote::Text)
+    write_text(Wrote::Text, text, output)
 }
 
 /// A text of the program's own is one text, and nothing is refused.

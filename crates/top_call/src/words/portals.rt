@@ -9,9 +9,9 @@ ghost use Rattle.top_call.specs.Job.{Defines, IsLawful};
 ghost use Rattle.top_call.specs.Outcome.{EndsSo, Tells, source_change, sink_change};
 ghost use Rattle.top_call.specs.words.Compared.{portals_job};
 
-use crate::ending::{MOST_INPUT_BYTES, WriteEnd, Wrote, status_of, unread_status};
+use crate::ending::{MOST_INPUT_BYTES, WriteEnd, Wrote, status_of, unread_status, write_text};
 use crate::status::Status;
-use air_io::{Sink, Source, read_to_end, write_all};
+use air_io::{Sink, Source, read_to_end};
 use air_world::compare_portals;
 use portal_text::{portal_fault, portal_scenarios, portals_text, round_specs};
 use runs::portals_are_independent;
@@ -44,19 +44,16 @@ fn write_portals<O: Sink>(alloc: Global, input: &[u8], output: &mut O) -> Result
         Ok(scenario) => match portal_fault(&scenario) {
             None => {
                 let text = text_of_portals(alloc, &scenario)?;
-                write_all(output, text.as_bytes())?;
-                Ok(Wrote::Text)
+                write_text(Wrote::Text, text.as_bytes(), output)
             }
             Some(number) => {
                 let line = fault_line(number, "portal");
-                write_all(output, line.as_slice())?;
-                Ok(Wrote::FaultLine)
+                write_text(Wrote::FaultLine, line.as_slice(), output)
             }
         },
         Err(ScenarioFault::Line(number, fault)) => {
             let line = fault_text(number, fault);
-            write_all(output, line.as_slice())?;
-            Ok(Wrote::FaultLine)
+            write_text(Wrote::FaultLine, line.as_slice(), output)
         }
         Err(ScenarioFault::OutOfMemory) => Err(WriteEnd::OutOfMemory),
     }

@@ -4,9 +4,9 @@ ghost use Rattle.top_call.specs.Job.{IsLawful};
 ghost use Rattle.top_call.specs.Outcome.{EndsSo, Tells, source_change, sink_change};
 ghost use Rattle.top_call.specs.words.Probed.{probe_job};
 
-use crate::ending::{MOST_INPUT_BYTES, WriteEnd, Wrote, status_of, unread_status};
+use crate::ending::{MOST_INPUT_BYTES, WriteEnd, Wrote, status_of, unread_status, write_text};
 use crate::status::Status;
-use air_io::{Sink, Source, read_to_end, write_all};
+use air_io::{Sink, Source, read_to_end};
 use probe_lines::{
     fault_text, play, probe_texts_are_not_faulty, probe_texts_have_one_fault,
     probes_are_told_apart, probes_have_one_text, read_probe,
@@ -37,8 +37,7 @@ fn write_probed<O: Sink>(alloc: Global, input: &[u8], output: &mut O) -> Result<
         }
         Err(fault) => {
             let line = fault_text(fault);
-            write_all(output, line.as_slice())?;
-            Ok(Wrote::FaultLine)
+            write_text(Wrote::FaultLine, line.as_slice(), output)
         }
     }
 }

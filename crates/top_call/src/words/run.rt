@@ -10,10 +10,10 @@ ghost use Rattle.top_call.specs.Job.{Defines, IsLawful};
 ghost use Rattle.top_call.specs.Outcome.{EndsSo, Tells, source_change, sink_change};
 ghost use Rattle.top_call.specs.words.Reported.{run_job};
 
-use crate::ending::{MOST_INPUT_BYTES, WriteEnd, Wrote, status_of, unread_status};
+use crate::ending::{MOST_INPUT_BYTES, WriteEnd, Wrote, status_of, unread_status, write_text};
 use crate::status::Status;
 use air_audit::own_traces_are_audited;
-use air_io::{Sink, Source, read_to_end, write_all};
+use air_io::{Sink, Source, read_to_end};
 use air_world::{Air, Mode, PlayFault, play, set_up};
 use runs::{headline, rounds_are_complete};
 use scenario::Scenario;
@@ -58,8 +58,7 @@ fn write_report<O: Sink>(
         }
         Err(ScenarioFault::Line(number, fault)) => {
             let line = fault_text(number, fault);
-            write_all(output, line.as_slice())?;
-            Ok(Wrote::FaultLine)
+            write_text(Wrote::FaultLine, line.as_slice(), output)
         }
         Err(ScenarioFault::OutOfMemory) => Err(WriteEnd::OutOfMemory),
     }

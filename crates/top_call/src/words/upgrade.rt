@@ -4,9 +4,9 @@ ghost use Rattle.top_call.specs.Job.{Defines, IsLawful};
 ghost use Rattle.top_call.specs.Outcome.{EndsSo, Tells, source_change, sink_change};
 ghost use Rattle.top_call.specs.words.Upgraded.{upgrade_job};
 
-use crate::ending::{MOST_INPUT_BYTES, WriteEnd, Wrote, status_of, unread_status};
+use crate::ending::{MOST_INPUT_BYTES, WriteEnd, Wrote, status_of, unread_status, write_text};
 use crate::status::Status;
-use air_io::{Sink, Source, read_to_end, write_all};
+use air_io::{Sink, Source, read_to_end};
 use runs::upgraded_scenarios_run_the_same;
 use scenario::{upgrade, upgraded_scenarios_are_legal};
 use scenario_text::{
@@ -36,13 +36,11 @@ fn write_upgraded<O: Sink>(alloc: Global, input: &[u8], output: &mut O) -> Resul
         Ok(scenario) => {
             let upgraded = upgrade(scenario);
             let text = print_scenario(alloc, &upgraded)?;
-            write_all(output, text.as_slice())?;
-            Ok(Wrote::Text)
+            write_text(Wrote::Text, text.as_slice(), output)
         }
         Err(ScenarioFault::Line(number, fault)) => {
             let line = fault_text(number, fault);
-            write_all(output, line.as_slice())?;
-            Ok(Wrote::FaultLine)
+            write_text(Wrote::FaultLine, line.as_slice(), output)
         }
         Err(ScenarioFault::OutOfMemory) => Err(WriteEnd::OutOfMemory),
     }

@@ -1,8 +1,8 @@
 -- What comes of the probe, or the line of the first fault.
-use Rattle.std.proofs.Common.{inr, rules}
+use Rattle.std.proofs.Common.{rules}
 use Rattle.top_call.specs.words.Probed.{probe_job}
-use Rattle.top_call.proofs.Ends.{write_failed}
 use Rattle.top_call.proofs.ProbeEnds.{play_failed, played_whole}
+use Rattle.top_call.proofs.Ends.{ends_so}
 use Rattle.top_call.proofs.words.probe.write_probed.Goals as goal
 
 pub play-requires-clause-tag : goal.play-requires-clause-tag
@@ -22,9 +22,8 @@ returns-in_ok-play-in-Ok g c =
     played_whole c.args.input.now c.in-Ok.probe.tag read.0
     (record { written = _; written' = _; writes = _; writes' = _ }) c.in_ok-play-in-Ok.field-0 read.1 (c.in_ok-play-in-Ok.ensures read.0 read.2)
 
-pub returns-in_err-write_all-in-Err : goal.returns-in_err-write_all-in-Err
-returns-in_err-write_all-in-Err g c =
+pub returns-in-Err : goal.returns-in-Err
+returns-in-Err g c =
     let fault = c.in-Err.fault in
-    let written = c.in_err-write_all-in-Err.ensures in
-    write_failed probe_job _ _ c.fault_text-line.result.items _ (search rules)
-    (inr (record { number = fault.line; reason = fault.reason; first = c.in-Err.ensures.refused; line = c.fault_text-line.ensures })) written.failed (rw c.as_slice.ensures.value at written.part)
+    ends_so probe_job c.args.input.now _ _ _ _ c.write_text.ensures.ends
+    (rw c.as_slice.ensures.value (record { number = fault.line; reason = fault.reason; first = c.in-Err.ensures.refused; line = c.fault_text-line.ensures }))
