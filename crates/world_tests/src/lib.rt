@@ -1,10 +1,5 @@
-//! Tests of what no row shows of whole runs: in which writes a report goes, how many exchanges there are, what the air is behind a run, and
-//! what runs count.
+//! Tests of what no row shows of whole runs: how many exchanges there are, and what the air is behind a run.
 #![tactic(auto)]
 
 #[cfg(test)]
 mod play;
-#[cfg(test)]
-mod summary;
-#[cfg(test)]
-mod worlds;

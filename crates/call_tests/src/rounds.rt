@@ -5,42 +5,6 @@ use q_round::{
     Side, UpDn,
 };
 
-/// The rule for Q, the limit, and whether a round may have them.
-const PARAMETERS: &[(Rule, u32, bool)] = &[
-    (Rule::Float(99), 300, false),
-    (Rule::Float(100), 300, true),
-    (Rule::Float(500), 300, true),
-    (Rule::Float(501), 300, false),
-    (Rule::Float(300), 0, false),
-    (Rule::Float(300), 1, true),
-    (Rule::Fixed, 70000, true),
-    (Rule::Fixed, 70001, false),
-    (Rule::Frame, 0, false),
-    (Rule::Frame, 70000, true),
-];
-
-/// Whether a round may have this rule and this limit, or not, and has its parameters.
-fn has_parameters(rule: Rule, limit: u32, legal: bool) -> Option<bool> {
-    let session = Session::new(2)?;
-    let q = QValue::new(15)?;
-    let Some(spec) = RoundSpec::new(Sel::NotSl, session, Side::B, q, rule, limit) else {
-        return Some(!legal);
-    };
-    let asked = (spec.sel(), spec.session().get(), spec.target()) == (Sel::NotSl, 2, Side::B);
-    let numbers = (spec.q().get(), spec.rule(), spec.limit()) == (15, rule, limit);
-    Some(legal && asked && numbers)
-}
-
-#[test]
-fn parameters_in_their_ranges(rt: HostRuntime) {
-    for &(rule, limit, legal) in PARAMETERS {
-        assert!(rt;
-            has_parameters(rule, limit, legal) == Some(true),
-            "{rule:?}, limit {limit}"
-        );
-    }
-}
-
 /// The outcomes of slots, by their first letters.
 fn outcome_of(letter: u8) -> Option<Outcome> {
     match letter {
@@ -137,17 +101,25 @@ fn query(session: Session, q: QValue) -> Command {
     }
 }
 
+/// A round with this Q, this rule for it and this limit, if its first command is its Query.
+fn begun(q: u8, rule: Rule, limit: u32) -> Option<Round> {
+    let session = Session::new(1)?;
+    let link = Link::new(12500, 31250, 50000, 6250, true, Code::M4, false).ok()?;
+    let q = QValue::new(q)?;
+    let spec = RoundSpec::new(Sel::Sl, session, Side::A, q, rule, limit)?;
+    let (round, start) = Round::start(&spec, &link);
+    if start == query(session, q) {
+        Some(round)
+    } else {
+        None
+    }
+}
+
 /// Whether a round goes as the row says.
 fn goes(row: &RoundRow) -> Option<bool> {
     let (q, rule, limit, outcomes, answers, slots) = *row;
     let session = Session::new(1)?;
-    let link = Link::new(12500, 31250, 50000, 6250, true, Code::M4, false).ok()?;
-    let first = QValue::new(q)?;
-    let spec = RoundSpec::new(Sel::Sl, session, Side::A, first, rule, limit)?;
-    let (mut round, start) = Round::start(&spec, &link);
-    if start != query(session, first) || round.slots_sent() != 1 {
-        return Some(false);
-    }
+    let mut round = begun(q, rule, limit)?;
     for (outcome, answer) in outcomes.iter().zip(answers) {
         if answer_to(&mut round, outcome_of(*outcome)?) != next_of(*answer, session)? {
             return Some(false);
@@ -161,37 +133,4 @@ fn rounds_by_the_table(rt: HostRuntime) {
     for row in ROUNDS {
         assert!(rt; goes(row) == Some(true), "{row:?}");
     }
-}
-
-/// Whether a round of 70,000 slots at Q 15 goes on to its end with this outcome in each slot, where only a whole frame of 32,768
-/// slots brings a QueryAdjust, which leaves Q.
-fn goes_on_to_its_limit(rule: Rule, outcome: Outcome) -> Option<bool> {
-    let session = Session::new(0)?;
-    let q = QValue::new(15)?;
-    let spec = RoundSpec::new(Sel::All00, session, Side::B, q, rule, 70000)?;
-    let link = Link::new(12500, 31250, 50000, 6250, false, Code::Fm0, true).ok()?;
-    let (mut round, _query) = Round::start(&spec, &link);
-    for slot in 1..70000u32 {
-        let letter = if slot % 32768 == 0 { b'=' } else { b'r' };
-        if answer_to(&mut round, outcome) != next_of(letter, session)? {
-            return Some(false);
-        }
-    }
-    let sent = round.slots_sent();
-    let is_end = answer_to(&mut round, outcome) == Next::Limit;
-    Some(sent == 70000 && is_end && round.slots_sent() == 70000)
-}
-
-#[test]
-fn seventy_thousand_slots(rt: HostRuntime) {
-    // A whole reply leaves Qfp.
-    assert_eq!(rt;
-        goes_on_to_its_limit(Rule::Float(100), Outcome::Whole),
-        Some(true)
-    );
-    // Whole frames of collisions raise Q no further than 15.
-    assert_eq!(rt;
-        goes_on_to_its_limit(Rule::Frame, Outcome::Refused),
-        Some(true)
-    );
 }

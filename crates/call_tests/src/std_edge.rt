@@ -1,8 +1,6 @@
 //! Readers and writers of std as a source and a sink, with calls that fail.
-ghost use Rattle.std.specs.Prelude.{◌≤◌};
-
 use air_io::{Put, Sink, Source, StdSink, StdSource, Take};
-use std::io::{self, BufWriter, Cursor, ErrorKind, Read, Write};
+use std::io::{self, Cursor, ErrorKind, Read, Write};
 
 /// Fails at its second call, and then goes on.
 #[derive(Drop)]
@@ -75,22 +73,4 @@ fn a_writer_is_written_on_after_a_failure(rt: HostRuntime) {
     }
     drop(sink);
     assert_eq!(rt; writer.inner.into_inner(), [8, 9, 8]);
-}
-
-/// Whether a sink over a writer that holds back a page, and has room for so many bytes below it, hands two bytes on.
-fn hands_on<const ROOM: usize>(rt: &HostRuntime) -> Option<bool>
-    requires { ROOM ≤ 2 }
-{
-    let page = BufWriter::with_capacity(rt.alloc(), 4, Cursor::new([0u8; ROOM])).ok()?;
-    let mut sink = StdSink::new(page);
-    if sink.write(&[8, 9]) != Put::Took(2) {
-        return None;
-    }
-    Some(sink.flush().is_ok())
-}
-
-#[test]
-fn what_is_held_back_is_handed_on(rt: HostRuntime) {
-    assert_eq!(rt; hands_on::<2>(&rt), Some(true));
-    assert_eq!(rt; hands_on::<1>(&rt), Some(false));
 }
