@@ -1,5 +1,5 @@
 //! Tests of the ranges of durations, all in nanoseconds, and the bits that durations stand for.
-ghost use Rattle.std.specs.Prelude.{◌≡◌, ◌↔◌, ◌+◌, ◌*◌, ◌≤◌, ℕ, nat_le, IsTrue, IfSome, IfNone};
+ghost use Rattle.std.specs.Prelude.{◌≡◌, ◌↔◌, ◌+◌, ◌*◌, ◌≤◌, IsTrue, IfSome, IfNone};
 ghost use Rattle.pie_line.specs.Link.{IsTari, IsRtCal, IsTrCal, IsPw};
 ghost use Rattle.pie_line.specs.Pie.{IsDelimiter, bit_of_symbol, longest_interval};
 ghost use Rattle.pie_line.specs.DataSymbols.{IsDataSymbol};
@@ -43,18 +43,11 @@ pub fn is_pw(tari: u32, pw: u32) -> bool
     pw >= 2_000 && 265 * tari as u64 <= thousandths && thousandths <= 525 * tari as u64
 }
 
-/// The pivot, half of RTcal, rounded up (6.3.1.2.8): a symbol that lasts less is a data-0, and another a data-1.
-pub fn pivot_of(rtcal: u32) -> u32
-    ensures { (sum : ℕ) → nat_le result sum ≡ bit_of_symbol rtcal sum }
-{
-    rtcal - rtcal / 2
-}
-
-/// The bit of a symbol that lasts `sum`: 0 where it is shorter than half of RTcal, else 1.
+/// The bit of a symbol that lasts `sum`: 0 where it is shorter than the pivot, half of RTcal (6.3.1.2.8), else 1.
 pub fn bit_of_sum(rtcal: u32, sum: u32) -> bool
     ensures { result ≡ bit_of_symbol rtcal sum }
 {
-    pivot_of(rtcal) <= sum
+    rtcal as u64 <= 2 * sum as u64
 }
 
 /// The bit of the data symbol that has this high and this low; none exactly where they make no data symbol (6.3.1.2.3).
