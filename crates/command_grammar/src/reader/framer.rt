@@ -55,8 +55,11 @@ impl Framer {
         match self.refused {
             Some((place, reason)) => Pushed::Bad(place, reason),
             None => {
+                if self.state.take_inside(bit) {
+                    return self.state.judge();
+                }
                 let place = self.state.pushed;
-                match self.state.take(bit) {
+                match self.state.take_edge(bit) {
                     None => self.state.judge(),
                     Some(reason) => {
                         self.refused = Some((place, reason));

@@ -225,6 +225,7 @@ impl Stage {
 
     /// Takes a bit inside a number, a mask or bits that are known, as most bits are, or the first one of two or three, and
     /// gives whether it did. The last bit of these isn't taken, nor one that differs from the known one, nor one elsewhere.
+    #[inline(always)]
     pub(crate) fn take_inside(&mut self, bit: bool, fields: &mut Fields) -> bool
         requires { AreFieldsInRange self.old fields.old }
         ensures reads { IsTrue result → (rest : List Bool)

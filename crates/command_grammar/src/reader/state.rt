@@ -57,23 +57,9 @@ impl State {
         }
     }
 
-    /// Takes one bit more, or says why no command goes on with it.
-    #[inline(always)]
-    pub(crate) fn take(&mut self, bit: bool) -> Option<Reason>
-        requires { IsOpen self.old None }
-        ensures goes { (bits : List Bool) → StateStandsFor self.old bits
-            → TakesBit result self.new bits bit }
-        ensures sound { result ≡ None → IsSoundPosition self.new.position self.new.fields }
-    {
-        if self.take_inside(bit) {
-            return None;
-        }
-        self.take_edge(bit)
-    }
-
     /// Takes a bit inside a field, as most bits are, or of the code, and gives whether it did.
     #[inline(always)]
-    fn take_inside(&mut self, bit: bool) -> bool
+    pub(crate) fn take_inside(&mut self, bit: bool) -> bool
         requires { IsOpen self.old None }
         ensures stands { IsTrue result → (front : List Bool) → StateStandsFor self.old front
             → StateStandsFor self.new (front ++ bit ∷ []) }
@@ -108,7 +94,7 @@ impl State {
     }
 
     /// Takes one bit more, of those that `take_inside` doesn't take, or says why no command goes on with it.
-    fn take_edge(&mut self, bit: bool) -> Option<Reason>
+    pub(crate) fn take_edge(&mut self, bit: bool) -> Option<Reason>
         requires open { IsOpen self.old None }
         requires edge { IsAtEdge self.old.position bit }
         ensures goes { (bits : List Bool) → StateStandsFor self.old bits
