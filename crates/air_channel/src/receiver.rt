@@ -1,5 +1,5 @@
 //! A command on its way from the interrogator to the tags: to bits, to the intervals of a frame, and to a command again.
-ghost use Rattle.std.specs.Prelude.{◌≡◌, ◌+◌, ◌*◌, ◌≤◌, [], Ok, IsOk, length};
+ghost use Rattle.std.specs.Prelude.{◌≡◌, ◌+◌, ◌*◌, ◌≤◌, ◌++◌, ◌∷◌, [], Bool, List, Ok, IsOk, length};
 ghost use Rattle.command_grammar.specs.Commands.{IsLegalCommand};
 ghost use Rattle.command_grammar.specs.reading.Framing.{FramerStandsFor};
 ghost use Rattle.pie_line.specs.Pie.{wave_of};
@@ -7,7 +7,7 @@ ghost use Rattle.air_model.specs.Channel.{lead_of, wave_for};
 ghost use Rattle.air_channel.specs.Rooms.{IsShortFrame, room_for_frames};
 
 use bit_strings::Bits;
-use command_grammar::{Command, CommandRefusal, Framer, encode_command};
+use command_grammar::{Command, CommandRefusal, Framer, Pushed, encode_command};
 use pie_line::{Edge, Edges, FrameTaker, Intervals, Lead, Link, send_frame};
 use std::marker::Model;
 
@@ -114,7 +114,7 @@ impl<'a> FrameTaker for Taking<'a> {
     #[inline(always)]
     fn take(&mut self, interval: u32) {
         if let Edge::Bit(bit) = self.edges.push(interval) {
-            self.framer.push(bit);
+            push_seldom(self.framer, bit);
         }
     }
 
@@ -128,6 +128,16 @@ impl<'a> FrameTaker for Taking<'a> {
         self.take(high);
         self.take(low);
     }
+}
+
+/// Has a framer take one of the few bits that `Edges::push` tells, and gives what the bits now are. It stays a function of its
+/// own, so that what the compiler makes of each interval is short.
+#[inline(never)]
+fn push_seldom(framer: &mut Framer, bit: bool) -> Pushed
+    ensures { (bits : List Bool) → FramerStandsFor framer.old bits
+        → FramerStandsFor framer.new (bits ++ bit ∷ []) }
+{
+    framer.push(bit)
 }
 
 /// With which header the frame of a command begins (6.3.1.2.8).
