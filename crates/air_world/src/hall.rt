@@ -36,10 +36,15 @@ pub struct AirHall {
     bits: Bits,
 }
 
-// A drop is one call so, in place of one for each part, in the proof of each function that owns a hall.
+// So a drop is one call, in place of one for each part, in the proof of each function that owns a hall.
 impl Drop for AirHall {
     fn drop(self) {
-        let AirHall { air: _, nothing: _, operations: _, bits: _ } = self;
+        let AirHall {
+            air: _,
+            nothing: _,
+            operations: _,
+            bits: _,
+        } = self;
     }
 }
 
