@@ -1,11 +1,6 @@
 //! The word `run`, alone or with `trace`, `json`, `exchanges` or `vcd` behind it: the report of a scenario, in the mode that they name.
-ghost use Rattle.std.specs.Prelude.{◌≡◌, ◌++◌, ℕ, List, IsErrOf, OnErr, OnOk};
-ghost use Rattle.air_io.specs.Flow.{Adds, FaultsRose};
-ghost use Rattle.air_world.specs.NewAir.{new_air};
+ghost use Rattle.std.specs.Prelude.{◌≡◌, ℕ, List};
 ghost use Rattle.report_lines.specs.declared.mode.Mode.{Mode};
-ghost use Rattle.runs.specs.Report.{report_text_of};
-ghost use Rattle.runs.specs.ScenarioStart.{start_of};
-ghost use Rattle.scenario.specs.Limits.{IsScenario};
 ghost use Rattle.top_call.specs.Job.{Defines, IsLawful};
 ghost use Rattle.top_call.specs.Outcome.{EndsSo, Tells, source_change, sink_change};
 ghost use Rattle.top_call.specs.words.Reported.{run_job};
@@ -14,9 +9,8 @@ use crate::ending::{MOST_INPUT_BYTES, WriteEnd, Wrote, status_of, unread_status,
 use crate::status::Status;
 use air_audit::own_traces_are_audited;
 use air_io::{Sink, Source, read_to_end};
-use air_world::{Air, Mode, PlayFault, play, set_up};
+use air_world::{Mode, play, set_up};
 use runs::{headline, rounds_are_complete};
-use scenario::Scenario;
 use scenario_text::{
     ScenarioFault, fault_text, read_scenario, scenario_texts_are_not_faulty,
     scenarios_are_told_apart, texts_are_scenarios_or_faulty, texts_have_one_fault,
@@ -52,8 +46,8 @@ fn write_report<O: Sink>(
 {
     match read_scenario(alloc, input) {
         Ok(scenario) => {
-            let air = set_up(alloc, &scenario)?;
-            play_on(alloc, &scenario, air, mode, output)?;
+            let mut air = set_up(alloc, &scenario)?;
+            play(alloc, &scenario, &mut air, mode, output)?;
             Ok(Wrote::Text)
         }
         Err(ScenarioFault::Line(number, fault)) => {
@@ -62,31 +56,6 @@ fn write_report<O: Sink>(
         }
         Err(ScenarioFault::OutOfMemory) => Err(WriteEnd::OutOfMemory),
     }
-}
-
-/// Plays a scenario on its air, to which no command was sent yet, and writes its report. The air is dropped here.
-fn play_on<O: Sink>(
-    alloc: Global,
-    scenario: &Scenario,
-    air: Air,
-    mode: Mode,
-    output: &mut O,
-) -> Result<(), PlayFault>
-    requires scenario { IsScenario scenario.now }
-    requires fresh { air ≡ new_air (start_of scenario.now) }
-    ensures report { OnOk result
-        (Adds (O.written output.old) (O.written output.new) (report_text_of mode scenario.now)) }
-    ensures write { IsErrOf result PlayFault.Write
-        → FaultsRose (O.faults output.old) (O.faults output.new) }
-    ensures memory { IsErrOf result PlayFault.OutOfMemory
-        → O.faults output.new ≡ O.faults output.old }
-    ensures steady { OnOk result (O.faults output.new ≡ O.faults output.old) }
-    ensures part { OnErr result
-        ((front : List ℕ) × (rest : List ℕ) × (report_text_of mode scenario.now ≡ front ++ rest)
-        × Adds (O.written output.old) (O.written output.new) front) }
-{
-    let mut air = air;
-    play(alloc, scenario, &mut air, mode, output)
 }
 
 /// An input has one report or one fault line at most, and never both; a report says its headline, and what its

@@ -5,12 +5,12 @@ use Rattle.top_call.proofs.RunEnds.{play_failed}
 use Rattle.top_call.proofs.Ends.{ends_so}
 use Rattle.top_call.proofs.words.run.write_report.Goals as goal
 
-pub returns-in_err-play_on-in-Ok : goal.returns-in_err-play_on-in-Ok
-returns-in_err-play_on-in-Ok g c =
+pub returns-in_err-play-in-Ok : goal.returns-in_err-play-in-Ok
+returns-in_err-play-in-Ok g c =
     let read = c.in-Ok.ensures.ok in
-    let cut = c.in_err-play_on-in-Ok.ensures in
-    let end = err_from_is_err_and c.from_residual-in_err-play_on-in-Ok.result c.from_residual-in_err-play_on-in-Ok.ensures.1 in
-    play_failed c.args.mode _ (c.in-Ok.scenario, read.0, read.1) (record { written = _; written' = _; writes = _; writes' = _ }) c.in_err-play_on-in-Ok.field-0.0 _ (end.1 ∙ ap Err end.2)
+    let cut = c.in_err-play-in-Ok.ensures in
+    let end = err_from_is_err_and c.from_residual-in_err-play-in-Ok.result c.from_residual-in_err-play-in-Ok.ensures.1 in
+    play_failed c.args.mode _ (c.in-Ok.scenario, read.0, read.1) (record { written = _; written' = _; writes = _; writes' = _ }) c.in_err-play-in-Ok.field-0.0 _ (end.1 ∙ ap Err end.2)
     (record { rose = cut.write; steady = cut.memory; part = cut.part })
 
 pub returns-in-Err-Line : goal.returns-in-Err-Line
