@@ -9,7 +9,7 @@ use Rattle.serde_json.specs.Written.{compact_text, has_float, members_have_float
 use Rattle.report_lines.specs.JsonLines.{members_in}
 use Rattle.report_lines.specs.JsonObject.{IsJsonOf, SendsPairs}
 use Rattle.line_objects.specs.Members.{pairs_of, data_of}
-use Rattle.line_objects.specs.Values.{number_value, shown}
+use Rattle.line_objects.specs.Values.{number_value, without_hyphen}
 use Rattle.line_objects.specs.declared.members.Member.{Member}
 use Rattle.line_objects.specs.declared.members.Value.{Value}
 use Rattle.line_objects.specs.declared.members.Value.TheVariants as values
@@ -28,8 +28,8 @@ chosen_no_float false text = refl
 
 no_float : (value : Value) → has_float (data_of value) ≡ false
 no_float (values.Number number) = number_no_float number
-no_float (values.Text text) = chosen_no_float (is_utf8 (shown text.now)) (shown text.now)
-no_float (values.Uri uri) = chosen_no_float (is_utf8 (shown uri)) (shown uri)
+no_float (values.Text text) = chosen_no_float (is_utf8 (without_hyphen text.now)) (without_hyphen text.now)
+no_float (values.Uri uri) = chosen_no_float (is_utf8 (without_hyphen uri)) (without_hyphen uri)
 
 no_floats : (members : List Member) → members_have_float (members_in (pairs_of members)) ≡ false
 no_floats [] = refl

@@ -20,12 +20,12 @@ number_value None = null
 number_value (Some n) = number (unsigned n)
 
 -- a text without the hyphen that stands for an empty one
-abbrev pub shown : List ℕ → List ℕ
-shown field = if bytes_eq field (codes "-") then [] else field
+abbrev pub without_hyphen : List ℕ → List ℕ
+without_hyphen field = if bytes_eq field (codes "-") then [] else field
 
 -- a text as a value: null where its bytes are none
 abbrev pub text_value : List ℕ → Data
-text_value field = if is_utf8 (shown field) then string (shown field) else null
+text_value field = if is_utf8 (without_hyphen field) then string (without_hyphen field) else null
 
 -- the field is the words of this SGTIN-96
 pub record IsEpcOf (sgtin : SgtinValue) (field : List ℕ) : Type 0 where

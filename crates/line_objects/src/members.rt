@@ -7,7 +7,7 @@ ghost use Rattle.report_lines.specs.JsonLines.{members_in};
 ghost use Rattle.report_lines.specs.JsonObject.{SendsPairs};
 ghost use Rattle.line_objects.specs.Members.{pairs_of, data_of};
 ghost use Rattle.text_fields.specs.Lines.{line_feed};
-ghost use Rattle.line_objects.specs.Values.{number_value, shown, text_value};
+ghost use Rattle.line_objects.specs.Values.{number_value, without_hyphen, text_value};
 
 use bit_strings::OutOfMemory;
 use epc_sgtin::Uri;
@@ -39,8 +39,8 @@ pub(crate) struct Object<'a> {
 }
 
 /// A text without the hyphen that stands for an empty one.
-fn shown(text: &[u8]) -> &[u8]
-    ensures { result.now ≡ shown text.now }
+fn without_hyphen(text: &[u8]) -> &[u8]
+    ensures { result.now ≡ without_hyphen text.now }
 {
     if text == b"-".as_slice() { b"" } else { text }
 }
@@ -50,7 +50,7 @@ fn send_text<S: Serializer>(out: &mut S, text: &[u8]) -> Result<(), S::Error>
     ensures { OnOk result (SendsValue (text_value text.now) (S.written out.old)
         (S.written out.new)) }
 {
-    match str::from_utf8(shown(text)) {
+    match str::from_utf8(without_hyphen(text)) {
         Ok(letters) => out.str(letters),
         Err(_) => out.unit(),
     }
