@@ -45,7 +45,7 @@ request_word UriKind = codes "uri"
 -- all kinds, each of which has a word of its own
 abbrev pub all_request_kinds : List RequestKind
 all_request_kinds =
-    StreamKind Fm0 ∷ StreamKind M2 ∷ StreamKind M4 ∷ StreamKind M8 ∷ SamplesKind ∷ ReplyKind ∷ HeardKind ∷ PieKind ∷ CommandKind ∷ SgtinKind ∷ UriKind ∷ []
+    UriKind ∷ SgtinKind ∷ CommandKind ∷ PieKind ∷ ReplyKind ∷ HeardKind ∷ SamplesKind ∷ StreamKind Fm0 ∷ StreamKind M2 ∷ StreamKind M4 ∷ StreamKind M8 ∷ []
 
 pub request_kind_found : EachFound request_word all_request_kinds
 request_kind_found (StreamKind Fm0) = refl

@@ -110,19 +110,20 @@ impl Named for RequestKind {
 
     ghost finds = { request_kind_found };
 
+    // Those of which a text has most lines come first.
     fn all() -> &'static [RequestKind] {
         &[
+            RequestKind::Uri,
+            RequestKind::Sgtin,
+            RequestKind::Command,
+            RequestKind::Pie,
+            RequestKind::Reply,
+            RequestKind::Heard,
+            RequestKind::Samples,
             RequestKind::Stream(Code::Fm0),
             RequestKind::Stream(Code::M2),
             RequestKind::Stream(Code::M4),
             RequestKind::Stream(Code::M8),
-            RequestKind::Samples,
-            RequestKind::Reply,
-            RequestKind::Heard,
-            RequestKind::Pie,
-            RequestKind::Command,
-            RequestKind::Sgtin,
-            RequestKind::Uri,
         ]
     }
 
