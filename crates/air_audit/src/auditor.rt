@@ -75,7 +75,7 @@ pub(crate) struct Auditor<'a, L: Ledger> {
     text: String,
 }
 
-// So a drop is one call, in place of one for each part, in the proof of each function that owns an audit.
+// Written out, so that a drop is one call in the proof of each function that owns an audit, and not one for each part.
 impl<'a, L: Ledger> Drop for Auditor<'a, L> {
     fn drop(self) {
         let Auditor {

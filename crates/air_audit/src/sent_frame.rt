@@ -27,7 +27,7 @@ pub(crate) struct SentFrame {
     command: Result<Command, CommandRefusal>,
 }
 
-// So a drop is one call, in place of one for each part, in the proof of each function that owns a frame.
+// Written out, so that a drop is one call in the proof of each function that owns a frame, and not one for each part.
 impl Drop for SentFrame {
     fn drop(self) {
         let SentFrame {

@@ -50,7 +50,7 @@ pub struct Air {
     exchanges: u64,
 }
 
-// So a drop is one call, in place of one for each part, in the proof of each function that owns an air.
+// Written out, so that a drop is one call in the proof of each function that owns an air, and not one for each part.
 impl Drop for Air {
     fn drop(self) {
         let Air {

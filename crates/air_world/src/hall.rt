@@ -36,7 +36,7 @@ pub struct AirHall {
     bits: Bits,
 }
 
-// So a drop is one call, in place of one for each part, in the proof of each function that owns a hall.
+// Written out, so that a drop is one call in the proof of each function that owns a hall, and not one for each part.
 impl Drop for AirHall {
     fn drop(self) {
         let AirHall {

@@ -1,4 +1,5 @@
-//! Tests of public calls that no row and no vector reaches, values from outside, and the example of a tag by itself.
+//! Tests of public calls that no row and no vector reaches, of vectors and check numbers that others published, and the example of
+//! a tag by itself.
 #![tactic(auto)]
 
 #[cfg(test)]

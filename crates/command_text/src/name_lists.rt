@@ -2,13 +2,15 @@
 ghost use Rattle.std.specs.Prelude.{◌≡◌, ℕ, List, IfSome, Some};
 ghost use Rattle.command_text.specs.NameLists.{EachFound};
 
-/// A value of a few, each of which has a name of its own in the texts.
+/// A type of few values, each of which has a name of its own in the texts.
 pub trait Named: Copy + 'static {
+    /// The name of a value, as bytes.
     ghost word: { Self → List ℕ };
 
+    /// All the values, in the order in which they are looked through.
     ghost values: { List Self };
 
-    /// All the values.
+    /// All the values that have a name, in the order in which they are looked through.
     fn all() -> &'static [Self]
         ensures { result.now ≡ values };
 
@@ -16,6 +18,7 @@ pub trait Named: Copy + 'static {
     fn name(self) -> &'static str
         ensures { result.now ≡ word self };
 
+    /// Each value is the first of these that has its name.
     ghost finds: { EachFound word values };
 }
 

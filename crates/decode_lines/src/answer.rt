@@ -41,7 +41,7 @@ pub struct Workspace {
     ghost intervals_room: { intervals.capacity ≡ most_intervals },
 }
 
-// By this each place that drops the room makes one call, which keeps the proofs of those functions short.
+// Written out, so that a drop is one call in the proof of each function that owns a workspace, and not one for each part.
 impl Drop for Workspace {
     fn drop(self) {
         let Workspace {

@@ -19,7 +19,7 @@ use sample_slicer::SliceRefusal;
 use sgtin_text::{push_epc_fault, push_name, push_sgtin_words, push_uri_fault};
 use text_fields::{push_bits, push_number};
 
-/// Adds a word and bits, as a line.
+/// Adds a word, which ends with a space, and bits, as a line.
 fn push_bits_line(text: &mut String, word: &str, bits: &[bool]) -> Result<(), OutOfMemory>
     ensures { OnOk result (string_bytes text.new ≡ string_bytes text.old
         ++ (word.now ++ binary bits.now ++ line_feed ∷ [])) }
@@ -29,7 +29,7 @@ fn push_bits_line(text: &mut String, word: &str, bits: &[bool]) -> Result<(), Ou
     text.push_str("\n")
 }
 
-/// Adds a word and a number, as a line.
+/// Adds a word, which ends with a space, and a number, as a line.
 fn push_number_line(text: &mut String, word: &str, number: u32) -> Result<(), OutOfMemory>
     ensures { OnOk result (string_bytes text.new ≡ string_bytes text.old
         ++ (word.now ++ decimal number ++ line_feed ∷ [])) }

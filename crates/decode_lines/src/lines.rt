@@ -27,7 +27,7 @@ pub(crate) struct Answering {
     fault: Option<FaultyLine>,
 }
 
-// As for `Workspace`.
+// Written out, so that a drop is one call in the proof of each function that owns it, and not one for each part.
 impl Drop for Answering {
     fn drop(self) {
         let Answering {

@@ -58,6 +58,8 @@ const ROWS: &[Row] = &[
     ("decode", STREAM, &[], (1, 0), Status::ReadFault, 0),
     ("decode", STREAM, &[], (0, 1), Status::WriteFault, 0),
     ("run", ONE_TAG, ONE_TAG_LINES, (0, 0), Status::Done, 5),
+    ("run", ONE_TAG, &[], (1, 0), Status::ReadFault, 0),
+    ("run", ONE_TAG, &[], (0, 1), Status::WriteFault, 0),
     ("run", ONE_TAG, ONE_TAG_LINES, (0, 3), Status::WriteFault, 2),
     ("run", COLLISION, &[], (1, 0), Status::ReadFault, 0),
     ("run", COLLISION, &[], (0, 1), Status::WriteFault, 0),
@@ -132,13 +134,18 @@ fn are_first(lines: &[&str], count: usize, text: &[u8]) -> bool {
     rest.is_empty()
 }
 
-/// The status of the program where a read and a write fail, and the sink with what it wrote; none without memory.
+/// The status of the program where a read and a write fail, and the sink with what it wrote; none without memory. Where no read
+/// is to fail, the source is one that can't.
 fn ran(alloc: Global, word: &str, input: &str, failing: (u64, u64)) -> Option<(Status, MemSink)> {
     let words = vec![in alloc; String::from_str(alloc, word).ok()?].ok()?;
     let bytes = input.as_bytes().to_vec(alloc).ok()?;
-    let mut source = MemSource::new(bytes, [failing.0].to_vec(alloc).ok()?);
     let mut sink = MemSink::new(alloc, ROOM, [failing.1].to_vec(alloc).ok()?).ok()?;
-    let status = gen2run(alloc, &words, &mut source, &mut sink);
+    let status = if failing.0 == 0 {
+        gen2run(alloc, &words, &mut SureSource::new(bytes), &mut sink)
+    } else {
+        let mut source = MemSource::new(bytes, [failing.0].to_vec(alloc).ok()?);
+        gen2run(alloc, &words, &mut source, &mut sink)
+    };
     Some((status, sink))
 }
 

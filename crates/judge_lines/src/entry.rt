@@ -63,7 +63,7 @@ pub(crate) struct Rooms {
     ghost bits_room: { bits.capacity ≡ 8240 },
 }
 
-// By this each place that drops the room makes one call, which keeps the proofs of those functions short.
+// Written out, so that a drop is one call in the proof of each function that owns these rooms, and not one for each part.
 impl Drop for Rooms {
     fn drop(self) {
         let Rooms {

@@ -33,7 +33,7 @@ pub(crate) struct KnownTag {
     most: Option<u16>,
 }
 
-// Written out, so that a drop of it is one call, and not one for each state of the tag.
+// Written out, so that a drop is one call in the proof of each function that owns a known tag, and not one for each part.
 impl Drop for KnownTag {
     fn drop(self) {
         let KnownTag { tag: _, most: _ } = self;

@@ -96,7 +96,7 @@ impl<'a> TagText<'a> {
         }
     }
 
-    /// What its memory is made with, in memory of its own.
+    /// The image of the tag's memory, copied.
     fn image(&self, alloc: Global) -> Result<BankImage, OutOfMemory>
         ensures { IfOk result (λ image. image ≡ self.now.image) }
     {

@@ -37,7 +37,7 @@ pub(crate) struct Draft {
     steps: StepLines,
 }
 
-// A draft is dropped by one call, wherever one is: the lists of its parts aren't named there.
+// Written out, so that a drop is one call in the proof of each function that owns a draft, and not one for each part.
 impl Drop for Draft {
     fn drop(self) {
         let Draft {

@@ -23,7 +23,8 @@ pub struct Body {
     pub parts: Box<Parts>,
 }
 
-// Written out, so that a tag in any state, of which each has a body, drops it by one call.
+// Written out, so that a drop is one call in the proof of each function that owns a body, as a tag in each state does, and not one
+// for each part.
 impl Drop for Body {
     fn drop(self) {
         let Body { parts: _ } = self;

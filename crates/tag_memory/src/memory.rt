@@ -27,7 +27,7 @@ pub struct Memory {
     user: Vec<u16>,
 }
 
-// Written out, so that whoever drops a memory calls this, and drops no bank by itself.
+// Written out, so that a drop is one call in the proof of each function that owns a memory, and not one for each part.
 impl Drop for Memory {
     fn drop(self) {
         let Memory {

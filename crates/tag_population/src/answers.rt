@@ -51,7 +51,7 @@ pub struct Answers {
     room: Bits,
 }
 
-// So a drop is one call, in place of one for each part, in the proof of each function that owns answers.
+// Written out, so that a drop is one call in the proof of each function that owns answers, and not one for each part.
 impl Drop for Answers {
     fn drop(self) {
         let Answers {

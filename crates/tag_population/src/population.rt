@@ -33,7 +33,7 @@ pub struct Population {
     missed: TagSet,
 }
 
-// So a drop is one call, in place of one for each part, in the proof of each function that owns a population.
+// Written out, so that a drop is one call in the proof of each function that owns a population, and not one for each part.
 impl Drop for Population {
     fn drop(self) {
         let Population {
@@ -284,7 +284,8 @@ fn hear_each<L: Ledger>(
     }
 }
 
-/// Whether a command passes over a tag: a QueryAdjust does nothing to one in ready, or where else it takes part in no round.
+/// Whether a command passes over a tag: a QueryAdjust does where the tag takes part in no round, as in ready, since it changes
+/// nothing there.
 fn passes_over(floor: &Floor, number: TagNumber, command: &Command) -> bool
     requires { number < length floor.now.tags }
     ensures { result ≡ true → IsPassedOver command.now (participation_at floor.now.parts number) }

@@ -88,7 +88,7 @@ abbrev pub IsTextOf : Job → Wrote → List ℕ → List ℕ → Type 0
 IsTextOf job Text = job.writes
 IsTextOf job FaultLine = job.refuses
 
--- The end of the writing of a text, as what it is: it was added whole, or a write failed behind a front of it.
+-- The end of the writing of a text that is one of these two: it was added whole, or a write failed behind a front of it.
 abbrev pub WritesAs : Result Wrote WriteEnd → Wrote → (text : List ℕ) → SinkChange → Type 0
 WritesAs (Ok done) wrote text sink = (done ≡ wrote) × (sink.writes' ≡ sink.writes) × Adds sink.written sink.written' text
 WritesAs (Err ends.Fault) wrote text sink = FaultsRose sink.writes sink.writes' × AddsFront (λ whole. whole ≡ text) sink.written sink.written'

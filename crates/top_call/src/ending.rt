@@ -64,7 +64,7 @@ impl From<PlayFault> for WriteEnd {
     }
 }
 
-/// Writes a text whole, as what it is.
+/// Writes a text whole, and gives what it was: the text of a word, or a fault line.
 pub(crate) fn write_text<O: Sink>(
     wrote: Wrote,
     text: &[u8],

@@ -94,7 +94,7 @@ fn push_tag(text: &mut String, old: Option<bool>, new: Option<bool>) -> Result<(
     text.push_str("t\n")
 }
 
-/// Writes a number, where it changes, with what stands behind it.
+/// Writes a number, where it changes, with a space and the sign of its signal behind it.
 fn push_number_value(text: &mut String, old: u64, new: u64, signal: &str) -> Result<(), OutOfMemory>
     ensures { OnOk result (string_bytes text.new ≡ string_bytes text.old
         ++ text_with (change_line (old == new) (codes "r" ++ decimal new ++ signal.now))) }
@@ -108,7 +108,7 @@ fn push_number_value(text: &mut String, old: u64, new: u64, signal: &str) -> Res
     text.push('\n')
 }
 
-/// Writes a text, where it changes, with what stands behind it.
+/// Writes a text, where it changes, with a space and the sign of its signal behind it.
 fn push_text_value(text: &mut String, old: &str, new: &str, signal: &str) -> Result<(), OutOfMemory>
     ensures { OnOk result (string_bytes text.new ≡ string_bytes text.old
         ++ text_with (change_line (same_text old.now new.now) (codes "s" ++ new.now ++ signal.now))) }
