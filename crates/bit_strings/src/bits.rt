@@ -94,7 +94,7 @@ impl Bits {
         self.bits.clear();
     }
 
-    /// The bit at the place `at`, counted from 0; none past the end.
+    /// The bit at the place `at` of the list of bits, counted from 0; none past its last one.
     pub fn get(&self, at: u32) -> Option<bool>
         ensures value { result ≡ slice_get self.now.items at }
         ensures none { IsNone result ↔ (length self.now.items ≤ at) }
@@ -111,7 +111,7 @@ impl Bits {
         self.bits.last().copied()
     }
 
-    /// The whole list.
+    /// All bits of the list, as a slice.
     pub fn as_slice(&self) -> &[bool]
         ensures value { result.now ≡ self.now.items }
         ensures within { length self.now.items ≤ self.now.capacity }

@@ -35,7 +35,7 @@ impl Session {
         }
     }
 
-    /// The number.
+    /// The number of the session, from 0 to 3.
     pub fn get(&self) -> u8
         ensures value { result ≡ self.now }
         ensures range { self.now ≤ 3 }
@@ -76,7 +76,7 @@ impl QValue {
         }
     }
 
-    /// The number.
+    /// Q as a number, from 0 to 15.
     pub fn get(&self) -> u8
         ensures value { result ≡ self.now }
         ensures range { self.now ≤ 15 }
@@ -116,7 +116,7 @@ impl Action {
         }
     }
 
-    /// The number.
+    /// The number of the action of a Select, from 0 to 7.
     pub fn get(&self) -> u8
         ensures value { result ≡ self.now }
         ensures range { self.now ≤ 7 }
@@ -157,7 +157,7 @@ impl Pointer {
         }
     }
 
-    /// The number.
+    /// The number of the pointer, from 0 to 268,435,455.
     pub fn get(&self) -> u32
         ensures value { result ≡ self.now }
         ensures range { self.now ≤ 268435455 }
@@ -198,7 +198,7 @@ impl Payload {
         }
     }
 
-    /// The number.
+    /// The payload of the Lock as a number of 20 bits.
     pub fn get(&self) -> u32
         ensures value { result ≡ self.now }
         ensures range { self.now ≤ 1048575 }
@@ -239,7 +239,7 @@ impl Count1 {
         }
     }
 
-    /// The number.
+    /// The WordCount as a number of words, from 1 to 255.
     pub fn get(&self) -> u8
         ensures value { result ≡ self.now }
         ensures range { (1 ≤ self.now) × (self.now ≤ 255) }

@@ -52,7 +52,7 @@ pub enum EbvStep {
 }
 
 impl EbvFront {
-    /// No bits.
+    /// An extensible bit vector of which no bit came yet.
     pub fn new() -> EbvFront
         ensures none { result ≡ [] }
         ensures begun { IsCutEbv result }

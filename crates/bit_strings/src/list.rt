@@ -30,21 +30,21 @@ impl<T> List<T> {
         List { items }
     }
 
-    /// How many items the list has.
+    /// How many items this list, made from a `Vec`, has.
     pub fn len(&self) -> u32
         ensures { result ≡ length self.now }
     {
         self.items.len() as u32
     }
 
-    /// Whether the list has no item.
+    /// Whether this list, made from a `Vec`, has no item.
     pub fn is_empty(&self) -> bool
         ensures { IsTrue result ↔ (self.now ≡ []) }
     {
         self.items.is_empty()
     }
 
-    /// The item at the place `at`, counted from 0; none exactly past the end.
+    /// The item of this list, made from a `Vec`, at the place `at`, counted from 0; none exactly past the end.
     pub fn get(&self, at: u32) -> Option<&T>
         ensures value { option_copied result ≡ slice_get self.now at }
         ensures none { IsNone result ↔ (length self.now ≤ at) }
@@ -52,7 +52,7 @@ impl<T> List<T> {
         self.items.get(at as usize)
     }
 
-    /// The items as a slice.
+    /// The items of this list, made from a `Vec`, as a slice.
     pub fn as_slice(&self) -> &[T]
         ensures value { result.now ≡ self.now }
         ensures few { length self.now < 2 ^ 32 }

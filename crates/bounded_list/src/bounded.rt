@@ -39,7 +39,7 @@ impl<T> Bounded<T> {
         })
     }
 
-    /// How many items the list has.
+    /// How many items the list has: at most its capacity.
     pub fn len(&self) -> u32
         ensures count { result ≡ length self.now.items }
         ensures within { length self.now.items ≤ self.now.capacity }
@@ -47,7 +47,7 @@ impl<T> Bounded<T> {
         self.items.len() as u32
     }
 
-    /// Whether the list has no item.
+    /// Whether the list of fixed capacity has no item.
     pub fn is_empty(&self) -> bool
         ensures { IsTrue result ↔ (self.now.items ≡ []) }
     {
@@ -62,7 +62,7 @@ impl<T> Bounded<T> {
         self.room
     }
 
-    /// The item at the place `at`, counted from 0; none exactly past the end.
+    /// The item of the list of fixed capacity at the place `at`, counted from 0; none exactly past the last item.
     pub fn get(&self, at: u32) -> Option<&T>
         ensures value { option_copied result ≡ slice_get self.now.items at }
         ensures none { IsNone result ↔ (length self.now.items ≤ at) }
@@ -70,7 +70,7 @@ impl<T> Bounded<T> {
         self.items.get(at as usize)
     }
 
-    /// The items as a slice.
+    /// The items of the list of fixed capacity, as a slice.
     pub fn as_slice(&self) -> &[T]
         ensures value { result.now ≡ self.now.items }
         ensures within { length self.now.items ≤ self.now.capacity }

@@ -65,7 +65,7 @@ impl Mask {
         self.bits.is_empty()
     }
 
-    /// The bit at the place `at`, counted from 0; none past the end.
+    /// The bit of the mask at the place `at`, counted from 0; none past the end of the mask.
     pub fn get(&self, at: u32) -> Option<bool>
         ensures value { result ≡ slice_get self.now at }
         ensures none { IsNone result ↔ (length self.now ≤ at) }
@@ -73,7 +73,7 @@ impl Mask {
         self.bits.get(at as usize).copied()
     }
 
-    /// The whole mask.
+    /// All bits of the mask of a Select, as a slice.
     pub fn as_slice(&self) -> &[bool]
         ensures value { result.now ≡ self.now }
         ensures within { length self.now ≤ 255 }
@@ -158,7 +158,7 @@ impl BlockWords {
         self.words.get(at as usize).copied()
     }
 
-    /// The whole block.
+    /// All words of the block of a BlockWrite, as a slice.
     pub fn as_slice(&self) -> &[u16]
         ensures value { result.now ≡ self.now }
         ensures within { length self.now ≤ 255 }

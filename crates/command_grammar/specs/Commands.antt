@@ -56,36 +56,36 @@ named_field reason bits = record { name = Some reason; bits = bits } ∷ []
 abbrev pub bits_of : List Part → List Bool
 bits_of parts = flat_map (λ part. part.bits) parts
 
--- a field of one bit
+-- the bits of a command's field of one bit
 abbrev pub digit : Bool → List Bool
 digit bit = bit ∷ []
 
--- 6.3.2.11.2.1 Query, M
+-- 6.3.2.11.2.1 Query: the two bits of M, by the line code that it asks for
 abbrev pub bits_of_m : Code → List Bool
 bits_of_m Fm0 = false ∷ false ∷ []
 bits_of_m M2 = false ∷ true ∷ []
 bits_of_m M4 = true ∷ false ∷ []
 bits_of_m M8 = true ∷ true ∷ []
 
--- 6.3.2.11.2.1 Query, Sel
+-- 6.3.2.11.2.1 Query: the two bits of Sel, by what it says of the selected flag
 abbrev pub bits_of_sel : Sel → List Bool
 bits_of_sel sels.All00 = false ∷ false ∷ []
 bits_of_sel sels.All01 = false ∷ true ∷ []
 bits_of_sel sels.NotSl = true ∷ false ∷ []
 bits_of_sel sels.Sl = true ∷ true ∷ []
 
--- 6.3.2.11.2.1 Query, Target
+-- 6.3.2.11.2.1 Query: the bit of Target, by the value of the inventoried flag
 abbrev pub bits_of_query_target : Side → List Bool
 bits_of_query_target A = false ∷ []
 bits_of_query_target B = true ∷ []
 
--- 6.3.2.11.2.2 QueryAdjust, UpDn
+-- 6.3.2.11.2.2 QueryAdjust: the three bits of UpDn, by what becomes of Q
 abbrev pub bits_of_updn : UpDn → List Bool
 bits_of_updn Up = true ∷ true ∷ false ∷ []
 bits_of_updn Same = false ∷ false ∷ false ∷ []
 bits_of_updn Down = false ∷ true ∷ true ∷ []
 
--- 6.3.2.11.1.1 Select, Target
+-- 6.3.2.11.1.1 Select: the three bits of Target, by the flag that it names
 abbrev pub bits_of_select_target : FlagName → List Bool
 bits_of_select_target flags.S0 = false ∷ false ∷ false ∷ []
 bits_of_select_target flags.S1 = false ∷ false ∷ true ∷ []
@@ -99,7 +99,7 @@ bits_of_mask_bank mask_banks.Epc = false ∷ true ∷ []
 bits_of_mask_bank mask_banks.Tid = true ∷ false ∷ []
 bits_of_mask_bank mask_banks.User = true ∷ true ∷ []
 
--- 6.3.2.11.3.2 Read, MemBank
+-- 6.3.2.11.3.2 Read: the two bits of MemBank, by the bank
 abbrev pub bits_of_bank : Bank → List Bool
 bits_of_bank banks.Reserved = false ∷ false ∷ []
 bits_of_bank banks.Epc = false ∷ true ∷ []
@@ -130,7 +130,7 @@ code_of kinds.Access = bits_of_text (codes "11000110")
 code_of kinds.BlockWrite = bits_of_text (codes "11000111")
 code_of kinds.BlockErase = bits_of_text (codes "11001000")
 
--- ... as the first field of a command
+-- the code of a command as the first field of the command
 abbrev pub code_field : CommandKind → List Part
 code_field kind = named_field reasons.Code (code_of kind)
 
@@ -226,7 +226,7 @@ Judges pushed.Whole bits = Spellings bits
 Judges (pushed.Bad place reason) bits = IsCommandRefusedAt bits place reason
 Judges pushed.More bits = IsShortAt Spellings bits (length bits)
 
--- ... in the end
+-- what is said of the bits that were pushed, in the end: the command that they spell, or why they spell none
 abbrev pub IsFinishAnswer : Result Command CommandRefusal → List Bool → Type 0
 IsFinishAnswer (Ok command) bits = SpellsCommand command bits
 IsFinishAnswer (Err (refusals.At place reason)) bits = IsCommandRefusedAt bits place reason

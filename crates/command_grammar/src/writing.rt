@@ -33,7 +33,7 @@ pub(crate) fn begin(out: &mut Bits, kind: CommandKind)
     put_bits(out, kind.code());
 }
 
-/// Adds these bits.
+/// Adds these bits to the bits of a command, which have room for them.
 pub(crate) fn put_bits(out: &mut Bits, bits: &[bool])
     requires { length out.old.items + length bits.now ≤ out.old.capacity }
     ensures items { out.new.items ≡ out.old.items ++ bits.now }
@@ -53,7 +53,7 @@ pub(crate) fn put_word(out: &mut Bits, word: u16)
     out.put_u16_reserved(word);
 }
 
-/// Adds these words.
+/// Adds the 16 bits of each of these words to the bits of a command, which have room for them.
 pub(crate) fn put_words(out: &mut Bits, words: &[u16])
     requires { length out.old.items + 16 * length words.now ≤ out.old.capacity }
     ensures items { out.new.items ≡ out.old.items ++ bits_of_words words.now }

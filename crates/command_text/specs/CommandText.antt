@@ -66,7 +66,7 @@ mask_bank_word mask_banks.Epc = codes "epc"
 mask_bank_word mask_banks.Tid = codes "tid"
 mask_bank_word mask_banks.User = codes "user"
 
--- Profile: a bank
+-- Profile: a bank of the tag's memory that an access command reads, writes or erases
 abbrev pub bank_word : Bank → List ℕ
 bank_word banks.Reserved = codes "res"
 bank_word banks.Epc = codes "epc"

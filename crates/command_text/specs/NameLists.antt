@@ -14,7 +14,7 @@ first_named word name (value ∷ others) = cond (bytes_eq (word value) name) (So
 abbrev pub EachFound : {V : Type 0} → (V → List ℕ) → List V → Type 0
 EachFound word values = (value : _) → first_named word (word value) values ≡ Some value
 
--- all commands
+-- all kinds of commands, in the order of their codes
 abbrev pub all_command_kinds : List CommandKind
 all_command_kinds =
     kinds.QueryRep ∷ kinds.Ack ∷ kinds.Query ∷ kinds.QueryAdjust ∷ kinds.Select ∷ kinds.Nak ∷ kinds.ReqRn ∷ kinds.Read ∷ kinds.Write

@@ -31,7 +31,7 @@ pub fn spelled_commands_are_not_faulty()
         → IsCommandText fields command → IsFaultyCommand fields fault → ⊥ }
 {}
 
-/// Fields are faulty for at most one reason.
+/// Fields are faulty as those of a command for at most one reason.
 pub fn commands_have_one_fault()
     ensures { (fields : List (List ℕ)) (one other : FieldsFault) → IsFaultyCommand fields one
         → IsFaultyCommand fields other → one ≡ other }

@@ -5,7 +5,7 @@ ghost use Rattle.command_text.specs.CommandText.{bank_word, flag_word, mask_bank
 
 use command_grammar::{Bank, FlagName, MaskBank, Reason, Sel, Side, UpDn};
 
-/// The digit of a bit.
+/// The digit 0 or 1 as the word that stands for a bit in a text, such as DR of a Query.
 pub fn bit_name(bit: bool) -> &'static str
     ensures { result.now ≡ binary_digit bit ∷ [] }
 {

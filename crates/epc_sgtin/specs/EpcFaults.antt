@@ -33,7 +33,7 @@ HasSgtinHeader words = (length words ≡ 6) × (header_in (bits_of_words words) 
 abbrev pub HasPartition : List ℕ → Type 0
 HasPartition words = HasSgtinHeader words × (partition_in (bits_of_words words) ≢ 7)
 
--- the first that fails
+-- the words are no SGTIN-96 for this reason, the first of the five that applies
 abbrev pub RefusesEpc : EpcFault → List ℕ → Type 0
 RefusesEpc Length words = length words ≢ 6
 RefusesEpc Header words = (length words ≡ 6) × (header_in (bits_of_words words) ≢ header)

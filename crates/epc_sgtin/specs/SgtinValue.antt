@@ -13,7 +13,7 @@ pub record SgtinValue : Type 0 where
   pub item : ℕ
   pub serial : ℕ
 
--- the digits of the company and of the item together
+-- how many digits the company and the item of an SGTIN have together
 abbrev pub all_digits : ℕ
 all_digits = 13
 

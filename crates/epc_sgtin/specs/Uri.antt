@@ -8,7 +8,7 @@ use Rattle.epc_sgtin.specs.SgtinValue.{SgtinValue, IsLegalSgtin, all_digits}
 abbrev pub prefix : List ℕ
 prefix = codes "urn:epc:tag:sgtin-96:"
 
--- the byte that joins the parts
+-- the byte that joins the parts of the URI of an SGTIN
 abbrev pub dot : ℕ
 dot = 46
 

@@ -9,7 +9,7 @@ use Rattle.epc_sgtin.specs.Uri.{prefix, dot, IsUriOf}
 use Rattle.epc_sgtin.specs.declared.tag_uri.UriFault.{UriFault}
 use Rattle.epc_sgtin.specs.declared.tag_uri.UriFault.TheVariants.{Prefix, Parts, Filter, Company, Item, Serial}
 
--- whether a byte is a decimal digit
+-- whether a byte of a URI is a decimal digit
 abbrev pub is_digit : ℕ → Bool
 is_digit byte = nat_le 48 byte && nat_le byte 57
 
@@ -42,7 +42,7 @@ pub record UriParts (text : List ℕ) : Type 0 where
   pub begins : text ≡ prefix ++ rest
   pub joined : pieces_between dot rest ≡ filter ∷ company ∷ item ∷ serial ∷ []
 
--- the first that fails
+-- the text is no URI of an SGTIN-96 for this reason, the first of the six that applies
 abbrev pub RefusesUri : UriFault → List ℕ → Type 0
 RefusesUri Prefix text = (rest : List ℕ) → text ≢ prefix ++ rest
 RefusesUri Parts text = (rest : List ℕ) × (text ≡ prefix ++ rest) × (length (pieces_between dot rest) ≢ 4)

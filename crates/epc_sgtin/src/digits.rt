@@ -33,7 +33,7 @@ pub(crate) fn digit_count(value: u64) -> usize
     count
 }
 
-/// Whether a byte is a decimal digit.
+/// Whether a byte of a part of a URI is a decimal digit.
 fn is_digit(byte: u8) -> bool
     ensures { result ≡ is_digit byte }
 {

@@ -26,7 +26,7 @@ impl Model for Uri {
 }
 
 impl Uri {
-    /// The empty text.
+    /// The text of a URI that has no bytes yet.
     pub fn new() -> Uri
         ensures { result ≡ [] }
     {

@@ -2,7 +2,7 @@
 ghost use Rattle.std.specs.Prelude.{◌≡◌, ◌^◌, ◌≤◌, ◌<◌};
 ghost use Rattle.epc_sgtin.specs.Partitions.{partition_row};
 
-/// The digits of the company and of the item together.
+/// How many digits the company and the item of an SGTIN have together, whatever the partition.
 pub(crate) const ITEM_AND_COMPANY_DIGITS: u8 = 13;
 
 /// The bits of the company and of the item together.

@@ -17,7 +17,7 @@ use thiserror::Error;
 /// What each URI begins with.
 const PREFIX: &[u8] = b"urn:epc:tag:sgtin-96:";
 
-/// The byte that joins the parts.
+/// The byte that joins the four parts behind the prefix of a URI.
 const DOT: u8 = b'.';
 
 /// The most digits of a part.

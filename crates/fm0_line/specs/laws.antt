@@ -1,2 +1,2 @@
--- The laws of a line code for FM0.
+-- FM0 keeps the laws of a line code.
 pub mod Fm0

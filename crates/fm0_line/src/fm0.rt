@@ -15,7 +15,7 @@ use std::simd::prelude::{SimdPartialEq, u8x4, u8x16};
 #[derive(Clone, Copy, Debug, PartialEq, Eq)]
 pub struct Fm0;
 
-/// The symbol before a bit's block.
+/// The FM0 symbol before a bit's block: its bit, and its last level.
 #[derive(Clone, Copy, Debug, PartialEq, Eq)]
 pub struct SymbolBefore {
     bit: bool,

@@ -11,7 +11,7 @@ use std::marker::Model;
 /// The coefficients of `x^16 + x^12 + x^5 + 1` behind the leading one.
 const POLYNOMIAL: u16 = 0x1021;
 
-/// What the register holds before the first bit.
+/// What the register of the CRC-16 holds before the first bit.
 const PRESET: u16 = 0xffff;
 
 /// What the register holds after a message and its CRC-16.
@@ -38,14 +38,14 @@ impl Model for Crc16 {
 }
 
 impl Crc16 {
-    /// Stands for no bits.
+    /// The register of the CRC-16 that stands for no bits.
     pub fn new() -> Crc16
         ensures { RegisterStandsFor result [] }
     {
         Crc16 { register: PRESET }
     }
 
-    /// Stands for one bit more.
+    /// Takes one bit more into the register of the CRC-16.
     pub fn push(&mut self, bit: bool)
         ensures { (bits : List Bool) → RegisterStandsFor self.old bits
             → RegisterStandsFor self.new (bits ++ bit ∷ []) }
@@ -131,7 +131,7 @@ impl Crc16 {
     }
 }
 
-/// The register one bit later.
+/// What the register of the CRC-16 holds one bit later.
 fn shifted16(register: u16, bit: bool) -> u16
     ensures { field_of result 16 ≡ remainder_of (field_of register 16) others16 (bit ∷ []) }
 {

@@ -8,7 +8,7 @@ use std::marker::Model;
 /// The coefficients of `x^5 + x^3 + 1` behind the leading one.
 const POLYNOMIAL: u8 = 0b01001;
 
-/// What the register holds before the first bit.
+/// What the register of the CRC-5 holds before the first bit.
 const PRESET: u8 = 0b01001;
 
 /// The CRC-5 of the bits pushed so far, in one register and with constant work a bit (Annex F).
@@ -32,14 +32,14 @@ impl Model for Crc5 {
 }
 
 impl Crc5 {
-    /// Stands for no bits.
+    /// The register of the CRC-5 that stands for no bits.
     pub fn new() -> Crc5
         ensures { result ≡ value_of (crc5_of []) }
     {
         Crc5 { register: PRESET }
     }
 
-    /// Stands for one bit more.
+    /// Takes one bit more into the register of the CRC-5.
     pub fn push(&mut self, bit: bool)
         ensures { (bits : List Bool) → self.old ≡ value_of (crc5_of bits)
             → self.new ≡ value_of (crc5_of (bits ++ bit ∷ [])) }
@@ -66,7 +66,7 @@ impl Crc5 {
     }
 }
 
-/// The register one bit later.
+/// What the register of the CRC-5 holds one bit later.
 fn shifted5(register: u8, bit: bool) -> u8
     requires { register < 32 }
     ensures small { result < 32 }

@@ -1,7 +1,7 @@
 -- A line code as a table (6.3.1.3.2 of the standard): what stands before the data, and what one bit is spelled as.
 use Rattle.std.specs.Prelude.{Bool, List}
 
--- what the block of a bit depends on: the bit before it, and the phase in which the block before it ended
+-- what the block of a bit depends on in a line code: the bit before it, and the phase in which the block before it ended
 pub record Context : Type 0 where
   pub before : Bool
   pub phase : Bool

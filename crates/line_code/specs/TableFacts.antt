@@ -21,7 +21,7 @@ HasLead t = (trext : Bool) → 1 ≤ length (t.lead trext)
 abbrev pub TellsBits : Table → Type 0
 TellsBits t = (c : Context) → t.block c false ≢ t.block c true
 
--- the level, inverted
+-- the inverse of the level that stands at a place of a stream; false where none stands there
 abbrev pub inverse_of : Option Bool → Bool
 inverse_of (Some level) = not level
 inverse_of None = false
@@ -41,6 +41,6 @@ pub record CodeTable : Type 0 where
 abbrev pub RefusesFlips : Table → Type 0
 RefusesFlips t = (trext : Bool) (levels : List Bool) (at : ℕ) → at < length levels → Streams t trext levels → ¬ Streams t trext (with_level_flipped levels at)
 
--- no list of data blocks begins with the lead
+-- no list of data blocks of the line code begins with its lead, for TRext 0 or 1
 abbrev pub HidesLead : Table → Type 0
 HidesLead t = (trext : Bool) (c : Context) (bits rest : List Bool) → blocks t c bits ≢ t.lead trext ++ rest

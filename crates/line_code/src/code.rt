@@ -11,8 +11,8 @@ ghost use Rattle.line_code.specs.TableFacts.{IsEven, HasLead, TellsBits, Refuses
 /// A stream is a lead, which is the pilot and the preamble, then one block of [`LineCode::CHIPS`]
 /// levels for each bit, then the block of a dummy data-1.
 pub trait LineCode {
-    /// What the block of a bit depends on: the bit before it, and the phase in which the block
-    /// before it ended.
+    /// What a line code keeps of the symbol before a bit's block, on which that block depends: the bit, and how
+    /// the symbol ended.
     type Mark: Copy;
 
     /// How many levels a bit has.
@@ -51,7 +51,7 @@ pub trait LineCode {
     fn after_lead() -> Self::Mark
         ensures { context_of result ≡ table.start };
 
-    /// The levels of a bit's block.
+    /// The levels of the block of a bit in this line code, behind this mark.
     fn block(mark: Self::Mark, bit: bool) -> &'static [bool]
         ensures { result.now ≡ table.block (context_of mark) bit };
 

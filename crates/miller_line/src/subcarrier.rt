@@ -9,7 +9,7 @@ ghost use Rattle.line_code.specs.Stream.{blocks};
 ghost use Rattle.line_code.specs.States.{context_after};
 ghost use Rattle.miller_line.specs.SymbolContext.{context};
 
-/// The symbol before a bit's block.
+/// The Miller symbol before a bit's block: its bit, and the phase in which it ended.
 #[derive(Clone, Copy, Debug, PartialEq, Eq)]
 pub struct SymbolBefore {
     pub(crate) bit: bool,
@@ -239,7 +239,7 @@ fn symbol_of(m: u32, start: bool, bit: bool) -> &'static [bool]
     }
 }
 
-/// The levels of a bit's block.
+/// The levels of the block of a bit, by M and by the Miller symbol before it.
 pub fn block(m: u32, before: SymbolBefore, bit: bool) -> &'static [bool]
     requires { IsOneOfThree m }
     ensures { result.now ≡ miller_block m (context before) bit }

@@ -8,7 +8,7 @@ use Rattle.pie_line.specs.declared.frame.Lead.{Lead}
 use Rattle.pie_line.specs.declared.frame.Lead.TheVariants.{Preamble as preamble, FrameSync as frame_sync}
 use Rattle.pie_line.specs.Link.{LinkValue, IsTari, IsRtCal, IsTrCal}
 
--- the longest interval, in nanoseconds
+-- the longest interval that a frame may have, in nanoseconds
 abbrev pub longest_interval : ℕ
 longest_interval = 999999
 

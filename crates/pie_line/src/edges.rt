@@ -79,7 +79,7 @@ impl Edges {
         }
     }
 
-    /// Takes one more interval, in nanoseconds.
+    /// Gives the decoder of frames one more interval, in nanoseconds.
     #[inline(always)]
     pub fn push(&mut self, interval: u32) -> Edge
         requires interval { interval ≤ longest_interval }

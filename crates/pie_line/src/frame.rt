@@ -36,7 +36,7 @@ pub enum FrameKind {
 impl FrameKind {
     ghost use Rattle.pie_line.specs.FrameState.{rtcal_of};
 
-    /// RTcal, in nanoseconds.
+    /// RTcal of the preamble or of the frame-sync, in nanoseconds.
     pub fn rtcal(self) -> u32
         ensures { result ≡ rtcal_of self }
     {

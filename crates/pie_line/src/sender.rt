@@ -19,7 +19,7 @@ pub trait FrameTaker {
     // how many intervals it took, or more
     ghost count: { Self → ℕ };
 
-    /// Takes one more interval, in nanoseconds.
+    /// Takes the next interval of a frame that is written, in nanoseconds.
     fn take(&mut self, interval: u32)
         requires interval { interval ≤ longest_interval }
         requires count { count self.old + 1 ≤ most_counted }

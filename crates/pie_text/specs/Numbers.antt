@@ -19,7 +19,7 @@ pub record SpellsNumbers (most_items most : ℕ) (fields : List (List ℕ)) (num
 
 -- the first reason for which the fields spell no such numbers
 abbrev pub RefusesNumbers : NotNumbers → ℕ → ℕ → List (List ℕ) → Type 0
--- their number is wrong, or one is empty
+-- the fields are none or more than most_items, or one of them is empty
 RefusesNumbers Shape most_items most fields = ¬ AreFewFilled most_items fields
 -- they are there, and one of them is no number up to most
 RefusesNumbers Number most_items most fields =

@@ -85,7 +85,7 @@ impl<const COUNT: usize, const STORED: usize> KeptText<COUNT, STORED> {
         *self = KeptText::new(intervals);
     }
 
-    /// The text.
+    /// The text of the intervals as fields, without what fills it up.
     pub(crate) fn text(&self) -> &[u8]
         ensures text { result.now ≡ fields_behind (map decimal self.now.intervals) }
         ensures ascii { IsAscii result.now }

@@ -5,7 +5,7 @@ ghost use Rattle.text_fields.specs.Lines.{Lacks, fields_of, space};
 ghost use Rattle.pie_text.specs.FieldEnd.{IsFieldEnd};
 ghost use Rattle.pie_text.specs.Spelling.{IsNumberUpTo, decimal_value};
 
-/// The byte that separates two fields.
+/// The byte behind the number with which a text begins, where other fields follow it.
 const SPACE: u8 = b' ';
 
 /// Whether digits are some, without leading zeros.

@@ -51,14 +51,14 @@ impl<'a> Numbers<'a> {
     }
 }
 
-/// How many fields a line has.
+/// How many fields a line of numbers has.
 fn field_count(line: &[u8]) -> usize
     ensures { result ≡ length (fields_of line.now) }
 {
     Fields::new(line).count()
 }
 
-/// Whether a field is not empty.
+/// Whether a field that is to spell a number is not empty.
 fn is_filled(field: &[u8]) -> bool
     ensures { IsTrue result ↔ (field.now ≢ []) }
 {

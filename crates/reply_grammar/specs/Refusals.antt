@@ -62,14 +62,14 @@ PassesNumber (Words count handle) bits = HasHandle handle bits
 PassesNumber (AnyWords handle) bits = HasHandle handle bits
 PassesNumber (Header handle) bits = HasHandle handle bits
 
--- all four pass
+-- the bits pass all four things that are asked of an expected reply
 pub record Passes (expect : Expect) (bits : List Bool) : Type 0 where
   pub length_fits : FitsLength expect bits
   pub check : PassesCheck expect bits
   pub header : PassesHeader expect bits
   pub number : PassesNumber expect bits
 
--- the first that fails
+-- the bits are no reply that is expected, for this reason, the first of the four that applies
 abbrev pub RefusesReply : ReplyRefusal → Expect → List Bool → Type 0
 RefusesReply Length expect bits = ¬ FitsLength expect bits
 RefusesReply Crc expect bits = FitsLength expect bits × (¬ PassesCheck expect bits)

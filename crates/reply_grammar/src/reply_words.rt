@@ -36,7 +36,7 @@ impl<const MOST: usize> Model for WordList<MOST> {
 
 // No list is made but of these two limits, which are numbers of 32 bits, as `len` wants it.
 impl WordList<31> {
-    /// The empty list.
+    /// The list of no words of an EPC, with room for 31.
     pub fn new() -> EpcWords
         ensures { result ≡ [] }
     {
@@ -57,7 +57,7 @@ impl WordList<31> {
 }
 
 impl WordList<512> {
-    /// The empty list.
+    /// The list of no words that a Read brings, with room for 512.
     pub fn new() -> ReadWords
         ensures { result ≡ [] }
     {

@@ -41,7 +41,7 @@ pub fn spelled_replies_are_not_faulty()
         → IsReplyText fields reply → IsFaultyReply fields fault → ⊥ }
 {}
 
-/// Fields are faulty for at most one reason.
+/// Fields are faulty as those of a reply for at most one reason.
 pub fn replies_have_one_fault()
     ensures { (fields : List (List ℕ)) (one other : FieldsFault) → IsFaultyReply fields one
         → IsFaultyReply fields other → one ≡ other }

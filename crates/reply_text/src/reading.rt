@@ -11,7 +11,7 @@ use crate::word_lists::{epc_of, read_words_of};
 use reply_grammar::{ReadWords, Reply};
 use text_fields::{Fields, FieldsFault, are_filled, byte, one_field, two_fields, word};
 
-/// The word that the one field behind a name spells.
+/// The word that the one field behind the name of a reply spells.
 fn read_word(fields: Fields) -> Option<u16>
     requires { AreFilled 1 fields }
     ensures value { IfSome result (λ rn. fields.entry ≡ hex_word rn ∷ []) }

@@ -1,7 +1,7 @@
 -- Profile: bits are spelled as the digits 0 and 1, the first bit first, and no bits as a hyphen.
 use Rattle.std.specs.Prelude.{ℕ, Bool, true, false, ◌==◌, ◌||◌, List, [], ◌∷◌, map}
 
--- what stands for a list without items
+-- what stands in a field for a list without items
 abbrev pub hyphen : ℕ
 hyphen = 45
 
@@ -10,7 +10,7 @@ abbrev pub or_hyphen : List ℕ → List ℕ
 or_hyphen [] = hyphen ∷ []
 or_hyphen (byte ∷ bytes) = byte ∷ bytes
 
--- the digit of a bit
+-- the digit that spells a bit in a field
 abbrev pub binary_digit : Bool → ℕ
 binary_digit false = 48
 binary_digit true = 49

@@ -3,11 +3,11 @@
 use Rattle.std.specs.Prelude.{◌≢◌, ◌==◌, ℕ, List, [], ◌∷◌, ◌++◌, All}
 use Rattle.std.specs.List.{flat_map, join_with_byte, slice_split}
 
--- the byte that ends a line
+-- the byte that ends each line of a text
 abbrev pub line_feed : ℕ
 line_feed = 10
 
--- the byte that separates two fields
+-- the byte that separates two fields of a line
 abbrev pub space : ℕ
 space = 32
 
@@ -20,7 +20,7 @@ pieces_between byte text = slice_split (λ each. each == byte) text
 abbrev pub lines_of : List ℕ → List (List ℕ)
 lines_of text = pieces_between line_feed text
 
--- the fields of a line
+-- the fields of a line: its pieces between the spaces
 abbrev pub fields_of : List ℕ → List (List ℕ)
 fields_of line = pieces_between space line
 

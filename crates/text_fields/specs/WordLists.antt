@@ -3,7 +3,7 @@ use Rattle.std.specs.Prelude.{◌≡◌, ℕ, ◌+◌, ◌-◌, ◌*◌, ◌/◌
 use Rattle.std.specs.List.{flat_map}
 use Rattle.text_fields.specs.Hexadecimal.{hex_word}
 
--- whether a byte is an upper-case hexadecimal digit
+-- whether a byte of a field is an upper-case hexadecimal digit
 abbrev pub is_upper_hex_digit : ℕ → Bool
 is_upper_hex_digit digit = nat_le 48 digit && nat_le digit 57 || nat_le 65 digit && nat_le digit 70
 
@@ -13,7 +13,7 @@ digit_number digit =
     (if nat_le 48 digit && nat_le digit 57 then digit - 48
     else (if nat_le 65 digit && nat_le digit 70 then digit - 55 else 0))
 
--- the word of four digits
+-- the word that four upper-case hexadecimal digits spell
 abbrev pub word_number : ℕ → ℕ → ℕ → ℕ → ℕ
 word_number a b c d = ((digit_number a * 16 + digit_number b) * 16 + digit_number c) * 16 + digit_number d
 

@@ -9,7 +9,7 @@ use bit_strings::{Bits, List, OutOfMemory};
 use std::alloc::Global;
 use std::marker::Model;
 
-/// What stands for a list without items.
+/// The one byte of a field that spells a list without items.
 const HYPHEN: u8 = b'-';
 
 /// A list of bits that a field spells: its digits 0 and 1, the first bit first, or a hyphen for no

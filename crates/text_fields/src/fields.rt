@@ -6,7 +6,7 @@ ghost use Rattle.text_fields.specs.Lines.{fields_of};
 use crate::lines::split_at_first;
 use std::marker::Model;
 
-/// The byte that separates two fields.
+/// The byte at which a line is cut into its fields.
 const SPACE: u8 = b' ';
 
 /// The fields of a line that are left, in order. A contract sees it as the list of these fields.

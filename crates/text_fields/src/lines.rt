@@ -4,7 +4,7 @@ ghost use Rattle.text_fields.specs.Lines.{line_feed, lines_of, pieces_between, L
 
 use memchr::memchr;
 
-/// The byte that ends a line.
+/// The byte at which a text is cut into its lines.
 const LINE_FEED: u8 = b'\n';
 
 /// The first place of the byte, counted from 0; none exactly where it stands nowhere.

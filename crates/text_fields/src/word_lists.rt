@@ -28,7 +28,7 @@ impl<'a> Model for Words<'a> {
     ghost invariant = { λ a. AreWordDigits a.digits.now };
 }
 
-/// Whether a byte is an upper-case hexadecimal digit.
+/// Whether a byte of a field is one of the digits 0 to 9 or of the letters A to F.
 fn is_upper_hex_digit(byte: u8) -> bool
     ensures { result ≡ is_upper_hex_digit byte }
 {
@@ -47,7 +47,7 @@ pub(crate) fn is_upper_hexadecimal(digits: &[u8]) -> bool
     hexadecimal
 }
 
-/// The word of four digits.
+/// The word of 16 bits that four upper-case hexadecimal digits spell.
 #[inline(always)]
 fn word_of(digits: &[u8; 4]) -> u16
     requires { AllPass is_upper_hex_digit digits.now }

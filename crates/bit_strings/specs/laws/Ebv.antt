@@ -230,7 +230,7 @@ nothing-digit d behind seven nothing =
     let digit : take 7 (d ++ behind) ≡ d = take_at d behind 7 seven in
     ap value_of (sym digit ∙ front)
 
--- ... and the other way round
+-- a first block that another follows and whose digit is 0 says nothing
 pub digit-nothing : (d behind : List Bool) → length d ≡ 7 → value_of d ≡ 0 → BeginsWithNothing (true ∷ d ++ behind)
 unfolding zeros
 digit-nothing d behind seven none =
@@ -270,7 +270,7 @@ too_long-more bits more long = record {
   says = λ nothing. long.says (sym (take-append-le 8 bits more (omega (arith, slice_get-inside bits 24 true long.fourth))) ∙ nothing);
 }
 
--- ... so no vector begins with them
+-- no extensible bit vector begins with bits whose first block says nothing
 pub no_ebv-nothing : (number : ℕ) (bits more : List Bool) → IsEbv number (bits ++ more) → BeginsWithNothing bits → ⊥
 no_ebv-nothing number bits more ebv nothing = says-ebv number (bits ++ more) [] ebv (subst BeginsWithNothing (sym (append-nil (bits ++ more))) (nothing-more bits more nothing))
 

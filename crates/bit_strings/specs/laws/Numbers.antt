@@ -33,7 +33,7 @@ value_of-field_of value (suc places) =
     let same : 1 + places ≡ suc places = omega arith in
     rw (digit, length-field_of value places, value_of-field_of value places) (sym split ∙ ap (λ n. value % 2 ^ n) same)
 
--- ... which is the number itself where it has that many digits
+-- the value of the last digits of a number is the number itself where it has no more digits than that
 pub value_of-field : (value width : ℕ) → value < 2 ^ width → value_of (field_of value width) ≡ value
 value_of-field value width small = value_of-field_of value width ∙ mod-eq_of_lt small
 

@@ -18,7 +18,7 @@ use Rattle.command_grammar.specs.declared.reader.fields.Field.TheVariants as fie
 use Rattle.command_grammar.specs.declared.reader.fields.Fields.{Fields}
 use Rattle.command_grammar.specs.declared.refusal.Reason.TheVariants as reasons
 
--- the fields behind the code, in their order
+-- the fields of each kind of command behind its code, in their order
 abbrev pub command_fields_of : CommandKind → List Field
 command_fields_of kinds.QueryRep = fields.Session ∷ []
 command_fields_of kinds.Ack = fields.Rn ∷ []
@@ -89,7 +89,7 @@ abbrev pub field_then : {A : Type 0} → FieldReader → Fields → List Bool �
 field_then (alone read set) v whole bits next = read whole bits >>= λ x. next (set v x.0, x.1)
 field_then (counted count read set) v whole bits next = count bits >>= λ n. (read n.0 n.1 >>= λ x. next (set v x.0, x.1))
 
--- the field alone
+-- reads the field of a command alone, and sets its value
 abbrev pub field_from : Field → Fields → List Bool → List Bool → Reading Fields
 field_from field v whole bits = field_then (reader_of field) v whole bits (λ x. Ok x)
 

@@ -31,7 +31,7 @@ pub record IsNumberFront (width : ℕ) (number : NumberFront) : Type 0 where
   pub rest : read + number.behind + 1 ≡ width
   pub small : number.value < 2 ^ read
 
--- ... of at most 20 bits, as each number of a field is
+-- a number of at most 20 bits, as each number in a field is, of which some bits were read
 abbrev pub IsSmall : NumberFront → Type 0
 IsSmall number = (width : ℕ) × (width ≤ 20) × IsNumberFront width number
 
@@ -48,12 +48,12 @@ AreFieldsInRange (stages.Mask behind) v = length v.mask + behind + 1 ≤ 255
 AreFieldsInRange (stages.Known reason number) v = number.behind ≤ 15
 AreFieldsInRange other v = Unit {0}
 
--- ... behind a bit of it
+-- behind a bit of a field that goes on, what was read of the field is in its range, and what is still to come has room
 abbrev pub IsSoundNext : Next → Fields → Type 0
 IsSoundNext (next.Stay stage) v = AreFieldsInRange stage v
 IsSoundNext other v = Unit {0}
 
--- the next bit of a number that is known
+-- the next bit of bits that are known beforehand, as those of a check number are
 abbrev pub next_bit : NumberFront → Bool
 next_bit number = number.value / 2 ^ number.behind % 2 == 1
 

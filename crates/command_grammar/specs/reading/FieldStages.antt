@@ -44,7 +44,7 @@ mask_from (suc behind) mask bits = bit_at bits >>= λ next. mask_from behind (ma
 abbrev pub ebv_from : List Bool → List Bool → Reading ℕ
 ebv_from front bits = bit_at bits >>= λ next. ebv_at (front ++ next.0 ∷ next.1)
 
--- a field of one bit
+-- reads a field of one bit, and sets its value in the fields of the command
 abbrev pub bit_from : BitField → Fields → List Bool → Reading Fields
 bit_from bit_fields.Dr v bits = bit_at bits >>= λ x. Ok (record v { dr = x.0 }, x.1)
 bit_from bit_fields.TRext v bits = bit_at bits >>= λ x. Ok (record v { trext = x.0 }, x.1)
@@ -62,7 +62,7 @@ abbrev pub triple_from : TripleField → TripleFront → Fields → List Bool �
 triple_from triple_fields.UpDn front v bits = next_at (behind_front updn_values front) reasons.UpDn bits >>= λ x. Ok (record v { updn = x.0 }, x.1)
 triple_from triple_fields.SelectTarget front v bits = next_at (behind_front select_target_values front) reasons.Target bits >>= λ x. Ok (record v { select_target = x.0 }, x.1)
 
--- what follows a word of a block, where so many others follow
+-- reads the words of a BlockWrite that follow a word, where so many are left
 abbrev pub words_then : ℕ → Fields → List Bool → Reading Fields
 words_then left v bits = words_at left bits >>= λ x. Ok (record v { words = v.words ++ x.0 }, x.1)
 

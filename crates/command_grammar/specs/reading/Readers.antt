@@ -38,16 +38,16 @@ abbrev pub ◌>>=◌ : {A B : Type 0} → Result A Stop → (A → Result B Stop
 (Ok x) >>= f = f x
 (Err e) >>= f = Err e
 
--- one bit
+-- reads one bit of a command
 abbrev pub bit_at : List Bool → Reading Bool
 bit_at [] = Err Short
 bit_at (bit ∷ rest) = Ok (bit, rest)
 
--- so many bits
+-- reads so many bits of a command, as a list of bits
 abbrev pub reading_bits : ℕ → List Bool → Reading (List Bool)
 reading_bits width bits = if nat_lt (length bits) width then Err Short else Ok (take width bits, drop width bits)
 
--- a number
+-- reads so many bits of a command, as a number
 abbrev pub reading_number : ℕ → List Bool → Reading ℕ
 reading_number width bits = if nat_lt (length bits) width then Err Short else Ok (value_of (take width bits), drop width bits)
 
@@ -78,31 +78,31 @@ abbrev pub IsChosen : {A : Type 0} → Option A → Choice A → Type 0
 IsChosen None t = t ≡ none
 IsChosen (Some value) t = t ≡ pick value
 
--- 6.3.2.11.2.1 Query, M
+-- 6.3.2.11.2.1 Query: the line codes that M may ask for, by its two bits
 abbrev pub m_values : Choice Code
 m_values = fork (fork (pick Fm0) (pick M2)) (fork (pick M4) (pick M8))
 
--- 6.3.2.11.2.1 Query, Sel
+-- 6.3.2.11.2.1 Query: the values of Sel, by its two bits
 abbrev pub sel_values : Choice Sel
 sel_values = fork (fork (pick sels.All00) (pick sels.All01)) (fork (pick sels.NotSl) (pick sels.Sl))
 
--- 6.3.2.11.2.1 Query, Target
+-- 6.3.2.11.2.1 Query: the values of the inventoried flag that Target may name, by its bit
 abbrev pub query_target_values : Choice Side
 query_target_values = fork (pick side.A) (pick side.B)
 
--- 6.3.2.11.2.2 QueryAdjust, UpDn
+-- 6.3.2.11.2.2 QueryAdjust: the values of UpDn, by its three bits, of which five combinations stand for none
 abbrev pub updn_values : Choice UpDn
 updn_values = fork (fork (fork (pick Same) none) (fork none (pick Down))) (fork none (fork (pick Up) none))
 
--- 6.3.2.11.1.1 Select, Target
+-- 6.3.2.11.1.1 Select: the flags that Target may name, by its three bits
 abbrev pub select_target_values : Choice FlagName
 select_target_values = fork (fork (fork (pick flags.S0) (pick flags.S1)) (fork (pick flags.S2) (pick flags.S3))) (fork (fork (pick flags.Sl) none) none)
 
--- 6.3.2.11.1.1 Select, MemBank
+-- 6.3.2.11.1.1 Select: the banks that MemBank may name, by its two bits; profile: the Reserved bank is none of them
 abbrev pub mask_bank_values : Choice MaskBank
 mask_bank_values = fork (fork none (pick mask_banks.Epc)) (fork (pick mask_banks.Tid) (pick mask_banks.User))
 
--- 6.3.2.11.3.2 Read, MemBank
+-- 6.3.2.11.3.2 Read: the banks that MemBank may name, by its two bits
 abbrev pub bank_values : Choice Bank
 bank_values = fork (fork (pick banks.Reserved) (pick banks.Epc)) (fork (pick banks.Tid) (pick banks.User))
 
@@ -125,7 +125,7 @@ kinds_11 = fork (fork (fork kinds_11000 kinds_11001) none) none
 abbrev pub kind_values : Choice CommandKind
 kind_values = fork (fork (pick kinds.QueryRep) (pick kinds.Ack)) (fork kinds_10 kinds_11)
 
--- these bits alone
+-- reads bits of a command that are known beforehand, as those of a check number are; another bit is refused for the reason
 abbrev pub exactly_at : List Bool → Reason → List Bool → Reading (Unit {0})
 exactly_at [] reason bits = Ok (tt, bits)
 exactly_at (wanted ∷ others) reason bits = bit_at bits >>= λ next. (if differ wanted next.0 then Err (Bad (length next.1 + 1) reason) else exactly_at others reason next.1)
@@ -134,7 +134,7 @@ exactly_at (wanted ∷ others) reason bits = bit_at bits >>= λ next. (if differ
 unfoldable pub count_at : List Bool → Reading ℕ
 count_at bits = reading_number 8 bits >>= λ count. (if count.0 == 0 then Err (Bad (length count.1 + 1) reasons.Count) else Ok count)
 
--- so many words
+-- reads so many words of a command, 16 bits each
 unfoldable pub words_at : ℕ → List Bool → Reading (List ℕ)
 words_at zero bits = Ok ([], bits)
 words_at (suc count) bits = do

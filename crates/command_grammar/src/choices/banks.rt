@@ -4,7 +4,7 @@ ghost use Rattle.command_grammar.specs.Commands.{bits_of_bank};
 
 use command_fields::Bank;
 
-/// The values of MemBank, by the number of their two bits.
+/// The banks that MemBank of a Read, Write, BlockWrite or BlockErase names, by the number of its two bits.
 pub(crate) const BANK_VALUES: [Bank; 4] = [Bank::Reserved, Bank::Epc, Bank::Tid, Bank::User];
 
 /// The bits of MemBank.

@@ -4,7 +4,7 @@ ghost use Rattle.command_grammar.specs.Commands.{bits_of_mask_bank};
 
 use command_fields::MaskBank;
 
-/// The values of MemBank, by the number of their two bits.
+/// The banks that MemBank of a Select names, by the number of its two bits; none for the Reserved bank.
 pub(crate) const MASK_BANK_VALUES: [Option<MaskBank>; 4] = [
     None,
     Some(MaskBank::Epc),

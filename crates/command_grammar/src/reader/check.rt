@@ -51,7 +51,7 @@ impl Check {
         }
     }
 
-    /// One bit more.
+    /// Takes one bit more of the command into the check number, where one is still to come.
     pub(crate) fn push(&mut self, bit: bool)
         ensures counts { (front : List Bool) → IsRegisterOf self.old front
             → IsRegisterOf self.new (front ++ bit ∷ []) }

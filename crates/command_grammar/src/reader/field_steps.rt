@@ -19,7 +19,7 @@ use crate::refusal::Reason;
 use bit_strings::{EbvFront, EbvStep};
 use command_fields::{BlockWords, Mask};
 
-/// A field of one bit.
+/// Takes the bit of a field of one bit, and sets the value of this field of the command.
 pub(crate) fn take_bit(field: BitField, bit: bool, fields: &mut Fields) -> Next
     ensures reads { (rest : List Bool)
         → bit_from field fields.old (bit ∷ rest) ≡ next_from result fields.new rest }
@@ -160,7 +160,7 @@ pub(crate) fn take_number(field: NumberField, value: u32, fields: &mut Fields) -
     }
 }
 
-/// What follows a word of a block, where so many others follow.
+/// What follows a word of a BlockWrite: its next word, or the end of the block where no word is left.
 fn next_word(left: u32) -> Next
     ensures reads { (fields : Fields) (rest : List Bool)
         → words_then left fields rest ≡ next_from result fields rest }

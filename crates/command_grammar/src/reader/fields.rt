@@ -64,7 +64,7 @@ pub(crate) enum Field {
 }
 
 impl CommandKind {
-    /// The fields behind the code, in their order.
+    /// The fields that follow the code in a command of this kind, in their order.
     pub(crate) fn fields(self) -> &'static [Field]
         ensures { result.now ≡ command_fields_of self }
     {

@@ -31,7 +31,7 @@ impl Model for Framer {
 }
 
 impl Framer {
-    /// Stands for no bits.
+    /// A framer that was given no bit of a command.
     pub fn new() -> Framer
         ensures { FramerStandsFor result [] }
     {

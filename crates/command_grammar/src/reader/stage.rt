@@ -66,7 +66,7 @@ impl NumberFront {
         2 * self.value + u32::from(bit)
     }
 
-    /// The next bit of a number that is known.
+    /// The next bit of a number that is known beforehand, as a check number is.
     fn next(&self) -> bool
         requires { self.now.behind ≤ 15 }
         ensures { result ≡ next_bit self.now }
@@ -95,7 +95,7 @@ impl NumberFront {
     }
 }
 
-/// A field of one bit.
+/// A field of one bit whose value is kept: DR, TRext or Target of a Query (6.3.2.11.2.1).
 #[derive(Clone, Copy)]
 pub(crate) enum BitField {
     Dr,

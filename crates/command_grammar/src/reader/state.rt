@@ -42,7 +42,7 @@ pub(crate) struct State {
 }
 
 impl State {
-    /// Stands for no bits.
+    /// The state before the first bit of a command.
     pub(crate) fn new() -> State
         ensures stands { StateStandsFor result [] }
         ensures sound { IsSoundPosition result.position result.fields }

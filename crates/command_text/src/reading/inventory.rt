@@ -24,7 +24,7 @@ pub(crate) fn read_session(fields: Fields) -> Option<Session>
     session_of(one_field(fields)?)
 }
 
-/// The word that the one field behind a name spells.
+/// The word that the one field behind the name of a command spells.
 pub(crate) fn read_word(fields: Fields) -> Option<u16>
     ensures value { IfSome result (λ rn. fields.entry ≡ hex_word rn ∷ []) }
     ensures none { IfNone result

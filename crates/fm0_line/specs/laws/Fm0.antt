@@ -1,4 +1,4 @@
--- The laws of a line code for FM0.
+-- The laws of a line code, each shown for the table of FM0.
 use Rattle.std.specs.Prelude.{◌≡◌, ◌≢◌, zero, suc, Bool, true, false, not, [], ◌∷◌, refl}
 use Rattle.std.proofs.Common.{arith}
 use Rattle.line_code.specs.Table.{Context}

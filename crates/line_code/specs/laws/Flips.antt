@@ -270,7 +270,7 @@ hides_break t chips even (suc n) lead rest h c (b ∷ bits) e =
     } in
     hides_break t chips even n (drop chips lead) rest behind (t.next c b) bits parts.1
 
--- no list of data blocks begins with the lead
+-- a line code hides its lead where the lead has, for each TRext, two symbols that are no two data blocks in a row
 pub hides_lead : (t : Table) (chips : ℕ) → IsEven t chips → ((trext : Bool) → HasBreak t chips (t.lead trext)) → HidesLead t
 hides_lead t chips even has trext c bits rest =
     let h = has trext in

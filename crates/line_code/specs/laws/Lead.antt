@@ -44,7 +44,7 @@ seeks_bad t trext state levels level s other place is =
           other (ap (slice_get (t.lead trext)) count ∙ front.1));
     }
 
--- the refusal at the end
+-- where the levels end inside the lead, they are refused as too short for a stream
 pub seeks_short : (t : Table) (trext : Bool) (state : SeekingValue) (levels : List Bool) → Seeks t trext state levels → IsShortAt (Streams t trext) levels state.taken
 seeks_short t trext state levels s =
     record {

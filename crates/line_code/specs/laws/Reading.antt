@@ -263,7 +263,7 @@ reads_finished code trext state levels bits r (all, e) =
         let sizes = ap length f in
         absurd (omega arith)
 
--- the refusal at the end
+-- where the levels end in the data, but not behind the whole block of the dummy, they are refused as too short for a stream
 pub reads_short : (code : CodeTable) (trext : Bool) (state : InsideValue) (levels bits : List Bool)
     → Reads code.table trext state levels bits → ¬ ((state.place ≡ 0) × (state.last ≡ Some true)) → IsShortAt (Streams code.table trext) levels state.taken
 reads_short code trext state levels bits r none =

@@ -64,7 +64,7 @@ header_row bits middle bit m handle row middle_is =
 handle-fits : (bits : List Bool) (handle : ℕ) → 32 ≤ length bits → HasHandle handle bits → handle < 2 ^ 16
 handle-fits bits handle long number = omega (arith, value_of-part bits (length bits - 32) 16 (omega arith))
 
--- one word alone
+-- the 16 bits of one word alone are the reply with it, where one RN16 is expected
 pub rn16_answers : (bits : List Bool) (rn : ℕ) → length bits ≡ 16 → rn ≡ value_of (part_of bits 0 16) → AnswersExpected (Rn16 rn) OneRn16 bits
 unfolding spelling
 rn16_answers bits rn long read = record {
