@@ -65,7 +65,7 @@ upper_half password = password / 2 ^ 16
 abbrev pub lower_half : ℕ → ℕ
 lower_half password = password % 2 ^ 16
 
--- ... each under a cover of its own. The tag answers the first half with its handle.
+-- 6.3.2.11.3.4 Kill and 6.3.2.11.3.6 Access: each half of a password goes under a cover of its own. The tag answers the first with its handle.
 abbrev pub send_lower : (ℕ → Command) → Expect → Bool → ℕ → ℕ → Dialogue → Dialogue
 send_lower half_command expect extended password handle later =
     with_number handle (λ cover. last_command (half_command (bit_xor (lower_half password) cover)) expect extended later)
@@ -127,13 +127,13 @@ abbrev pub reception_in : Answer → Reception
 reception_in Silence = no_stream
 reception_in (Got received) = reception_from received
 
--- the rest of what is done
+-- the rest of what is to be done with a tag, behind this move
 abbrev pub dialogue_behind : Move → Dialogue → Dialogue
 dialogue_behind (answered answer) (sends command expect extended go_on) = go_on (reception_in answer)
 dialogue_behind told (tells result later) = later
 dialogue_behind move dialogue = done
 
--- ... behind these moves, the latest first
+-- what is still to be done with the tag that sent this EPC, and this RN16 before it, behind these moves, the latest first
 abbrev pub dialogue_after : OpList → List ℕ → ℕ → List Move → Dialogue
 dialogue_after list epc rn [] = dialogue_of list epc rn
 dialogue_after list epc rn (move ∷ moves) = dialogue_behind move (dialogue_after list epc rn moves)

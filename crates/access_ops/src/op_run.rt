@@ -346,7 +346,7 @@ impl OpRun {
         *next = OpNext::Result(OpResult::Broken);
     }
 
-    /// Ends the run.
+    /// Ends the run of operations on the tag, with no further result.
     fn end(&mut self, next: &mut OpNext)
         ensures run { self.new ≡ record self.old { stage = Stage.Done } }
         ensures next { next.new ≡ OpNext.End }

@@ -17,14 +17,14 @@ pub(crate) enum Password {
 }
 
 impl Password {
-    /// The upper half.
+    /// The upper half of the password, which is shown first.
     pub(crate) fn upper(self) -> u16
         ensures { result ≡ upper_half (password_value self) }
     {
         (self.value() >> 16) as u16
     }
 
-    /// The lower half.
+    /// The lower half of the password, which is shown behind the upper one.
     pub(crate) fn lower(self) -> u16
         ensures { result ≡ lower_half (password_value self) }
     {

@@ -11,7 +11,7 @@ room_for_frames = 8400
 abbrev pub longest_frame : ℕ
 longest_frame = 8331
 
--- the room for the stream of each reply, in levels
+-- the room that an air has for the stream of each reply, in levels
 abbrev pub room_for_streams : ℕ
 room_for_streams = 132208
 

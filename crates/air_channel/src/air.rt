@@ -30,7 +30,7 @@ use tag_population::{Answers, Population};
 /// the longest frame.
 const FRAME_ROOM: u32 = 8400;
 
-/// How many levels there is room for: more than the 131,968 of the longest stream.
+/// How many levels of a stream the air has room for: more than the 131,968 of the longest stream.
 const STREAM_ROOM: u32 = 132_208;
 
 /// The air between one interrogator and a population of tags, with the buffers for what goes through it.
@@ -161,7 +161,7 @@ impl Air {
         )
     }
 
-    /// Lets an event befall the tag with this number.
+    /// Lets an event befall the tag with this number, between two exchanges over the air.
     pub fn event(&mut self, event: Event, tag: u32)
         requires { tag < length self.old.tags }
         ensures air { self.new ≡ air_after_event self.old event tag }
@@ -183,21 +183,21 @@ impl Air {
         self.population.befall(event, tag, &mut steps);
     }
 
-    /// The link.
+    /// The link of the air.
     pub fn link(&self) -> &Link
         ensures { result.now ≡ self.now.link }
     {
         &self.link
     }
 
-    /// What the channel gives where several tags reply and nothing is chosen.
+    /// What the channel of the air gives where several tags reply and nothing is chosen.
     pub fn several(&self) -> Several
         ensures { result ≡ self.now.several }
     {
         self.several
     }
 
-    /// How many tags there are.
+    /// How many tags the population of the air has.
     pub fn len(&self) -> u32
         ensures count { result ≡ length self.now.tags }
         ensures few { length self.now.tags ≤ most_tags }

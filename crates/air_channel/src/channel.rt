@@ -131,7 +131,7 @@ fn invert_level(place: u32, levels: &mut Levels)
     levels.flip(place);
 }
 
-/// Gives nothing.
+/// Gives the interrogator silence: a stream without a level.
 fn give_nothing(stream: &mut Levels) -> Got
     ensures stream { stream.new ≡ record stream.old { items = [] } }
     ensures got { result ≡ Got.Silence }

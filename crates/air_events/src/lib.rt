@@ -43,7 +43,7 @@ pub enum Choice {
     Raw(List<bool>),
 }
 
-/// What the channel gives where several tags reply and nothing is chosen.
+/// What the channel gives in each exchange where several tags reply and nothing is chosen for that exchange.
 #[derive(Clone, Copy, Debug, PartialEq, Eq)]
 pub enum Several {
     /// The first reply's stream with its first level inverted, so that no reply is received.

@@ -47,7 +47,7 @@ impl TagNumber {
         }
     }
 
-    /// The number.
+    /// The number that the tag has in its population, counted from 0.
     pub fn get(&self) -> u16
         ensures value { result ≡ self.now }
         ensures range { self.now < most_tags }

@@ -109,12 +109,12 @@ abbrev pub IsReadBy : LinkValue → Given → Type 0
 IsReadBy link (raw code trext levels) = (code ≡ link.code) × (trext ≡ link.trext)
 IsReadBy link given = Unit {0}
 
--- what is given comes of the replies: it is no raw stream ..
+-- what is given comes of the replies: it is no raw stream
 abbrev pub IsOfReplies : Given → Type 0
 IsOfReplies (raw code trext levels) = ⊥
 IsOfReplies given = Unit {0}
 
--- ... since no raw stream is chosen
+-- what is given is to come of the replies: no raw stream is chosen
 abbrev pub GoesByReplies : Option Choice → Type 0
 GoesByReplies (Some (choices.Raw levels)) = ⊥
 GoesByReplies choice = Unit {0}

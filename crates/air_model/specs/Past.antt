@@ -41,7 +41,7 @@ pub data Item : Type 0 where
   exchanged : (sent : Record) → Item
   -- an operation had its result: in a round and a slot, the operation of this number, counted from 1 for each listed tag
   operated : (round slot index : ℕ) → (result : OpResult) → Item
-  -- a round ended, which had so many slots
+  -- the round of this number ended so, and had so many slots
   ended : (round : ℕ) → (end : RoundEnd) → (slots : ℕ) → Item
 
 -- *Tag after*: what became of the tag of a number, from what it was at the start. It goes by the events that name the tag and

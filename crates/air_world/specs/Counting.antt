@@ -8,7 +8,7 @@ use Rattle.runs.specs.declared.summary.Summary.{Summary}
 abbrev pub nothing_counted : Summary
 nothing_counted = record { tags = 0; listed = 0; distinct = 0; slots = 0; quiet = true }
 
--- one line more
+-- what is counted of a run behind one more of its lines
 abbrev pub counted_line : Summary → ReportLine → Summary
 counted_line counted (ListLine round slot pc epc) = record counted { listed = counted.listed + 1 }
 counted_line counted (RoundLine round end slots) = record counted { slots = counted.slots + slots; quiet = counted.quiet && is_quiet end }
@@ -16,7 +16,7 @@ counted_line counted (SeenLine count pc epc) = record counted { distinct = count
 counted_line counted (TagLine number tag) = record counted { tags = counted.tags + 1 }
 counted_line counted line = counted
 
--- these lines more
+-- what is counted of a run behind these lines more, one after the other
 abbrev pub counted_lines : Summary → List ReportLine → Summary
 counted_lines counted [] = counted
 counted_lines counted (line ∷ lines) = counted_lines (counted_line counted line) lines

@@ -10,7 +10,7 @@ abbrev pub pair_told : ReportLine → List (ℕ × List ℕ)
 pair_told (ListLine round slot pc epc) = (pc, epc) ∷ []
 pair_told line = []
 
--- ... and those that lines list, in their order
+-- the PC and the EPC of each of these lines that lists a tag, in the order of the lines
 abbrev pub pairs_told : List ReportLine → List (ℕ × List ℕ)
 pairs_told [] = []
 pairs_told (line ∷ lines) = pair_told line ++ pairs_told lines

@@ -47,7 +47,7 @@ pub record RunIsAt (start : Start) (earlier : ℕ) (past : List Item) (air : Air
   pub entries : AreEntriesLeft run.entries start.entries (exchanges_in past)
   pub rounds : run.rounds ≡ rounds_in past
 
--- ... and the lines of the past are heard
+-- the air, which had so many exchanges before the run, and the run are what a past made of them, and the lines of that past are heard
 pub record StandsAt (Heard : List ReportLine → Type 0) (start : Start) (earlier : ℕ) (past : List Item) (air : AirValue) (run : RunValue) : Type 0 where
   pub at : RunIsAt start earlier past air run
   pub told : Heard (lines_to_tell start past)
@@ -65,7 +65,7 @@ HasRoomForExchanges more past = exchanges_in past + more ≤ 2 ^ 34
 abbrev pub most_in_slot : ℕ
 most_in_slot = 131
 
--- ... and a round, with 70,000 slots
+-- how many exchanges a round has at most: those of 70,000 slots
 abbrev pub most_in_round : ℕ
 most_in_round = 9170000
 
@@ -81,7 +81,7 @@ pub record RunIsUnderway (more : ℕ) (air : AirValue) (run : RunValue) : Type 0
   pub at : RunIsAt start earlier past air run
   pub room : HasRoomForExchanges more past
 
--- ... between two steps, and so many more steps fit
+-- the air and the run are what some past made of them, the run stands between two steps, and so many more steps fit
 pub record IsBetweenSteps (steps : ℕ) (air : AirValue) (run : RunValue) : Type 0 where
   pub start : Start
   pub earlier : ℕ

@@ -28,11 +28,11 @@ pub record IsCut (Told : List ReportLine → Type 0) (Cause : PlayFault → Type
   pub told : Told front
   pub cause : Cause fault
 
--- ... which is the first of the listener
+-- a run was cut off by this fault, which is the first of the listener, and a front of these lines was told
 abbrev pub IsCutOff : {A : Type 0} → (A → List ReportLine → A → Type 0) → (A → Option PlayFault) → (before : List ReportLine) → (old new : A) → (whole : List ReportLine) → PlayFault → Type 0
 IsCutOff hears failed before old new = IsCut (PassesOn hears before old new) (λ fault. failed new ≡ Some fault)
 
--- ... or the listener, which was told nothing before, met none, and there was no memory
+-- a run was cut off by the first fault of the listener, or by lack of memory where it met none; it was told a front of these lines, and no more
 abbrev pub IsCutShort : {A : Type 0} → (A → List ReportLine → A → Type 0) → (A → Option PlayFault) → (old new : A) → (whole : List ReportLine) → PlayFault → Type 0
 IsCutShort hears failed old new = IsCut (λ lines. hears old lines new) (λ fault. (failed new ≡ Some fault) ⊎ ((fault ≡ OutOfMemory) × (failed new ≡ None)))
 

@@ -34,7 +34,7 @@ pub(crate) fn receive_last(
     );
 }
 
-/// A copy of the words of an EPC.
+/// A copy of the words of an EPC that a tag sent.
 pub(crate) fn copy_of(epc: &EpcWords) -> EpcWords
     ensures { result ≡ epc.now }
 {

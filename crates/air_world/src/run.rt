@@ -127,7 +127,7 @@ impl<'a, L: Ledger> Run<'a, L> {
         }
     }
 
-    /// The PC and the EPC of the stream that came last, if they come whole.
+    /// What the run hears in reply to an ACK: the PC and the EPC of the stream that came last, if they come whole.
     fn hear_epc(&mut self, air: &Air) -> Option<(u16, EpcWords)>
         ensures same { self.new ≡ self.old }
         ensures received { (received : Received)

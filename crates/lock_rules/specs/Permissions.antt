@@ -12,7 +12,7 @@ pub data Use : Type 0 where
   Reading : Use
   Writing : Use
 
--- the pair of a field
+-- the pair of lock bits of a field of the tag's memory
 abbrev pub lock_pair_of : Locks → Field → Pair
 lock_pair_of locks KillWord = locks.kill_word
 lock_pair_of locks AccessWord = locks.access_word

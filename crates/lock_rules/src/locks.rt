@@ -151,7 +151,7 @@ impl Locks {
             + self.user.number()
     }
 
-    /// The pair of a field.
+    /// The pair of lock bits of this field (6.3.2.11.3.5 Lock).
     fn pair(&self, field: Field) -> Pair
         ensures { result ≡ lock_pair_of self.now field }
     {

@@ -18,11 +18,11 @@ seen_marked Silent reply = None
 seen_marked Plain reply = Some (record { reply = reply; extended = false })
 seen_marked Extended reply = Some (record { reply = reply; extended = true })
 
--- what was seen
+-- what is seen of an answer: the reply and its preamble, or none where the tag sends nothing
 abbrev pub seen_in : Answer → Option Seen
 seen_in answer = seen_marked answer.answered answer.reply
 
--- the code of an error
+-- the error code of a reply that is an error; none of each other reply
 abbrev pub code_of_reply : Reply → Option ℕ
 code_of_reply (replies.Rn16 number) = None
 code_of_reply (replies.Epc pc epc) = None

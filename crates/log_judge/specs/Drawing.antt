@@ -72,11 +72,11 @@ fallen draws.Number answered held_numbers most = None
 fallen draws.Nothing answered held_numbers most = None
 
 -- What had to be answered, by what a tag of these draws did answer, and by what it is then: an RN16, which may also come later where it need
--- not come now ...
+-- not come now.
 abbrev pub rn16_wanted : Bool → Want
 rn16_wanted now = (if now then AnyRn16 else NothingOrAnyRn16)
 
--- ... of a slot ...
+-- what had to be answered to a command at which a tag draws its slot: if it drew one, an RN16, or nothing where Q is above 0; else nothing
 abbrev pub want_told : ℕ → Bool → StateNumbers → Want
 want_told session answered numbers.None = Nothing
 want_told session answered (numbers.Waiting own q slot) = (if not answered && has_drawn session own slot then NothingOrAnyRn16 else Nothing)
@@ -86,7 +86,7 @@ want_told session answered (numbers.Held held) = Nothing
 abbrev pub want_of_slot : ℕ → Option Seen → StateValue → Want
 want_of_slot session answer state = want_told session (is_some answer) (numbers_of state)
 
--- ... in the tag's turn, which may come later where its slot may be another than 1 ...
+-- an RN16 has to come now, in the tag's turn: it may come later where the tag's slot may be another than 1
 abbrev pub comes_now : Option ℕ → Bool
 comes_now None = true
 comes_now (Some most) = most == 1
@@ -98,7 +98,7 @@ abbrev pub want_of_turn : Option Seen → Option ℕ → Want
 want_of_turn None most = Nothing
 want_of_turn (Some seen) most = want_in_turn most
 
--- ... or a handle or a cover
+-- what had to be answered to a Req_RN: a handle or a cover where the tag did answer, and else nothing
 abbrev pub want_of_number : Option Seen → Want
 want_of_number None = Nothing
 want_of_number (Some seen) = AnyHandle

@@ -67,7 +67,7 @@ answers_with command (numbers.Held held) password = answers_held command held pa
 abbrev pub answers_now : Command → TagValue → Bool
 answers_now command tag = answers_with command (numbers_of tag.state) (access_word_of tag.body.memory)
 
--- the BlockWrite of so many words of a bank as they stand there, where the bank has them
+-- the command that undoes a change of so many words of a bank: a BlockWrite of them as they stand there, or none where the bank hasn't so many
 abbrev pub Undoes : Bank → ℕ → ℕ → ℕ → Banks → Option Command → Type 0
 Undoes bank pointer count rn banks None = length (bank_of banks bank) < pointer + count
 Undoes bank pointer count rn banks (Some command) =

@@ -18,7 +18,7 @@ pub struct Answer {
 }
 
 impl Answer {
-    /// No answer.
+    /// The answer of a tag that sends nothing.
     pub fn none() -> Answer
         ensures { seen_in result ≡ None }
     {
@@ -62,7 +62,7 @@ impl Answer {
         }
     }
 
-    /// The code of an error.
+    /// The error code of the answer, if the tag sends an error.
     fn code(&self) -> Option<u8>
         ensures { result ≡ code_in (seen_in self.now) }
     {
@@ -96,7 +96,7 @@ fn number_of(reply: &Reply) -> u16
     }
 }
 
-/// The code of an error.
+/// The error code of a reply, if the reply is an error.
 fn code_of(reply: &Reply) -> Option<u8>
     ensures { result ≡ code_of_reply reply.now }
 {

@@ -61,7 +61,7 @@ pub(crate) fn answers_optional(tag: &AnyTag, command: &Command) -> bool
     }
 }
 
-/// The BlockWrite of so many words of a bank as they stand there, where the bank has them.
+/// The BlockWrite that writes so many words of a bank of the tag as they stand there now, if the bank has them.
 fn undo_of(tag: &AnyTag, bank: Bank, pointer: Pointer, count: usize, rn: u16) -> Option<Command>
     requires some { 1 ≤ count }
     requires few { count ≤ 255 }

@@ -27,7 +27,7 @@ pub(crate) struct Rooms {
 }
 
 impl Rooms {
-    /// Takes the room.
+    /// Takes the room for an answer and its bits, once for a whole log.
     pub(crate) fn new(alloc: Global) -> Result<Rooms, OutOfMemory> {
         let bits = Bits::new(alloc, ROOM)?;
         Ok(Rooms {

@@ -20,7 +20,7 @@ abbrev pub outcome_of_heard : Option Command → TagValue → Outcome
 outcome_of_heard None tag = silent tag.state tag.body
 outcome_of_heard (Some command) tag = step command tag.state tag.body
 
--- ... and what is seen of it
+-- what is seen of a tag's answer to what it heard; none where it sends nothing
 abbrev pub seen_answer_to : Option Command → TagValue → Option Seen
 seen_answer_to heard tag = seen_of (outcome_of_heard heard tag).answer
 
@@ -68,7 +68,7 @@ pub record LacksCommand (heard : Option Command) (seen : Option Seen) (tag behin
   pub silent : seen ≡ None
   pub stays : behind ≡ tag
 
--- ... what it says, or with one of the two liberties
+-- The tag answers what the entry says, or does so with one of the two liberties, and becomes this.
 abbrev pub Excuses : LogEntry → TagValue → TagValue → Type 0
 Excuses (Exchange heard seen) tag behind =
     Explains (Exchange heard seen) tag behind ⊎ (TakesCode heard seen tag behind ⊎ LacksCommand heard seen tag behind)

@@ -19,7 +19,7 @@ pub record Seen : Type 0 where
 pub data LogEntry : Type 0 where
   -- the tag heard a command, or bits that spell none, and was seen to send this, or nothing
   Exchange : (heard : Option Command) (seen : Option Seen) → LogEntry
-  -- this befell it
+  -- this event befell the tag
   Befalls : (event : Event) → LogEntry
 
 -- how many lines an entry takes: an answer has one of its own

@@ -7,9 +7,9 @@ use Rattle.log_verdicts.specs.Explaining.{IsAllowed, IsExcused, IsExplained, IsL
 
 -- what a tag had to answer
 pub data Want : Type 0 where
-  -- nothing
+  -- the tag had to send nothing
   Nothing : Want
-  -- this
+  -- the tag had to send exactly this
   Exactly : (seen : Seen) → Want
   -- an RN16 that it draws
   AnyRn16 : Want
@@ -61,11 +61,11 @@ pub record FailsFirst (manner : Manner) (tag : LoggedTag) (log : List LogEntry) 
   pub wanted : IsWanted manner tag before heard want
 
 pub data Verdict : Type 0 where
-  -- the log can be that of such a tag
+  -- the log can be that of a tag that follows the tables
   Yes : Verdict
-  -- ... with liberties that the standard leaves and this project doesn't take, the first of them at the line of this number
+  -- the log can be that of a tag that takes liberties, which the standard leaves and this project doesn't take, the first at the line of this number
   Profile : (number : ℕ) (want : Want) → Verdict
-  -- it can't
+  -- no tag can have this log, not even one that takes liberties: the answer line of this number is the first that can't come
   No : (number : ℕ) (want : Want) → Verdict
 
 pub record IsProfile (tag : LoggedTag) (log : List LogEntry) (number : ℕ) (want : Want) : Type 0 where

@@ -26,7 +26,7 @@ pub record IsSoundFrame (frame : Frame) : Type 0 where
   pub slots : frame.slots < 2 ^ frame.q
   pub refused : frame.refused ≤ frame.slots
 
--- behind it
+-- behind the outcome of a slot: the frame may have no slot left
 pub record IsCounted (frame : Frame) : Type 0 where
   pub q : frame.q ≤ 15
   pub qfp : frame.qfp ≤ 15000

@@ -39,7 +39,7 @@ side_after Deassert side = B
 side_after Negate A = B
 side_after Negate B = A
 
--- ... and at the selected flag
+-- what an effect is at the selected flag SL: true where it is asserted
 abbrev pub sl_after : Effect → Bool → Bool
 sl_after Keep sl = sl
 sl_after Assert sl = true

@@ -16,7 +16,7 @@ use Rattle.session_flags.specs.Actions.{effect_of, side_after, sl_after}
 abbrev pub new_flags : Flags
 new_flags = record { s0 = A; s1 = A; s2 = A; s3 = A; sl = false }
 
--- the inventoried flag of a session
+-- the inventoried flag that a tag has for a session
 abbrev pub side_of : Flags → ℕ → Side
 side_of flags session =
     (if session == 0 then flags.s0 else (if session == 1 then flags.s1 else (if session == 2 then flags.s2 else flags.s3)))
@@ -29,7 +29,7 @@ flags_after_effect flags S2 effect = record flags { s2 = side_after effect flags
 flags_after_effect flags S3 effect = record flags { s3 = side_after effect flags.s3 }
 flags_after_effect flags Sl effect = record flags { sl = sl_after effect flags.sl }
 
--- after a Select
+-- the flags of a tag after a Select of this target and action, which matches the tag or doesn't
 abbrev pub flags_after_select : Flags → FlagName → ℕ → Bool → Flags
 flags_after_select flags target action matching = flags_after_effect flags target (effect_of action matching)
 

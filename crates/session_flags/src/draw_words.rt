@@ -51,7 +51,7 @@ impl DrawWords {
         self.words.copy_from_slice(words);
     }
 
-    /// The words.
+    /// The words that the tag draws, in their order.
     pub fn words(&self) -> &[u16]
         ensures value { result.now ≡ self.now }
         ensures some { 1 ≤ length self.now }

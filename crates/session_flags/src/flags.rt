@@ -91,7 +91,7 @@ impl Flags {
         }
     }
 
-    /// The inventoried flag of a session.
+    /// The inventoried flag of the tag for this session (6.3.2.2 Sessions and inventoried flags).
     pub fn side(&self, session: Session) -> Side
         ensures { result ≡ side_of self.now session }
     {

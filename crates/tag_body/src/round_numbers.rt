@@ -34,7 +34,7 @@ impl Slot {
         Slot { number }
     }
 
-    /// The number.
+    /// The number of the slot counter.
     pub fn get(&self) -> u16
         ensures value { result ≡ self.now }
         ensures range { self.now < 2 ^ 15 }

@@ -55,7 +55,7 @@ abbrev pub give_handle : ℕ → ℕ → BodyValue → Outcome
 give_handle session q body =
     plain_answer (held_state (first_level body) (new_held session q (draw_of body))) (body_after_draw body) (Handle (draw_of body)) 0
 
--- ... in open and secured: what is drawn covers the next Write, Kill or Access; a first half stays
+-- 6.3.2.11.3.1 Req_RN in open and secured: what is drawn covers the next Write, Kill or Access; the first half of a password stays
 abbrev pub give_cover : Level → Held → BodyValue → Outcome
 give_cover level held body =
     plain_answer (held_state level (record held { cover = Some (draw_of body) })) (body_after_draw body) (Handle (draw_of body)) 0
@@ -117,7 +117,7 @@ abbrev pub memory_outcome : Level → Held → BodyValue → Result Banks ErrorC
 memory_outcome level held body change =
     extended_answer (held_state level held) (record body { memory = changed_or body.memory change }) (change_answer change) held.handle
 
--- 6.3.2.11.3.3 Write
+-- 6.3.2.11.3.3 Write: the covered word is uncovered and written into the bank, and its cover is gone
 abbrev pub write_outcome : Bank → ℕ → ℕ → Level → Held → BodyValue → Outcome
 write_outcome bank pointer covered level held body =
     uncover level held body covered held.cover
@@ -126,7 +126,7 @@ write_outcome bank pointer covered level held body =
 abbrev pub write : Bank → ℕ → ℕ → ℕ → StateValue → BodyValue → Outcome
 write bank pointer covered rn state body = in_access rn None (write_outcome bank pointer covered) state body
 
--- 6.3.2.11.3.7 BlockWrite
+-- 6.3.2.11.3.7 BlockWrite: the words are written into the bank from the pointer on, and no cover is wanted
 abbrev pub block_write_outcome : Bank → ℕ → List ℕ → Level → Held → BodyValue → Outcome
 block_write_outcome bank pointer words level held body =
     memory_outcome level held body (banks_after_write body.memory body.locks level bank pointer words)
@@ -134,7 +134,7 @@ block_write_outcome bank pointer words level held body =
 abbrev pub block_write : Bank → ℕ → List ℕ → ℕ → StateValue → BodyValue → Outcome
 block_write bank pointer words rn state body = in_access rn None (block_write_outcome bank pointer words) state body
 
--- 6.3.2.11.3.8 BlockErase
+-- 6.3.2.11.3.8 BlockErase: so many words of the bank become 0 from the pointer on, and no cover is wanted
 abbrev pub block_erase_outcome : Bank → ℕ → ℕ → Level → Held → BodyValue → Outcome
 block_erase_outcome bank pointer count level held body =
     memory_outcome level held body (banks_after_erase body.memory body.locks level bank pointer count)

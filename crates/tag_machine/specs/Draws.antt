@@ -27,7 +27,7 @@ enter session q body =
 abbrev pub close : ℕ → BodyValue → Outcome
 close session body = silent ReadyState (body_after_inversion session body)
 
--- BACK: arbitrate with slot 0
+-- BACK: the tag is in arbitrate with slot 0
 abbrev pub tag_back : ℕ → ℕ → BodyValue → TagValue
 tag_back session q body = record { state = ArbitrateState session q 0; body = body }
 

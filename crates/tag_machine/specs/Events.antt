@@ -57,6 +57,6 @@ tag_after_event (events.Expire flag) state body = after_expiry flag state body
 abbrev pub new_tag : Banks → Locks → List ℕ → TagValue
 new_tag memory locks words = tag_at ReadyState (record { memory = memory; locks = locks; flags = new_flags; words = words; next_draw = 0 })
 
--- ... whose memory is made of an image, with StoredCRC computed
+-- a new tag whose memory is made of an image, with StoredCRC computed
 abbrev pub tag_of_image : BankImage → Locks → List ℕ → TagValue
 tag_of_image image locks words = new_tag (banks_of image) locks words

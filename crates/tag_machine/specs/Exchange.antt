@@ -34,7 +34,7 @@ outcome_unless misses command tag = if misses then silent tag.state tag.body els
 abbrev pub outcome_in : ℕ → Command → Entry → TagValue → Outcome
 outcome_in number command entry tag = outcome_unless (is_missed number entry) command (tag_after_events number entry.events tag)
 
--- ... and for tags that are numbered from a number on
+-- what comes of an exchange for each of the tags that are numbered from a number on
 abbrev pub outcomes_from : ℕ → Command → Entry → List TagValue → List Outcome
 outcomes_from number command entry [] = []
 outcomes_from number command entry (tag ∷ tags) =

@@ -65,7 +65,7 @@ query_rep session (SecuredState held) body =
 query_rep session KilledState body = silent KilledState body
 query_rep session UnpoweredState body = silent UnpoweredState body
 
--- 6.3.2.11.2.2 QueryAdjust
+-- 6.3.2.11.2.2 QueryAdjust, of the tag's session: in arbitrate and reply it draws a slot by the new Q, beyond them its turn ends
 abbrev pub query_adjust : ℕ → UpDn → StateValue → BodyValue → Outcome
 query_adjust session updn ReadyState body = silent ReadyState body
 query_adjust session updn (ArbitrateState own q slot) body =
@@ -85,7 +85,7 @@ query_adjust session updn UnpoweredState body = silent UnpoweredState body
 abbrev pub epc_reply : BodyValue → Reply
 epc_reply body = Epc (pc_of body.memory) (epc_of body.memory)
 
--- 6.3.2.11.2.4 ACK
+-- 6.3.2.11.2.4 ACK: with the tag's RN16 or handle the tag answers PC and EPC, with another number it goes back
 abbrev pub ack : ℕ → StateValue → BodyValue → Outcome
 ack rn ReadyState body = silent ReadyState body
 ack rn (ArbitrateState session q slot) body = silent (ArbitrateState session q slot) body
@@ -102,7 +102,7 @@ ack rn (SecuredState held) body =
 ack rn KilledState body = silent KilledState body
 ack rn UnpoweredState body = silent UnpoweredState body
 
--- 6.3.2.11.2.5 NAK
+-- 6.3.2.11.2.5 NAK: a tag in reply, acknowledged, open or secured goes back to arbitrate
 abbrev pub nak : StateValue → BodyValue → Outcome
 nak ReadyState body = silent ReadyState body
 nak (ArbitrateState session q slot) body = silent (ArbitrateState session q slot) body

@@ -181,7 +181,7 @@ impl AnyTag {
         body.words()
     }
 
-    /// The memory.
+    /// The memory of the tag.
     pub fn memory(&self) -> &Memory
         ensures { result.now ≡ (tag_value_of self.now).body.memory }
     {

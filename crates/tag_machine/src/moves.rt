@@ -13,7 +13,7 @@ use bit_strings::{Bits, QValue, Session};
 use reply_grammar::{encode_handle, encode_header, encode_rn16};
 use tag_body::{Body, Slot};
 
-/// No answer.
+/// No answer of the tag, which stays as it is: `out` has no bits then.
 pub fn unanswered(tag: AnyTag, out: &mut Bits) -> Heard
     ensures { GivesOutcome
         (silent (tag_value_of tag).state (tag_value_of tag).body) result out.old out.new }
@@ -53,7 +53,7 @@ pub fn answer_header(tag: AnyTag, handle: u16, out: &mut Bits) -> Heard
     }
 }
 
-/// BACK: arbitrate with slot 0.
+/// BACK: a tag with this body, in arbitrate with slot 0.
 pub fn back(body: Body, session: Session, q: QValue) -> Tag<Arbitrate>
     ensures { result ≡ tag_back session q body }
 {

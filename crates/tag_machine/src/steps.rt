@@ -34,7 +34,7 @@ impl<L: Ledger> Steps<L> {
         Steps { book, share }
     }
 
-    /// Counts one step.
+    /// Counts one step: a transition of a tag, or a change of its slot counter.
     pub(crate) fn tick(&mut self)
         ensures { self.new ≡ self.old + 1 }
     {

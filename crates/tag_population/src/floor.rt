@@ -57,7 +57,7 @@ impl Floor {
         Ok(Floor { seats, waiting })
     }
 
-    /// How many tags there are.
+    /// How many tags there are in seats.
     pub(crate) fn len(&self) -> usize
         ensures count { result ≡ length self.now.tags }
         ensures whole { length self.now.parts ≡ length self.now.tags }
@@ -67,7 +67,7 @@ impl Floor {
         self.seats.len()
     }
 
-    /// The tag with this number, with its slot counter written back.
+    /// The tag in the seat of this number, with its slot counter written back there.
     pub(crate) fn tag<L: Ledger>(&mut self, number: TagNumber, steps: &mut Steps<L>) -> &AnyTag
         requires { number < length self.old.tags }
         ensures* same { sem 𝓛 (KeepsFloor self.entry) }
@@ -80,7 +80,7 @@ impl Floor {
         self.seats[at].tag()
     }
 
-    /// Lets an event befall the tag with this number.
+    /// Lets an event befall the tag in the seat of this number, and keeps how it takes part then.
     pub(crate) fn befall<L: Ledger>(
         &mut self,
         number: TagNumber,
@@ -144,14 +144,14 @@ impl Floor {
         self.waiting.put(number, Some(Participation::Called));
     }
 
-    /// Counts the slot counters of all tags down that wait in a session.
+    /// Counts down the slot counters of all tags in seats that wait in a round of this session.
     pub(crate) fn count_down(&mut self, session: Session)
         ensures { self.new ≡ counted_floor session self.old }
     {
         self.waiting.count_down(session);
     }
 
-    /// Whether a tag waits in a round of this session.
+    /// Whether the tag in the seat of this number waits in a round of this session.
     pub(crate) fn waits_in(&self, number: TagNumber, session: Session) -> bool
         requires { number < length self.now.tags }
         ensures { result ≡ waits_in session (participation_at self.now.parts number) }
@@ -159,7 +159,7 @@ impl Floor {
         self.waiting.waits_in(number, session)
     }
 
-    /// Whether a tag takes part in a round.
+    /// Whether the tag in the seat of this number takes part in a round.
     pub(crate) fn takes_part(&self, number: TagNumber) -> bool
         requires { number < length self.now.tags }
         ensures { result ≡ is_some (participation_at self.now.parts number) }
@@ -167,21 +167,21 @@ impl Floor {
         self.waiting.takes_part(number)
     }
 
-    /// A tag whose slot comes next in a session; none exactly where there is no such tag.
+    /// The number of a seat whose tag has its slot next in this session; none exactly where no seat has such a tag.
     pub(crate) fn due(&self, session: Session) -> Option<TagNumber>
         ensures { IsDue self.now.parts session result }
     {
         self.waiting.due(session)
     }
 
-    /// The first tag that is called, in the order of their numbers.
+    /// The number of the first seat whose tag is called.
     pub(crate) fn first_called(&self) -> Option<TagNumber>
         ensures { IsNextCalled self.now.parts 0 result }
     {
         self.waiting.first_called()
     }
 
-    /// The next tag behind this one that is called.
+    /// The number of the next seat behind this one whose tag is called.
     pub(crate) fn called_after(&self, number: TagNumber) -> Option<TagNumber>
         requires { number < length self.now.tags }
         ensures { IsNextCalled self.now.parts (number + 1) result }

@@ -68,7 +68,7 @@ impl Population {
         Ok(Population { floor, missed })
     }
 
-    /// How many tags there are.
+    /// How many tags the population has.
     pub fn len(&self) -> u32
         ensures count { result ≡ length self.now }
         ensures few { length self.now ≤ most_tags }
@@ -77,7 +77,7 @@ impl Population {
         self.floor.len() as u32
     }
 
-    /// The tag with this number, with its slot counter written back.
+    /// The tag of the population with this number, with its slot counter written back.
     pub fn tag<L: Ledger>(&mut self, number: u32, steps: &mut Steps<L>) -> &AnyTag
         requires { number < length self.old }
         ensures* same { sem 𝓛 (KeepsPopulation self.entry) }
@@ -89,7 +89,7 @@ impl Population {
         self.floor.tag(TagNumber::of(number), steps)
     }
 
-    /// Lets an event befall the tag with this number.
+    /// Lets an event befall the tag of the population with this number.
     pub fn befall<L: Ledger>(&mut self, event: Event, number: u32, steps: &mut Steps<L>)
         requires { number < length self.old }
         ensures tags { self.new ≡ tags_after_event 0 event number self.old }

@@ -46,7 +46,7 @@ impl Seat {
         Seat { tag: Some(tag) }
     }
 
-    /// The tag.
+    /// The tag that the seat has.
     pub(crate) fn tag(&self) -> &AnyTag
         ensures value { tag_value_of result.now ≡ self.now }
         ensures legal { IsLegalTag self.now }

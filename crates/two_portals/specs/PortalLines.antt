@@ -52,7 +52,7 @@ portal_line_of session number joint alone = record {
   same = are_same joint.pairs alone.pairs;
 }
 
--- ... of its rounds, numbered from a number on
+-- the lines of the rounds of a portal, numbered from a number on, as they went jointly and alone
 abbrev pub portal_lines_of : (session number : ℕ) → (joint alone : List Played) → List PortalLine
 portal_lines_of session number [] alone = []
 portal_lines_of session number (round ∷ joint) [] = []
@@ -63,7 +63,7 @@ abbrev pub lines_of_portal : ℕ → (List TagValue → SpecValue → Played) �
 lines_of_portal session played tags specs =
     portal_lines_of session 1 (portal_rounds_of session specs (rounds_played played tags specs)) (rounds_played played tags (filter (is_of_session session) specs))
 
--- portal 2's first
+-- the lines of both portals, those of portal 2 first
 abbrev pub portal_lines : (List TagValue → SpecValue → Played) → List TagValue → List SpecValue → List PortalLine
 portal_lines played tags specs = lines_of_portal 2 played tags specs ++ lines_of_portal 3 played tags specs
 

@@ -31,7 +31,7 @@ pub trait Hall {
         ensures end { result ≡ (played (tags self.old) spec.now).end }
         ensures tags { tags self.new ≡ (played (tags self.old) spec.now).tags };
 
-    /// How many tags there are.
+    /// How many tags the hall has.
     fn len(&self) -> u32
         ensures { result ≡ length (tags self.now) };
 

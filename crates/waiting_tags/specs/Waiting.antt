@@ -12,7 +12,7 @@ use Rattle.waiting_tags.specs.TagSets.{IsIn}
 abbrev pub participation_at : List (Option Participation) → ℕ → Option Participation
 participation_at participations number = get_or participations number None
 
--- the slot counter of a tag that waits
+-- the slot counter of a tag that waits for its slot; none of a tag that is called or takes no part
 abbrev pub waiting_slot : Option Participation → Option ℕ
 waiting_slot None = None
 waiting_slot (Some (Waits session slot)) = Some slot
@@ -60,7 +60,7 @@ counted_down session (Some Called) = Some Called
 abbrev pub called_place : ℕ
 called_place = 131072
 
--- the place of a slot counter in a session, behind the base of that session
+-- the place of the tags that wait with this slot counter in a session, behind the base of that session
 abbrev pub slot_place : ℕ → ℕ → ℕ → ℕ
 slot_place base session slot = session * 32768 + (base + slot) % 32768
 

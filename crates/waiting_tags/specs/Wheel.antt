@@ -3,7 +3,7 @@
 use Rattle.std.proofs.Common.{◌≡◌, ◌≢◌, ℕ, ◌+◌, ◌<◌, ◌≤◌, ◌⊎◌, List, length, Option, Some, None, get_or}
 use Rattle.air_events.specs.TagNumbers.{most_tags}
 
--- how many places there are: one for each of the 32,768 values of a slot counter in each of the four sessions, and one more
+-- how many places tags can stand on: one for each of the 32,768 values of a slot counter in each of the four sessions, and one more
 abbrev pub most_places : ℕ
 most_places = 131073
 

@@ -43,7 +43,7 @@ impl TagSet {
         Ok(TagSet { words, filled: 0 })
     }
 
-    /// Adds a tag.
+    /// Adds the tag with this number to the set.
     pub(crate) fn insert(&mut self, number: TagNumber)
         ensures there { IsIn self.new number }
         ensures others { (other : ℕ) → other ≢ number
@@ -55,7 +55,7 @@ impl TagSet {
         self.filled |= 1 << at;
     }
 
-    /// Removes a tag.
+    /// Removes the tag with this number from the set, if it is there.
     pub(crate) fn remove(&mut self, number: TagNumber)
         ensures there { bit_in_set self.new number ≡ 0 }
         ensures others { (other : ℕ) → other ≢ number

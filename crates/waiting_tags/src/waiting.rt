@@ -66,7 +66,7 @@ impl Waiting {
         })
     }
 
-    /// The slot counter of a tag that waits.
+    /// The slot counter of the tag with this number, if it waits for its slot.
     pub fn slot(&self, number: TagNumber) -> Option<u16>
         requires { number < length self.now }
         ensures value { result ≡ waiting_slot (participation_at self.now number) }
@@ -80,7 +80,7 @@ impl Waiting {
         Some(((place % SLOTS + SLOTS - base) % SLOTS) as u16)
     }
 
-    /// Whether a tag waits in a round of this session.
+    /// Whether the tag with this number waits for its slot in a round of this session.
     pub fn waits_in(&self, number: TagNumber, session: Session) -> bool
         requires { number < length self.now }
         ensures { result ≡ waits_in session (participation_at self.now number) }
@@ -91,7 +91,7 @@ impl Waiting {
         }
     }
 
-    /// Whether a tag takes part in a round.
+    /// Whether the tag with this number takes part in a round: whether it waits for its slot or is called.
     pub fn takes_part(&self, number: TagNumber) -> bool
         requires { number < length self.now }
         ensures { result ≡ is_some (participation_at self.now number) }
@@ -141,7 +141,7 @@ impl Waiting {
         }
     }
 
-    /// The first tag that is called, in the order of their numbers.
+    /// The first of the tags that are called, in the order of their numbers.
     pub fn first_called(&self) -> Option<TagNumber>
         ensures next { IsNextCalled self.now 0 result }
         ensures slots { AreSlots self.now }
@@ -149,7 +149,7 @@ impl Waiting {
         self.called.first()
     }
 
-    /// The next tag behind this one that is called.
+    /// The next of the tags that are called, behind the tag with this number.
     pub fn called_after(&self, number: TagNumber) -> Option<TagNumber>
         requires { number < length self.now }
         ensures { IsNextCalled self.now (number + 1) result }
@@ -157,7 +157,7 @@ impl Waiting {
         self.called.next_after(number)
     }
 
-    /// A tag whose slot comes next in a session; none exactly where there is no such tag.
+    /// A tag that waits with slot counter 1 in this session; none exactly where no tag does.
     pub fn due(&self, session: Session) -> Option<TagNumber>
         ensures { IsDue self.now session result }
     {
@@ -166,7 +166,7 @@ impl Waiting {
         self.wheel.tag_on(slot_place(base, session, 1))
     }
 
-    /// Counts the slot counters of all tags down that wait in a session.
+    /// Counts down the slot counters of all tags that wait in this session at once: moves the base of the session.
     pub fn count_down(&mut self, session: Session)
         ensures counted { self.new ≡ map (counted_down session) self.old }
         ensures slots { AreSlots self.new }
@@ -176,7 +176,7 @@ impl Waiting {
     }
 }
 
-/// The place of a slot counter in a session, behind the base of that session.
+/// The place of the tags that wait with this slot counter, counted from the base of their session.
 fn slot_place(base: u16, session: u8, slot: u16) -> usize
     requires session { session ≤ 3 }
     ensures { result ≡ slot_place base session slot }

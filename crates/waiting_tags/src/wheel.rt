@@ -8,8 +8,8 @@ use bit_strings::OutOfMemory;
 use std::alloc::Global;
 use std::marker::Model;
 
-/// How many places there are: one for each of the 32,768 values of a slot counter in each of the four sessions,
-/// and one more.
+/// How many places tags can stand on: one for each of the 32,768 values of a slot counter in each of the four
+/// sessions, and the last one for the tags that are called.
 const PLACES: usize = 131_073;
 
 /// Tags, each of which stands on one place or on none. The tags of one place are linked in both directions.

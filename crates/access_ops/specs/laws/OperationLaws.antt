@@ -15,13 +15,13 @@ use Rattle.access_ops.specs.declared.op_next.OpResult.{OpResult}
 use Rattle.access_ops.specs.declared.op_next.OpResult.TheVariants as results
 use Rattle.access_ops.specs.Operations.{Move, words_expected, next_operation}
 
--- how many commands this is
+-- how many commands the next thing is that a run of operations does
 abbrev pub commands_in : OpNext → ℕ
 commands_in (Send command expect extended) = 1
 commands_in (Result result) = 0
 commands_in End = 0
 
--- ... and how many results
+-- how many results the next thing is that a run of operations does
 abbrev pub results_in : OpNext → ℕ
 results_in (Send command expect extended) = 0
 results_in (Result result) = 1
@@ -32,7 +32,7 @@ abbrev pub commands_sent : OpList → List ℕ → ℕ → List Move → ℕ
 commands_sent list epc rn [] = 0
 commands_sent list epc rn (move ∷ moves) = commands_sent list epc rn moves + commands_in (next_operation list epc rn moves)
 
--- ... and how many results
+-- how many results of operations were told before the last of these moves
 abbrev pub results_told : OpList → List ℕ → ℕ → List Move → ℕ
 results_told list epc rn [] = 0
 results_told list epc rn (move ∷ moves) = results_told list epc rn moves + results_in (next_operation list epc rn moves)

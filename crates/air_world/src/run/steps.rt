@@ -39,7 +39,7 @@ impl<'a, L: Ledger> Run<'a, L> {
         Ok(())
     }
 
-    /// Plays a step.
+    /// Plays one step of a scenario: a command outside rounds, an event or a round.
     fn play_step<R: Listener>(
         &mut self,
         air: &mut Air,

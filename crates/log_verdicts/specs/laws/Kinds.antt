@@ -26,7 +26,7 @@ outcome_reworded words place outcome = record {
 }
 
 pub data Kind : Type 0 where
-  -- nothing is drawn
+  -- the tag draws nothing at the command, whose outcome is this
   Settled : (outcome : Outcome) → Kind
   -- ENTER: a slot is drawn, and an RN16 where it is 0
   Enters : (session q : ℕ) (body : BodyValue) → Kind

@@ -109,7 +109,7 @@ want_of_move Stays most = Nothing
 want_of_move (Leaves kind) most = want_of_kind kind
 want_of_move (Counts session) most = (if most == 1 then AnyRn16 else NothingOrAnyRn16)
 
--- ... of a tag whose slot may be any
+-- what a tag whose slot may be any has to answer to what it heard
 abbrev pub want_at : Option Command → StateValue → BodyValue → Want
 want_at heard ReadyState body = Nothing
 want_at heard (ArbitrateState session q slot) body = want_of_move (move_of heard session q body) slot

@@ -17,7 +17,7 @@ MayChange (commands.QueryAdjust own updn) session = own ≡ session
 MayChange (commands.Select target action bank pointer mask) session = target ≡ flag_of session
 MayChange other session = ⊥
 
--- ... and those that may change SL: a Select with SL as its target
+-- the commands that may change the selected flag SL: a Select with SL as its target
 abbrev pub MayChangeSl : Command → Type 0
 MayChangeSl (commands.Select target action bank pointer mask) = target ≡ flags.Sl
 MayChangeSl other = ⊥

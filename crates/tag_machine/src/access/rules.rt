@@ -48,7 +48,7 @@ impl Held {
 }
 
 impl TagWithHandle {
-    /// The tag.
+    /// The tag with its handle, in open or secured by its level.
     pub fn tag(self) -> AnyTag
         ensures { tag_value_of result
             ≡ record { state = held_state self.level self.held; body = self.body } }

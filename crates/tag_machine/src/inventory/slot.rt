@@ -17,7 +17,7 @@ impl Tag<Arbitrate> {
         self.state.session
     }
 
-    /// The slot counter.
+    /// The slot counter of the tag in arbitrate.
     pub fn slot(&self) -> u16
         ensures value { (session : ℕ) × (q : ℕ)
             × (self.now.state ≡ ArbitrateState session q result) }
