@@ -4,13 +4,13 @@ use Rattle.std.specs.List.{AllZip, flat_map}
 use Rattle.text_fields.specs.Lines.{Lacks, line_feed, text_with}
 use Rattle.checked_lines.specs.LineRules.{LineRules}
 
--- the text is the one before with the line of the request's answer at its end
+-- by these line rules, the new text of answers is the old one with the line of an answer to this request at its end
 pub record AddsLine {R A : Type 0} (rules : LineRules R A) (request : R) (old new : List ℕ) : Type 0 where
   pub answer : A
   pub right : rules.answers request answer
   pub line : new ≡ old ++ rules.line_of answer
 
--- the text is the one before with the line of the answer to what the line asks for at its end
+-- by these line rules, the new text of answers is the old one with the line of an answer to what this line asks for at its end
 pub record AddsLineFor {R A : Type 0} (rules : LineRules R A) (line old new : List ℕ) : Type 0 where
   pub request : R
   pub asks : rules.asks line request
@@ -25,7 +25,7 @@ pub record AsksTo {R A : Type 0} (rules : LineRules R A) (input rest : List ℕ)
   pub spelled : AllZip rules.asks before asked
   pub count : number ≡ length before + 1
 
--- ... and the text is the answers to these lines
+-- the input is lines that ask for something and what stands behind them, and the text is the answers to these lines
 pub record AnswersTo {R A : Type 0} (rules : LineRules R A) (input rest text : List ℕ) (number : ℕ) : Type 0 where
   pub asks : AsksTo rules input rest number
   pub answers : List A

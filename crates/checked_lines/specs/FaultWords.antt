@@ -11,7 +11,7 @@ reason_of fields.Word = Word
 reason_of fields.Shape = Shape
 reason_of fields.Number = Number
 
--- what a reason is called
+-- the word by which the fault line of checked lines names this reason
 abbrev pub reason_word : FaultReason → List ℕ
 reason_word Extra = codes "extra"
 reason_word End = codes "end"

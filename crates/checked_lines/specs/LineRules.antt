@@ -10,13 +10,13 @@ use Rattle.checked_lines.specs.TextRules.{TextRules, IsFaultText, IsFirstFault}
 
 -- What is said of one line, where R is what lines ask for and A what is answered.
 pub record LineRules (R A : Type 0) : Type 1 where
-  -- the line asks for this
+  -- the line, which is given without its line feed, asks for this request
   pub asks : List ℕ → R → Type 0
-  -- the first reason for which the fields of a line that has its line feed ask for nothing
+  -- by these line rules, the first reason for which the fields of a line that has its line feed ask for nothing
   pub is_faulty : List (List ℕ) → FaultReason → Type 0
-  -- the answer is one to the request
+  -- by these line rules, the answer is one to the request
   pub answers : R → A → Type 0
-  -- an answer as a line, with its line feed
+  -- the answer to a request as a line of the text of answers, with its line feed
   pub line_of : A → List ℕ
 
 -- the bytes are lines that ask for these requests, in order, and nothing stands behind the last line feed
@@ -25,7 +25,7 @@ pub record AskFor {R A : Type 0} (rules : LineRules R A) (bytes : List ℕ) (req
   pub cut : lines_of bytes ≡ lines ++ [] ∷ []
   pub each : AllZip rules.asks lines requests
 
--- the bytes ask for something, line by line
+-- each line of the bytes asks for something by these line rules, and nothing stands behind the last line feed
 abbrev pub AskForSome : {R A : Type 0} → LineRules R A → List ℕ → Type 0
 AskForSome {R} rules bytes = (requests : List R) × AskFor rules bytes requests
 
@@ -51,10 +51,10 @@ text_rules {R} rules = record {
   unended = λ before. End;
 }
 
--- the first faulty line of the bytes, counted from 1, with its first reason
+-- the first line of the bytes, counted from 1, that is faulty by these line rules, with its first reason
 abbrev pub IsFirstFaultyLine : {R A : Type 0} → LineRules R A → List ℕ → FaultyLine → Type 0
 IsFirstFaultyLine rules bytes fault = IsFirstFault (text_rules rules) bytes fault.line fault.reason
 
--- the text is the fault line of the bytes
+-- the text is the fault line of the bytes by these line rules
 abbrev pub IsFaultyLineText : {R A : Type 0} → LineRules R A → (bytes text : List ℕ) → Type 0
 IsFaultyLineText rules bytes text = IsFaultText (text_rules rules) bytes text

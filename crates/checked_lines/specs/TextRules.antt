@@ -8,7 +8,7 @@ use Rattle.checked_lines.specs.declared.fault.FaultReason.{FaultReason}
 
 -- The rules of such texts: a standing is where a text stands behind some of its lines, and a reason is why a line is faulty.
 pub record TextRules (Standing Reason : Type 0) : Type 1 where
-  -- before the first line
+  -- where such a text stands before its first line
   pub start : Standing
   -- the line, which is given without its line feed, may stand here, and leads there
   pub leads : Standing → List ℕ → Standing → Type 0
@@ -62,7 +62,7 @@ IsText rules bytes standing = HasOutcome rules bytes (Whole standing)
 abbrev pub IsFirstFault : {S R : Type 0} → TextRules S R → List ℕ → ℕ → R → Type 0
 IsFirstFault rules bytes line reason = HasOutcome rules bytes (Faulty line reason)
 
--- the text is the fault line of the bytes
+-- the text is the fault line of bytes that are no text by these rules: it names their first faulty line and its first reason
 pub record IsFaultText {S : Type 0} (rules : TextRules S FaultReason) (bytes text : List ℕ) : Type 0 where
   pub number : ℕ
   pub reason : FaultReason

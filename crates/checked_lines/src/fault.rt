@@ -73,7 +73,7 @@ pub fn fault_text(fault: FaultyLine) -> ArrayVec<u8, 32>
     fault_line(fault.line, reason_word(fault.reason))
 }
 
-/// What a reason is called.
+/// The word by which a fault line names this reason, of 14 bytes at most.
 fn reason_word(reason: FaultReason) -> &'static str
     ensures word { result.now ≡ reason_word reason }
     ensures short { length result.now ≤ 14 }

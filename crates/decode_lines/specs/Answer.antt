@@ -84,7 +84,7 @@ abbrev pub with_left : {A B E : Type 0} → (A → B) → Result A E → Result 
 with_left left (Ok done) = Ok (left done)
 with_left left (Err refusal) = Err refusal
 
--- an answer as a line, with its line feed
+-- an answer to a decode line as a line of the text of answers, with its line feed
 abbrev pub line_of_answer : Answer → List ℕ
 line_of_answer (StreamAnswer (Ok bits)) = codes "bits " ++ binary bits ++ line_feed ∷ []
 line_of_answer (StreamAnswer (Err (Invalid place))) = codes "invalid " ++ decimal place ++ line_feed ∷ []
@@ -109,11 +109,11 @@ line_of_answer (UriAnswer (Err fault)) = uri_fault_line fault ++ line_feed ∷ [
 abbrev pub decode_rules : LineRules Request Answer
 decode_rules = record { asks = AsksToDecode; is_faulty = IsFaultyToDecode; answers = IsLineAnswer; line_of = line_of_answer }
 
--- the text is the one before with the line of the request's answer at its end
+-- the new text of answers to decode lines is the old one with the line of the request's answer at its end
 abbrev pub AddsAnswer : Request → (old new : List ℕ) → Type 0
 AddsAnswer = AddsLine decode_rules
 
--- the text is the one before with the line of the answer to what the line asks for at its end
+-- the new text of answers to decode lines is the old one with the line of the answer to what this line asks for at its end
 abbrev pub AnswersLine : (line old new : List ℕ) → Type 0
 AnswersLine = AddsLineFor decode_rules
 

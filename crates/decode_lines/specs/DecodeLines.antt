@@ -4,7 +4,7 @@ use Rattle.checked_lines.specs.LineRules.{AskForSome, Answers, IsFirstFaultyLine
 use Rattle.checked_lines.specs.declared.fault.FaultyLine.{FaultyLine}
 use Rattle.decode_lines.specs.Answer.{decode_rules}
 
--- the bytes ask for something, line by line
+-- the bytes are decode lines, each of which asks for something
 abbrev pub AskForDecoding : List ℕ → Type 0
 AskForDecoding = AskForSome decode_rules
 
@@ -12,10 +12,10 @@ AskForDecoding = AskForSome decode_rules
 abbrev pub Decodes : (bytes text : List ℕ) → Type 0
 Decodes = Answers decode_rules
 
--- the first faulty line of the bytes, counted from 1, with its first reason
+-- the first faulty decode line of the bytes, counted from 1, with its first reason
 abbrev pub IsFirstDecodeFault : (bytes : List ℕ) → FaultyLine → Type 0
 IsFirstDecodeFault = IsFirstFaultyLine decode_rules
 
--- the text is the fault line of the bytes
+-- the text is the fault line of the bytes of decode lines
 abbrev pub IsDecodeFaultText : (bytes text : List ℕ) → Type 0
 IsDecodeFaultText = IsFaultyLineText decode_rules

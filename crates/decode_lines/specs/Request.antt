@@ -31,7 +31,7 @@ most_intervals = 20000
 abbrev pub most_levels : ℕ
 most_levels = 132000
 
--- the first field of a line
+-- the first field of a decode line of this kind
 abbrev pub request_word : RequestKind → List ℕ
 request_word (StreamKind code) = code_word code
 request_word SamplesKind = codes "samples"
@@ -42,7 +42,7 @@ request_word CommandKind = codes "command"
 request_word SgtinKind = codes "sgtin"
 request_word UriKind = codes "uri"
 
--- all kinds, each of which has a word of its own
+-- all kinds of decode lines, each of which has a word of its own
 abbrev pub all_request_kinds : List RequestKind
 all_request_kinds =
     UriKind ∷ SgtinKind ∷ CommandKind ∷ PieKind ∷ ReplyKind ∷ HeardKind ∷ SamplesKind ∷ StreamKind Fm0 ∷ StreamKind M2 ∷ StreamKind M4 ∷ StreamKind M8 ∷ []
@@ -65,11 +65,11 @@ MayHave CommandKind count = count ≡ 1
 MayHave SgtinKind count = count ≡ 1
 MayHave UriKind count = count ≡ 1
 
--- the fields behind the first: their number is right, and none is empty
+-- the fields of a decode line behind the first: their number is right, and none is empty
 abbrev pub HasDecodeShape : RequestKind → List (List ℕ) → Type 0
 HasDecodeShape kind others = MayHave kind (length others) × All (λ field. field ≢ []) others
 
--- what the first field of a request's line says
+-- the kind of the decode line of a request, which its first field says
 abbrev pub decode_request_kind : Request → RequestKind
 decode_request_kind (Stream code trext levels) = StreamKind code
 decode_request_kind (Samples threshold per_level samples) = SamplesKind
@@ -105,30 +105,30 @@ IsWithinDecodeLimits (Command bits) = length bits ≤ most_wire_bits
 IsWithinDecodeLimits (Sgtin words) = (1 ≤ length words) × (length words ≤ 31) × All (λ word. word < 2 ^ 16) words
 IsWithinDecodeLimits (Uri text) = text ≢ []
 
--- behind a first field of this kind, these fields ask for this
+-- behind a first field of this kind, these other fields of a decode line ask for this request
 pub record AsksToDecodeBehind (kind : RequestKind) (others : List (List ℕ)) (request : Request) : Type 0 where
   pub same_kind : kind ≡ decode_request_kind request
   pub spelling : AreSpelled request others
   pub limits : IsWithinDecodeLimits request
 
--- the line asks for this
+-- the decode line asks for this request
 pub record AsksToDecode (line : List ℕ) (request : Request) : Type 0 where
   pub kind : RequestKind
   pub others : List (List ℕ)
   pub fields : fields_of line ≡ request_word kind ∷ others
   pub asks : AsksToDecodeBehind kind others request
 
--- the first reason for which the fields behind the first ask for nothing
+-- the first reason for which the fields of a decode line behind the first ask for nothing
 abbrev pub AreFaultyToDecode : RequestKind → List (List ℕ) → FaultReason → Type 0
--- their number is wrong, or one is empty
+-- the number of the decode line's other fields is wrong, or one of them is empty
 AreFaultyToDecode kind others Shape = ¬ HasDecodeShape kind others
--- they are there, and one of them isn't of its form, range or length: they ask for nothing
+-- the other fields of the decode line are there, and one of them isn't of its form, range or length: they ask for nothing
 AreFaultyToDecode kind others Number = HasDecodeShape kind others × ((request : Request) → ¬ AsksToDecodeBehind kind others request)
 AreFaultyToDecode kind others reason = ⊥
 
--- the first reason for which the fields of a line that has its line feed ask for nothing
+-- the first reason for which the fields of a line that has its line feed ask for nothing to decode
 abbrev pub IsFaultyToDecode : List (List ℕ) → FaultReason → Type 0
--- the first field is none that a line may begin with
+-- the first field is none that a decode line may begin with
 IsFaultyToDecode fields Word = (kind : RequestKind) (others : List (List ℕ)) → fields ≢ request_word kind ∷ others
 IsFaultyToDecode fields reason =
     (kind : RequestKind) × (others : List (List ℕ)) × (fields ≡ request_word kind ∷ others) × AreFaultyToDecode kind others reason

@@ -52,7 +52,7 @@ impl Drop for Workspace {
 }
 
 impl Workspace {
-    /// Takes the room.
+    /// Takes the room for the longest decode line and for what its answer needs.
     pub fn new(alloc: Global) -> Result<Workspace, OutOfMemory> {
         let intervals = Intervals::new(alloc, MOST_INTERVALS)?;
         let rooms = Rooms::new(alloc)?;
@@ -163,7 +163,7 @@ struct Rooms {
 }
 
 impl Rooms {
-    /// Takes the room.
+    /// Takes the room for the levels, bits, samples and words of the longest decode line.
     fn new(alloc: Global) -> Result<Rooms, OutOfMemory> {
         let levels = Levels::new(alloc, MOST_LEVELS)?;
         let bits = Bits::new(alloc, MOST_LEVELS)?;

@@ -30,7 +30,7 @@ pub fn decode_lines_have_one_text()
     uri_laws();
 }
 
-/// Where each line asks for something there is no faulty line.
+/// Where each decode line asks for something there is no faulty line.
 pub fn decode_lines_are_not_faulty()
     ensures { (bytes : List ℕ) (fault : FaultyLine) → AskForDecoding bytes
         → IsFirstDecodeFault bytes fault → ⊥ }
@@ -52,7 +52,7 @@ pub fn requests_have_an_answer()
     uri_laws();
 }
 
-/// A line asks for something, or is faulty.
+/// A decode line asks for something, or is faulty.
 fn lines_ask_or_are_faulty(line: &[u8])
     ensures { ((request : Request) × AsksToDecode line.now request)
         ⊎ ((reason : FaultReason) × IsFaultyToDecode (fields_of line.now) reason) }

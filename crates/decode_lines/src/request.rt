@@ -37,7 +37,7 @@ pub const MOST_WORDS: u32 = 31;
 /// The greatest interval in a line, in nanoseconds.
 pub const MOST_NANOSECONDS: u32 = 999_999;
 
-/// What a line is, by its first field.
+/// The kind of a decode line, which its first field says.
 #[derive(Clone, Copy, Debug, PartialEq, Eq)]
 pub enum RequestKind {
     /// Levels of a tag's reply in this code.
@@ -189,7 +189,7 @@ pub fn read_intervals(others: Fields, out: &mut Intervals) -> Result<(), FaultRe
     }
 }
 
-/// The request of a line that begins with a code's name, by its other fields.
+/// The decode request of a line that begins with a code's name, by its other fields.
 fn stream_of<'a>(code: Code, others: Fields<'a>) -> Result<Request<'a>, FaultReason>
     ensures ok { IfOk result (AsksToDecodeBehind (RequestKind.Stream code) others.entry) }
     ensures refused { IfErr result (AreFaultyToDecode (RequestKind.Stream code) others.entry) }
@@ -210,7 +210,7 @@ fn stream_of<'a>(code: Code, others: Fields<'a>) -> Result<Request<'a>, FaultRea
     })
 }
 
-/// The request of a line that begins with `samples`, by its other fields.
+/// The decode request of a line that begins with `samples`, by its other fields.
 fn samples_of<'a>(others: Fields<'a>) -> Result<Request<'a>, FaultReason>
     ensures ok { IfOk result (AsksToDecodeBehind RequestKind.Samples others.entry) }
     ensures refused { IfErr result (AreFaultyToDecode RequestKind.Samples others.entry) }
@@ -237,7 +237,7 @@ fn samples_of<'a>(others: Fields<'a>) -> Result<Request<'a>, FaultReason>
     })
 }
 
-/// The request of a line that begins with `reply`, by its other fields.
+/// The decode request of a line that begins with `reply`, by its other fields.
 fn reply_of<'a>(others: Fields<'a>) -> Result<Request<'a>, FaultReason>
     ensures ok { IfOk result (AsksToDecodeBehind RequestKind.Reply others.entry) }
     ensures refused { IfErr result (AreFaultyToDecode RequestKind.Reply others.entry) }
@@ -254,7 +254,7 @@ fn reply_of<'a>(others: Fields<'a>) -> Result<Request<'a>, FaultReason>
     Ok(Request::Reply { expect, bits })
 }
 
-/// The request of a line that begins with `heard`, by its other fields.
+/// The decode request of a line that begins with `heard`, by its other fields.
 fn heard_of<'a>(others: Fields<'a>) -> Result<Request<'a>, FaultReason>
     ensures ok { IfOk result (AsksToDecodeBehind RequestKind.Heard others.entry) }
     ensures refused { IfErr result (AreFaultyToDecode RequestKind.Heard others.entry) }
@@ -276,7 +276,7 @@ fn heard_of<'a>(others: Fields<'a>) -> Result<Request<'a>, FaultReason>
     })
 }
 
-/// The request of a line that begins with `command`, by its other field.
+/// The decode request of a line that begins with `command`, by its other field.
 fn command_of<'a>(others: Fields<'a>) -> Result<Request<'a>, FaultReason>
     ensures ok { IfOk result (AsksToDecodeBehind RequestKind.Command others.entry) }
     ensures refused { IfErr result (AreFaultyToDecode RequestKind.Command others.entry) }
@@ -290,7 +290,7 @@ fn command_of<'a>(others: Fields<'a>) -> Result<Request<'a>, FaultReason>
     Ok(Request::Command { bits })
 }
 
-/// The request of a line that begins with `sgtin`, by its other field.
+/// The decode request of a line that begins with `sgtin`, by its other field.
 fn sgtin_of<'a>(others: Fields<'a>) -> Result<Request<'a>, FaultReason>
     ensures ok { IfOk result (AsksToDecodeBehind RequestKind.Sgtin others.entry) }
     ensures refused { IfErr result (AreFaultyToDecode RequestKind.Sgtin others.entry) }
@@ -307,7 +307,7 @@ fn sgtin_of<'a>(others: Fields<'a>) -> Result<Request<'a>, FaultReason>
     Ok(Request::Sgtin { words })
 }
 
-/// The request of a line that begins with `uri`, by its other field.
+/// The decode request of a line that begins with `uri`, by its other field.
 fn uri_of<'a>(others: Fields<'a>) -> Result<Request<'a>, FaultReason>
     ensures ok { IfOk result (AsksToDecodeBehind RequestKind.Uri others.entry) }
     ensures refused { IfErr result (AreFaultyToDecode RequestKind.Uri others.entry) }

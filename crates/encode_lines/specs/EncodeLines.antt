@@ -20,7 +20,7 @@ written_line fields = line_with fields ++ line_feed ∷ []
 abbrev pub encode_rules : LineRules Request (List (List ℕ))
 encode_rules = record { asks = AsksToEncode; is_faulty = IsFaultyToEncode; answers = AreWritten; line_of = written_line }
 
--- the bytes ask for something, line by line
+-- the bytes are encode lines, each of which asks for something
 abbrev pub AskForEncoding : List ℕ → Type 0
 AskForEncoding = AskForSome encode_rules
 
@@ -28,11 +28,11 @@ AskForEncoding = AskForSome encode_rules
 abbrev pub Encodes : (bytes text : List ℕ) → Type 0
 Encodes = Answers encode_rules
 
--- the first faulty line of the bytes, counted from 1, with its first reason
+-- the first faulty encode line of the bytes, counted from 1, with its first reason
 abbrev pub IsFirstEncodeFault : (bytes : List ℕ) → FaultyLine → Type 0
 IsFirstEncodeFault = IsFirstFaultyLine encode_rules
 
--- the text is the fault line of the bytes
+-- the text is the fault line of the bytes of encode lines
 abbrev pub IsEncodeFaultText : (bytes text : List ℕ) → Type 0
 IsEncodeFaultText = IsFaultyLineText encode_rules
 

@@ -44,7 +44,7 @@ abbrev pub lead_word : Lead → List ℕ
 lead_word Preamble = codes "preamble"
 lead_word FrameSync = codes "sync"
 
--- the first field of a line
+-- the first field of an encode line of this kind
 abbrev pub kind_word : LineKind → List ℕ
 kind_word (StreamKind code) = code_word code
 kind_word PieKind = codes "pie"
@@ -52,7 +52,7 @@ kind_word CommandKind = codes "command"
 kind_word ReplyKind = codes "reply"
 kind_word HeardKind = codes "heard"
 
--- all kinds, each of which has a word of its own
+-- all kinds of encode lines, each of which has a word of its own
 abbrev pub all_kinds : List LineKind
 all_kinds = StreamKind Fm0 ∷ StreamKind M2 ∷ StreamKind M4 ∷ StreamKind M8 ∷ PieKind ∷ CommandKind ∷ ReplyKind ∷ HeardKind ∷ []
 
@@ -63,7 +63,7 @@ kind_found (StreamKind M4) = refl
 kind_found (StreamKind M8) = refl
 kind_found kind = refl
 
--- what the first field of a request's line says
+-- the kind of the encode line of a request, which its first field says
 abbrev pub encode_request_kind : Request → LineKind
 encode_request_kind (Stream code trext bits) = StreamKind code
 encode_request_kind (Pie durations lead bits) = PieKind
@@ -93,13 +93,13 @@ IsWithinEncodeLimits (Command command) = IsLegalCommand command
 IsWithinEncodeLimits (Reply expect reply) = IsExpect expect × IsReplyForm reply
 IsWithinEncodeLimits (Heard code trext expect reply) = IsExpect expect × IsReplyForm reply
 
--- behind a first field of this kind, these fields ask for this
+-- behind a first field of this kind, these other fields of an encode line ask for this request
 pub record AsksToEncodeBehind (kind : LineKind) (others : List (List ℕ)) (request : Request) : Type 0 where
   pub same_kind : kind ≡ encode_request_kind request
   pub spelling : others ≡ request_fields request
   pub limits : IsWithinEncodeLimits request
 
--- the line asks for this
+-- the encode line asks for this request
 pub record AsksToEncode (line : List ℕ) (request : Request) : Type 0 where
   pub kind : LineKind
   pub others : List (List ℕ)
@@ -122,11 +122,11 @@ HasEncodeShape CommandKind others = HaveShape commands others
 HasEncodeShape ReplyKind others = AreFilled 1 (take 1 others) × HaveShape replies (drop 1 others)
 HasEncodeShape HeardKind others = AreFilled 3 (take 3 others) × HaveShape replies (drop 3 others)
 
--- the first reason for which the fields behind the first ask for nothing
+-- the first reason for which the fields of an encode line behind the first ask for nothing
 abbrev pub AreFaultyToEncode : LineKind → List (List ℕ) → FaultReason → Type 0
 AreFaultyToEncode kind others Word = NamesNone kind others
 AreFaultyToEncode kind others Shape = (¬ NamesNone kind others) × (¬ HasEncodeShape kind others)
--- they are there, and one of them isn't of its form, range or length: they ask for nothing
+-- the other fields of the encode line are there, and one of them isn't of its form, range or length: they ask for nothing
 AreFaultyToEncode kind others Number = HasEncodeShape kind others × ((request : Request) → ¬ AsksToEncodeBehind kind others request)
 AreFaultyToEncode kind others reason = ⊥
 
@@ -144,8 +144,8 @@ pub record HasFaultyFieldsToEncode (fields : List (List ℕ)) (reason : FaultRea
   pub first : fields ≡ kind_word kind ∷ others
   pub faulty : AreFaultyToEncode kind others reason
 
--- the first reason for which the fields of a line that has its line feed ask for nothing
+-- the first reason for which the fields of a line that has its line feed ask for nothing to encode
 abbrev pub IsFaultyToEncode : List (List ℕ) → FaultReason → Type 0
--- ... or the first field is none that a line may begin with
+-- the first field is none that an encode line may begin with, or the name behind it is that of no command or reply
 IsFaultyToEncode fields Word = ((kind : LineKind) (others : List (List ℕ)) → fields ≢ kind_word kind ∷ others) ⊎ HasFaultyFieldsToEncode fields Word
 IsFaultyToEncode fields reason = HasFaultyFieldsToEncode fields reason

@@ -47,7 +47,7 @@ pub struct Encoder {
 }
 
 impl Encoder {
-    /// Takes the room.
+    /// Takes the room for the longest encode line; no texts of intervals are kept yet.
     pub fn new(alloc: Global) -> Result<Encoder, OutOfMemory> {
         let bits = Bits::new(alloc, MOST_FRAME_BITS)?;
         let levels = Levels::new(alloc, LONGEST_LEVELS)?;

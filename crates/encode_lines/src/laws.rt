@@ -17,7 +17,7 @@ pub fn encode_lines_have_one_text()
         → IsEncodeFaultText bytes other → one ≡ other }
 {}
 
-/// Where each line asks for something there is no faulty line.
+/// Where each encode line asks for something there is no faulty line.
 pub fn encode_lines_are_not_faulty()
     ensures { (bytes : List ℕ) (fault : FaultyLine) → AskForEncoding bytes
         → IsFirstEncodeFault bytes fault → ⊥ }
@@ -28,7 +28,7 @@ pub fn requests_have_a_line()
     ensures { (request : Request) → (fields : List (List ℕ)) × AreWritten request fields }
 {}
 
-/// A line asks for something, or is faulty.
+/// An encode line asks for something, or is faulty.
 fn lines_ask_or_are_faulty(line: &[u8])
     ensures { AsksOrIsFaulty encode_rules line.now }
 {

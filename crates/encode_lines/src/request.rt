@@ -24,7 +24,7 @@ pub(crate) const MOST_FRAME_BITS: u32 = 8_240;
 /// The longest duration of a link in a line, in nanoseconds.
 const MOST_NANOSECONDS: u32 = 999_999;
 
-/// What a line is, by its first field.
+/// The kind of an encode line, which its first field says.
 #[derive(Clone, Copy, Debug, PartialEq, Eq)]
 pub enum LineKind {
     /// Bits of a tag's reply, for a stream in this code.
@@ -159,7 +159,7 @@ fn request_behind<'a>(kind: LineKind, others: Fields<'a>) -> Result<Request<'a>,
     }
 }
 
-/// The request of a line that begins with a code's name, by its other fields.
+/// The encode request of a line that begins with a code's name, by its other fields.
 fn stream_of<'a>(code: Code, others: Fields<'a>) -> Result<Request<'a>, FaultReason>
     ensures ok { IfOk result (AsksToEncodeBehind (LineKind.Stream code) others.entry) }
     ensures refused { IfErr result (AreFaultyToEncode (LineKind.Stream code) others.entry) }
@@ -176,7 +176,7 @@ fn stream_of<'a>(code: Code, others: Fields<'a>) -> Result<Request<'a>, FaultRea
     Ok(Request::Stream { code, trext, bits })
 }
 
-/// The request of a line that begins with `pie`, by its other fields.
+/// The encode request of a line that begins with `pie`, by its other fields.
 fn pie_of<'a>(others: Fields<'a>) -> Result<Request<'a>, FaultReason>
     ensures ok { IfOk result (AsksToEncodeBehind LineKind.Pie others.entry) }
     ensures refused { IfErr result (AreFaultyToEncode LineKind.Pie others.entry) }
@@ -222,7 +222,7 @@ fn durations_of(tari: &[u8], rtcal: &[u8], trcal: &[u8], pw: &[u8]) -> Option<Du
     })
 }
 
-/// The request of a line that begins with `command`, by its other fields.
+/// The encode request of a line that begins with `command`, by its other fields.
 fn command_of<'a>(others: Fields<'a>) -> Result<Request<'a>, FaultReason>
     ensures ok { IfOk result (AsksToEncodeBehind LineKind.Command others.entry) }
     ensures refused { IfErr result (AreFaultyToEncode LineKind.Command others.entry) }
@@ -251,7 +251,7 @@ fn reply_behind(filled: bool, others: Fields) -> Result<Reply, FaultReason>
     }
 }
 
-/// The request of a line that begins with `reply`, by its other fields.
+/// The encode request of a line that begins with `reply`, by its other fields.
 fn reply_of<'a>(mut others: Fields<'a>) -> Result<Request<'a>, FaultReason>
     ensures ok { IfOk result (AsksToEncodeBehind LineKind.Reply others.entry) }
     ensures refused { IfErr result (AreFaultyToEncode LineKind.Reply others.entry) }
@@ -266,7 +266,7 @@ fn reply_of<'a>(mut others: Fields<'a>) -> Result<Request<'a>, FaultReason>
     Ok(Request::Reply { expect, reply })
 }
 
-/// The request of a line that begins with `heard`, by its other fields.
+/// The encode request of a line that begins with `heard`, by its other fields.
 fn heard_of<'a>(mut others: Fields<'a>) -> Result<Request<'a>, FaultReason>
     ensures ok { IfOk result (AsksToEncodeBehind LineKind.Heard others.entry) }
     ensures refused { IfErr result (AreFaultyToEncode LineKind.Heard others.entry) }
@@ -298,7 +298,7 @@ fn next_three<'a>(fields: &mut Fields<'a>) -> Option<(&'a [u8], &'a [u8], &'a [u
     Some((first, second, third))
 }
 
-/// Whether a field is not empty.
+/// Whether a field of an encode line is not empty.
 fn is_filled(field: &[u8]) -> bool
     ensures { IsTrue result ↔ (field.now ≢ []) }
 {

@@ -18,21 +18,21 @@ use Rattle.judge_lines.specs.SeenLine.{AreFaultySeen, BeginsAsAnswer, SpellSeen}
 use Rattle.checked_lines.specs.declared.fault.FaultReason.{FaultReason}
 use Rattle.checked_lines.specs.declared.fault.FaultReason.TheVariants.{Extra, End, Version, Word, Order, Limit, Shape, Number}
 
--- the first line
+-- the first line of the text of a log, its version
 abbrev pub log_version_line : List ℕ
 log_version_line = codes "judge 1"
 
--- where a text stands behind some of its lines
+-- where the text of a log stands behind some of its lines
 pub data LogStanding : Type 0 where
-  -- before the first line
+  -- before the first line of the log's text
   start : LogStanding
-  -- behind the version
+  -- behind the version line of the log's text
   begun : LogStanding
   -- behind the line of this tag and those of this log
   within : (tag : LoggedTag) (log : List LogEntry) → LogStanding
-  -- ... and a line more, with which this was sent, or bits that spell no command: an answer line is needed
+  -- behind the line of this tag, those of this log and one more, with which this was sent, or bits that spell no command: an answer line is needed
   asked : (tag : LoggedTag) (log : List LogEntry) (heard : Option Command) → LogStanding
-  -- behind the end
+  -- behind the `end` line of the log's text
   ended : (tag : LoggedTag) (log : List LogEntry) → LogStanding
 
 -- The line of the tag is that of a probe, but for the words that the tag draws, which nobody knows: with one word behind them, its fields
@@ -43,7 +43,7 @@ with_word fields = fields ++ codes "0000" ∷ []
 abbrev pub logged_tag : TagSpec → LoggedTag
 logged_tag tag = record { image = tag.image; locks = tag.locks }
 
--- the line says the tag, and leads there
+-- the line says the tag of a log, and leads there
 pub record TellsLoggedTag (line : List ℕ) (to : LogStanding) : Type 0 where
   pub tag : TagSpec
   pub spells : SpellsTag (with_word (fields_of line)) tag
@@ -82,7 +82,7 @@ pub record TellsSeen (tag : LoggedTag) (log : List LogEntry) (heard : Option Com
   pub room : lines_in log + 1 < most_stimuli
   pub leads : to ≡ within tag (log ++ entries.Exchange heard seen ∷ [])
 
--- the line may stand here, and leads there
+-- the line may stand here in the text of a log, and leads there
 abbrev pub LogGoesTo : LogStanding → List ℕ → LogStanding → Type 0
 LogGoesTo start line to = (line ≡ log_version_line) × (to ≡ begun)
 LogGoesTo begun line to = TellsLoggedTag line to
@@ -90,7 +90,7 @@ LogGoesTo (within tag log) line to = TellsNextEntry tag log (fields_of line) to
 LogGoesTo (asked tag log heard) line to = TellsSeen tag log heard (fields_of line) to
 LogGoesTo (ended tag log) line to = ⊥
 
--- the first reason for which a line says no tag
+-- the first reason for which the tag line of a log says no tag
 abbrev pub IsFaultyTag : List (List ℕ) → FaultReason → Type 0
 IsFaultyTag fields fault = IsFaultyTagLine (with_word fields) fault
 
@@ -117,7 +117,7 @@ IsFaultyNext count fields Shape = (¬ IsStimulusTooMuch count fields) × IsFault
 IsFaultyNext count fields Number = (¬ IsStimulusTooMuch count fields) × IsFaultyAsOther fields reasons.Number
 IsFaultyNext count fields fault = ⊥
 
--- ... where an answer is awaited
+-- the first reason for which a line is faulty that stands where an answer is awaited, behind the tag and so many lines of the log
 abbrev pub IsFaultySeen : ℕ → List (List ℕ) → FaultReason → Type 0
 IsFaultySeen count fields Word = HasUnknownWord fields
 IsFaultySeen count fields Order = (¬ HasUnknownWord fields) × (¬ BeginsAsAnswer fields)
@@ -126,7 +126,7 @@ IsFaultySeen count fields Shape = (count < most_stimuli) × IsFaultyAsAnswer fie
 IsFaultySeen count fields Number = (count < most_stimuli) × IsFaultyAsAnswer fields reasons.Number
 IsFaultySeen count fields fault = ⊥
 
--- the first reason for which a line with its line feed is faulty
+-- the first reason for which a line of a log that has its line feed is faulty, by where it stands
 abbrev pub IsFaultyLogLine : LogStanding → List ℕ → FaultReason → Type 0
 IsFaultyLogLine start line fault = (fault ≡ Version) × (line ≢ log_version_line)
 IsFaultyLogLine begun line fault = IsFaultyTag (fields_of line) fault
@@ -151,6 +151,6 @@ log_rules = record { start = start; leads = LogGoesTo; is_faulty = IsFaultyLogLi
 abbrev pub IsLogText : List ℕ → LoggedTag → List LogEntry → Type 0
 IsLogText bytes tag log = IsText log_rules bytes (ended tag log)
 
--- the first faulty line of the bytes, counted from 1, with its first reason
+-- the first faulty line of the bytes by the rules of a log, counted from 1, with its first reason
 abbrev pub IsFirstLogFault : List ℕ → ℕ → FaultReason → Type 0
 IsFirstLogFault bytes line fault = IsFirstFault log_rules bytes line fault

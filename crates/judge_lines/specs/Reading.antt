@@ -23,7 +23,7 @@ entry_in said.HearsNoCommand command answer = Some (Exchange None (seen_in answe
 entry_in (said.Befalls event) command answer = Some (Befalls event)
 entry_in said.End command answer = None
 
--- how many lines of the log it takes
+-- how many lines of the log an entry takes
 abbrev pub lines_said : SaidEntry → ℕ
 lines_said said.Hears = 2
 lines_said said.HearsNoCommand = 2

@@ -8,7 +8,7 @@ use Rattle.tag_machine.specs.declared.any_tag.Answered.TheVariants.{Silent, Plai
 use Rattle.text_fields.specs.declared.fields_fault.FieldsFault.{FieldsFault}
 use Rattle.text_fields.specs.declared.fields_fault.FieldsFault.TheVariants.{Word, Shape, Number}
 
--- the first field
+-- the first field of an answer line of a log
 abbrev pub answer_word : List ℕ
 answer_word = codes "answer"
 
@@ -18,7 +18,7 @@ seen_mark_word Silent = codes "-"
 seen_mark_word Plain = codes "plain"
 seen_mark_word Extended = codes "extended"
 
--- the fields behind the first
+-- the fields of an answer line of a log behind the first
 abbrev pub seen_fields : Option Seen → List (List ℕ)
 seen_fields None = seen_mark_word Silent ∷ []
 seen_fields (Some seen) = answer_preamble_word seen.extended ∷ reply_fields seen.reply

@@ -40,7 +40,7 @@ pub(crate) enum SaidEntry {
 }
 
 impl SaidEntry {
-    /// How many lines of the log it takes.
+    /// How many lines of the log the entry takes: with an answer line two, and at the end none.
     pub(crate) fn line_count(&self) -> u32
         ensures { result ≡ lines_said self.now }
     {
@@ -75,7 +75,7 @@ impl Drop for Rooms {
 }
 
 impl Rooms {
-    /// Takes the room.
+    /// Takes the room for the bits of a log's line; no command was sent and no answer seen yet.
     pub(crate) fn new(alloc: Global) -> Result<Rooms, OutOfMemory> {
         let bits = Bits::new(alloc, ROOM)?;
         Ok(Rooms {
@@ -106,10 +106,10 @@ impl Rooms {
     }
 }
 
-/// The number of the first line behind that of the tag.
+/// The number of the first line of a log behind that of the tag, counted from 1.
 const FIRST_NUMBER: u32 = 3;
 
-/// A fault of the line behind that of the tag and so many more.
+/// A fault of the line of a log that stands behind that of the tag and so many more.
 fn fault_behind(count: u32, reason: FaultReason) -> FaultyLine
     requires { count ≤ 70001 }
     ensures { result ≡ record { line = 3 + count; reason = reason } }

@@ -22,7 +22,7 @@ pub(crate) fn seen_laws()
     replies_have_one_fault();
 }
 
-/// What the laws of single lines say, together.
+/// What the laws of single lines of a log say, together.
 fn log_line_laws()
     ensures { LogLineLaws }
 {
@@ -48,7 +48,7 @@ pub fn log_texts_are_not_faulty()
     log_line_laws();
 }
 
-/// A text has at most one first faulty line, which has one first reason.
+/// As the text of a log, bytes have at most one first faulty line, which has one first reason.
 pub fn log_texts_have_one_fault()
     ensures { (bytes : List ℕ) (one other : ℕ) (fault reason : FaultReason)
         → IsFirstLogFault bytes one fault → IsFirstLogFault bytes other reason

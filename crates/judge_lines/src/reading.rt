@@ -16,10 +16,10 @@ use log_judge::Answer;
 use probe_lines::{SaidLine, line_laws, read_behind, read_probe_line};
 use text_fields::FieldsFault;
 
-/// How many lines may stand between that of the tag and the end.
+/// How many lines of a log may stand between that of the tag and the end.
 const MOST_LINES: u32 = 70_000;
 
-/// Whether as many lines as may stand behind that of the tag.
+/// Whether a log has as many lines behind that of the tag as it may have.
 fn is_full(count: u32) -> bool
     ensures yes { IsTrue result → most_stimuli ≤ count }
     ensures no { IsFalse result → count < most_stimuli }

@@ -17,7 +17,7 @@ use Rattle.scenario.specs.declared.values.TagGroup.{TagGroup}
 use Rattle.scenario_lines.specs.declared.tag.TagSpec.{TagSpec}
 use Rattle.scenario_lines.specs.declared.version.Version.TheVariants as versions
 
--- how many tags are made at most
+-- how many tags a made scenario has at most
 abbrev pub most_made_tags : ℕ
 most_made_tags = 256
 
@@ -42,7 +42,7 @@ generator_after count generator = advance 64 multiplier_64 count generator
 unfoldable pub drawn_at : Lcg → ℕ → ℕ
 drawn_at generator place = (pcg32 (generator_after place generator)).0 % 2 ^ 16
 
--- how many random words a tag has
+-- how many random words a tag of a made scenario has
 abbrev pub words_of_tag : ℕ
 words_of_tag = 64
 

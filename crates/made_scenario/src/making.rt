@@ -27,13 +27,13 @@ use session_flags::DrawWords;
 use std::alloc::Global;
 use tag_memory::BankImage;
 
-/// How many tags are made at most.
+/// How many tags a made scenario has at most.
 pub const MOST_MADE_TAGS: u32 = 256;
 
 /// The stream of the generator that the random words are drawn from.
 const DRAW_STREAM: u64 = 54;
 
-/// How many random words a tag has.
+/// How many random words a tag of a made scenario has.
 const WORDS_OF_TAG: u32 = 64;
 
 /// The locks of a tag of which nothing is locked.
@@ -101,7 +101,7 @@ fn made_groups(alloc: Global, seed: u64, count: u32) -> Result<List<TagGroup>, O
     Ok(List::new(groups))
 }
 
-/// The one step.
+/// The one step of a made scenario: a round without operations.
 fn made_steps(alloc: Global) -> Result<List<Step>, OutOfMemory>
     ensures { IfOk result (λ list. list ≡ steps.Round made_round no_operations ∷ []) }
 {

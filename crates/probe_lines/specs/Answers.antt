@@ -94,7 +94,7 @@ probe_text_from number tag [] = last_text tag
 probe_text_from number tag (effect ∷ effects) =
     text_with (probe_lines_behind number effect tag) ++ probe_text_from (number + 1) (outcome_of_effect effect tag).tag effects
 
--- the number of the first line behind that of the tag
+-- the number of the first line of a probe behind that of the tag
 abbrev pub first_number : ℕ
 first_number = 3
 

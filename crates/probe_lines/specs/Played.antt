@@ -28,7 +28,7 @@ pub record AddsFrontOf (text : List ℕ) (written written' : Option (List ℕ)) 
   pub cut : text ≡ front ++ rest
   pub added : Adds written written' front
 
--- ... where a write failed; or there was no memory, and none failed
+-- playing a probe stops within this text, of which a front was written: a write failed, or there was no memory and no write failed
 abbrev pub StopsIn : List ℕ → (written written' : Option (List ℕ)) → (faults faults' : ℕ) → PlayFault → Type 0
 StopsIn text written written' faults faults' Write = FaultsRose faults faults' × AddsFrontOf text written written'
 StopsIn text written written' faults faults' OutOfMemory = (faults' ≡ faults) × AddsFrontOf text written written'

@@ -19,11 +19,11 @@ use Rattle.probe_lines.specs.declared.line.LineWord.TheVariants as words
 use Rattle.probe_lines.specs.Said.{ProbeLine}
 use Rattle.probe_lines.specs.Said as lines
 
--- the first line
+-- the first line of a probe, its version
 abbrev pub version_line : List ℕ
 version_line = codes "probe 1"
 
--- how many bits one line may have
+-- how many bits a `bits` line of a probe may have
 abbrev pub most_line_bits : ℕ
 most_line_bits = 8240
 
@@ -52,7 +52,7 @@ probe_events = record { name = event_word; count = probe_event_fields; kind = ev
 abbrev pub IsProbeEvent : Event → Type 0
 IsProbeEvent event = event ≢ events.Expire S0
 
--- the first field of a line that is no command
+-- the first field of a line of a probe that is no command
 abbrev pub line_word : LineWord → List ℕ
 line_word words.Bits = codes "bits"
 line_word words.Event = codes "event"

@@ -16,19 +16,19 @@ use Rattle.probe_lines.specs.declared.line.LineWord.TheVariants as words
 use Rattle.probe_lines.specs.ProbeLine.{SpellsProbeLine, SpellsTag, version_line}
 use Rattle.probe_lines.specs.LineFaults.{BeginsWithWord, IsFaultyProbeLine}
 
--- how many lines may stand between that of the tag and the end
+-- how many lines of a probe may stand between that of the tag and the end
 abbrev pub most_stimuli : ℕ
 most_stimuli = 70000
 
--- where a text stands behind some of its lines
+-- where the text of a probe stands behind some of its lines
 pub data ProbeStanding : Type 0 where
-  -- before the first line
+  -- before the first line of the probe
   start : ProbeStanding
-  -- behind the version
+  -- behind the version line of the probe
   begun : ProbeStanding
   -- behind the line of this tag, and lines that say that this is done to it
   within : (tag : TagSpec) (said : List Stimulus) → ProbeStanding
-  -- ... and the end
+  -- behind the line of this tag, lines that say that this is done to it, and the end
   ended : (tag : TagSpec) (said : List Stimulus) → ProbeStanding
 
 -- where it stands behind a line more
@@ -48,13 +48,13 @@ pub record GoesOn (tag : TagSpec) (said : List Stimulus) (line : List ℕ) (to :
   pub room : HasRoom (length said) says
   pub leads : to ≡ after tag said says
 
--- the line says the tag, and leads there
+-- the line says the tag of a probe, and leads there
 pub record TellsTag (line : List ℕ) (to : ProbeStanding) : Type 0 where
   pub tag : TagSpec
   pub spells : SpellsTag (fields_of line) tag
   pub leads : to ≡ within tag []
 
--- the line may stand here, and leads there
+-- the line may stand here in the text of a probe, and leads there
 abbrev pub ProbeGoesTo : ProbeStanding → List ℕ → ProbeStanding → Type 0
 ProbeGoesTo start line to = (line ≡ version_line) × (to ≡ begun)
 ProbeGoesTo begun line to = TellsTag line to
@@ -66,7 +66,7 @@ pub record BeginsAsTag (fields : List (List ℕ)) : Type 0 where
   pub others : List (List ℕ)
   pub first : fields ≡ keyword_text keywords.Tag ∷ others
 
--- the first reason for which a line says no tag
+-- the first reason for which the tag line of a probe says no tag
 abbrev pub IsFaultyTagLine : List (List ℕ) → FaultReason → Type 0
 IsFaultyTagLine fields Word = ¬ BeginsAsTag fields
 IsFaultyTagLine fields Shape = (begins : BeginsAsTag fields) × MisreadsTag begins.others line_faults.Shape
@@ -87,12 +87,12 @@ IsFaultyBehindTag count fields Shape = (¬ IsStimulusTooMuch count fields) × Is
 IsFaultyBehindTag count fields Number = (¬ IsStimulusTooMuch count fields) × IsFaultyProbeLine fields reasons.Number
 IsFaultyBehindTag count fields fault = ⊥
 
--- the first reason for which a line with its line feed is faulty
+-- the first reason for which a line of a probe that has its line feed is faulty, by where it stands
 abbrev pub IsFaultyInProbe : ProbeStanding → List ℕ → FaultReason → Type 0
 IsFaultyInProbe start line fault = (fault ≡ Version) × (line ≢ version_line)
 IsFaultyInProbe begun line fault = IsFaultyTagLine (fields_of line) fault
 IsFaultyInProbe (within tag said) line fault = IsFaultyBehindTag (length said) (fields_of line) fault
--- behind the end nothing may stand
+-- behind the end of a probe nothing may stand
 IsFaultyInProbe (ended tag said) line fault = fault ≡ Extra
 
 -- a text has an end
@@ -119,7 +119,7 @@ pub record IsProbeText (bytes : List ℕ) : Type 0 where
   pub said : List Stimulus
   pub is : IsProbe bytes tag said
 
--- the first faulty line of the bytes, counted from 1, with its first reason
+-- the first faulty line of the bytes by the rules of a probe, counted from 1, with its first reason
 abbrev pub IsFirstProbeFault : List ℕ → ℕ → FaultReason → Type 0
 IsFirstProbeFault bytes number fault = IsFirstFault probe_rules bytes number fault
 

@@ -27,11 +27,11 @@ pub data ProbeLine : Type 0 where
 
 -- what is done to the tag, where bits are looked at
 pub data StimulusEffect : Type 0 where
-  -- it hears a command
+  -- the tag hears this command
   Hears : (command : Command) → StimulusEffect
-  -- this befalls it
+  -- this event befalls the tag
   Befalls : (event : Event) → StimulusEffect
-  -- nothing: it hears no command
+  -- nothing: the tag hears no command
   Nothing : StimulusEffect
 
 -- each of these by what a call gives that puts a command into a room which is lent

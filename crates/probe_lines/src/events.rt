@@ -8,7 +8,7 @@ use air_events::Event;
 use scenario_lines::{EventKind, event_kind_named, expiring_flag_named};
 use text_fields::{Fields, FieldsFault, are_filled, one_field};
 
-/// How many fields stand behind the kind of an event.
+/// How many fields stand behind the kind of a probe's event, which names no tag.
 fn field_count(kind: EventKind) -> u32
     ensures { result ≡ probe_event_fields kind }
 {

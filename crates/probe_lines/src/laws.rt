@@ -17,7 +17,7 @@ use command_text::{
 use scenario_lines::{lines_are_told_apart, lines_have_one_fault, spelled_lines_are_not_faulty};
 use text_fields::bits_are_told_apart;
 
-/// What the laws of single lines say, together.
+/// What the laws of single lines of a probe say, together.
 pub fn line_laws()
     ensures lines { ProbeLineLaws }
     ensures tags { TagLineLaws }
@@ -66,7 +66,7 @@ pub fn probe_texts_are_not_faulty()
     line_laws();
 }
 
-/// A text has at most one first faulty line, which has one first reason.
+/// As the text of a probe, bytes have at most one first faulty line, which has one first reason.
 pub fn probe_texts_have_one_fault()
     ensures { (bytes : List ℕ) (one other : ℕ) (fault reason : FaultReason)
         → IsFirstProbeFault bytes one fault → IsFirstProbeFault bytes other reason

@@ -3,7 +3,7 @@
 use air_events::Event;
 use text_fields::Digits;
 
-/// The first field of a line that is no command.
+/// The first field of a line of a probe that is no command.
 #[derive(Clone, Copy, Debug, PartialEq, Eq)]
 pub enum LineWord {
     /// `bits`: bits are sent.

@@ -18,10 +18,10 @@ use command_text::read_command_to;
 use scenario_lines::{LineFault, TagText, read_tag};
 use text_fields::{Digits, Fields, FieldsFault, is_at_end, one_field};
 
-/// How many bits one line may have.
+/// How many bits a `bits` line of a probe may have.
 pub(crate) const MOST_BITS: u32 = 8_240;
 
-/// How many lines may stand between that of the tag and the end.
+/// How many lines of a probe may stand between that of the tag and the end.
 const MOST_STIMULI: u32 = 70_000;
 
 /// The word of this name.

@@ -13,7 +13,7 @@ use command_grammar::Command;
 use std::marker::Model;
 use text_fields::split_line;
 
-/// The number of the first line behind that of the tag.
+/// The number of the first line of a probe behind that of the tag, counted from 1.
 pub(crate) const FIRST_NUMBER: u32 = 3;
 
 /// What is still done to the tag, as the lines say it that are left. A contract sees these lines.
@@ -35,7 +35,7 @@ impl<'a> Model for Stimuli<'a> {
     ghost invariant = { λ a. (said : List Stimulus) × AreStimuli (lines_of a.rest.now) said };
 }
 
-/// A fault of the line behind that of the tag and so many more.
+/// A fault of the line of a probe that stands behind that of the tag and so many more.
 fn fault_behind(count: u32, reason: FaultReason) -> FaultyLine
     requires { count ≤ 70001 }
     ensures { result ≡ record { line = 3 + count; reason = reason } }

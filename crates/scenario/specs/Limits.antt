@@ -67,7 +67,7 @@ pub record IsGroup (version : Version) (group : TagGroup) : Type 0 where
   pub tag : IsTag group.spec
   pub differ : 1 < group.count → 1 ≤ epc_length group.spec
 
--- what the channel gives where several tags reply and nothing is chosen
+-- in a scenario of this version, what the channel may give where several tags reply and nothing is chosen
 abbrev pub IsDefault : Version → Several → Type 0
 IsDefault One several = several ≡ Break
 IsDefault Two several = Unit {0}

@@ -1,4 +1,4 @@
--- The fields of a line begin with its keyword.
+-- The fields of each line of a scenario begin with its keyword, and with a kind of it where it has kinds.
 use Rattle.std.proofs.Common.{List, ℕ, refl, subst, sym}
 use Rattle.scenario_lines.specs.declared.line.Line.{Line}
 use Rattle.scenario_lines.specs.declared.line.Line.TheVariants as lines
@@ -6,7 +6,7 @@ use Rattle.scenario_lines.specs.Names.{air_kind, event_kind, op_kind}
 use Rattle.scenario_lines.specs.LineFaults.{BeginsWithKeyword, HasKnownKind, SpellsLine}
 use Rattle.scenario_lines.specs.Spelling.{line_fields, other_fields, keyword_of}
 
--- the kind of a line is one of its word's kinds
+-- the kind of a scenario's line is one of its keyword's kinds
 known_kind : (line : Line) → HasKnownKind (keyword_of line) (other_fields line)
 known_kind (lines.Air exchange happening) = (air_kind happening, refl)
 known_kind (lines.Event event tag) = (event_kind event, refl)

@@ -33,7 +33,7 @@ pub record BeginsWithKeyword (fields : List (List ℕ)) (keyword : Keyword) : Ty
   pub first : fields ≡ keyword_text keyword ∷ others
   pub kind : HasKnownKind keyword others
 
--- the fields behind the first: their number is right, and none is empty
+-- the fields of a scenario's line behind its keyword: their number is right, none is empty, and a kind that has to be there is known
 abbrev pub HasShape : Keyword → List (List ℕ) → Type 0
 HasShape keywords.Version others = AreFilled 1 others
 HasShape keywords.Link others = AreFilled 7 others

@@ -22,7 +22,7 @@ use Rattle.scenario_lines.specs.declared.line.Selection.{Selection}
 use Rattle.scenario_lines.specs.declared.line.Line.{Line}
 use Rattle.scenario_lines.specs.declared.line.Line.TheVariants as lines
 
--- the greatest length of time in a line, in nanoseconds
+-- the greatest length of time in a link line, in nanoseconds
 abbrev pub most_nanoseconds : ℕ
 most_nanoseconds = 999999
 

@@ -26,7 +26,7 @@ use Rattle.scenario_lines.specs.declared.first_fields.AirKind.TheVariants as air
 use Rattle.scenario_lines.specs.declared.line.Happening.{Happening}
 use Rattle.scenario_lines.specs.declared.line.Happening.TheVariants as happenings
 
--- the first field of a line
+-- the word of a keyword, the first field of a scenario's line
 abbrev pub keyword_text : Keyword → List ℕ
 keyword_text keywords.Version = codes "gen2"
 keyword_text keywords.Link = codes "link"
@@ -56,7 +56,7 @@ abbrev pub version_digit : Version → List ℕ
 version_digit One = codes "1"
 version_digit Two = codes "2"
 
--- what the channel gives where several tags reply and nothing is chosen
+-- the word of a scenario for what the channel gives where several tags reply and nothing is chosen
 abbrev pub several_text : Several → List ℕ
 several_text severals.Break = codes "break"
 several_text severals.Capture = codes "capture"
@@ -75,14 +75,14 @@ HasRuleText One (rules.Float c) = Unit {0}
 HasRuleText One rule = ⊥
 HasRuleText Two rule = Unit {0}
 
--- the kind of an event
+-- the word for the kind of an event
 abbrev pub event_word : EventKind → List ℕ
 event_word Timeout = codes "timeout"
 event_word Off = codes "off"
 event_word On = codes "on"
 event_word Expire = codes "expire"
 
--- the kind of an operation
+-- the word for the kind of an operation
 abbrev pub op_word : OpKind → List ℕ
 op_word op_kinds.Read = codes "read"
 op_word op_kinds.Write = codes "write"
@@ -99,7 +99,7 @@ pub op_found : EachFound op_word all_op_kinds
 op_found op_kinds.Read = refl
 op_found kind = refl
 
--- the kind of an air line
+-- the word for the kind of an air line
 abbrev pub air_word : AirKind → List ℕ
 air_word (airs.Event kind) = event_word kind
 air_word airs.Miss = codes "miss"
@@ -116,7 +116,7 @@ pub air_found : EachFound air_word all_air_kinds
 air_found (airs.Event Timeout) = refl
 air_found kind = refl
 
--- how many fields stand behind the kind of an event
+-- how many fields stand behind the kind of a scenario's event
 abbrev pub event_field_count : EventKind → ℕ
 event_field_count Timeout = 1
 event_field_count Off = 1

@@ -90,7 +90,7 @@ air_vocabulary = record { name = air_word; count = air_field_count; kind = air_k
 abbrev pub op_vocabulary : Vocabulary OpKind Op
 op_vocabulary = record { name = op_word; count = op_field_count; kind = op_kind; others = op_fields }
 
--- the first field of a line
+-- the keyword of a scenario's line, its first field
 abbrev pub keyword_of : Line → Keyword
 keyword_of (lines.Version version) = keywords.Version
 keyword_of (lines.Link link) = keywords.Link
@@ -106,7 +106,7 @@ keyword_of (lines.Only epc) = keywords.Only
 keyword_of (lines.Op op) = keywords.Op
 keyword_of lines.End = keywords.End
 
--- the fields behind the first
+-- the fields of a scenario's line behind its keyword
 abbrev pub other_fields : Line → List (List ℕ)
 other_fields (lines.Version version) = version_digit version ∷ []
 other_fields (lines.Link link) = link_fields link

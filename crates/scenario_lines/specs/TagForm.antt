@@ -29,7 +29,7 @@ pub record IsTagForm (tag : TagSpec) : Type 0 where
   pub user : IsWordList 0 512 tag.image.user
   pub words : IsWordList 1 256 tag.words
 
--- ... and the EPC that PC announces lies inside the bank (6.3.2.1.2.2)
+-- each field of a tag is in its range, and the EPC that PC announces lies inside the bank (6.3.2.1.2.2)
 pub record IsTag (tag : TagSpec) : Type 0 where
   pub form : IsTagForm tag
   pub pc : pc_fits tag.image ≡ true

@@ -45,7 +45,7 @@ pub enum EventKind {
     Expire,
 }
 
-/// The kind of an operation.
+/// The kind of an operation, by the word behind `op`.
 #[derive(Clone, Copy)]
 pub enum OpKind {
     /// `read`: words of a bank are read.
@@ -64,7 +64,7 @@ pub enum OpKind {
     Kill,
 }
 
-/// The kind of an air line.
+/// The kind of an air line, by the word behind the number of its exchange.
 #[derive(Clone, Copy)]
 pub enum AirKind {
     /// An event of a tag before the command.

@@ -25,7 +25,7 @@ pub fn lines_are_told_apart()
         → SpellsLine fields other → one ≡ other }
 {}
 
-/// The fields of a line begin with its keyword.
+/// The fields of a scenario's line begin with its keyword.
 #[tactic(auto, using(crate::specs::LineBeginnings::begins))]
 pub fn lines_begin_with_their_keyword()
     ensures { (line : Line) → BeginsWithKeyword (line_fields line) (keyword_of line) }
@@ -43,7 +43,7 @@ pub fn spelled_lines_are_not_faulty()
         → IsFaultyLine fields fault → ⊥ }
 {}
 
-/// Fields are faulty for at most one reason.
+/// As a line of a scenario, fields are faulty for at most one reason.
 pub fn lines_have_one_fault()
     ensures { (fields : List (List ℕ)) (one other : LineFault) → IsFaultyLine fields one
         → IsFaultyLine fields other → one ≡ other }

@@ -44,7 +44,7 @@ pub struct Selection {
 }
 
 impl Selection {
-    /// The Select.
+    /// The Select command of a scenario's select line.
     pub fn into_command(self) -> Command
         ensures { result ≡ Command.Select self.target self.action self.bank self.pointer self.mask }
     {

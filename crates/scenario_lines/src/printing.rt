@@ -42,7 +42,7 @@ pub fn push_default(text: &mut String, several: Several) -> Result<(), OutOfMemo
     text.push('\n')
 }
 
-/// Writes `nak`.
+/// Writes `nak`, the line of a step in which a NAK is sent.
 pub fn push_nak(text: &mut String) -> Result<(), OutOfMemory>
     ensures { OnOk result (string_bytes text.new ≡ string_bytes text.old
         ++ (line_text lines.Nak ++ line_feed ∷ [])) }

@@ -10,7 +10,7 @@ use Rattle.scenario.specs.Limits.{most_air_lines}
 
 -- The exchange of the last air line stands apart, since more may be said of it; its number is 0 where there is no air line.
 pub record AirLinesValue : Type 0 where
-  -- how many air lines there are
+  -- how many air lines the scenario has so far
   pub count : ℕ
   -- what is said of the exchanges before the last one
   pub closed : List (ℕ × Entry)
@@ -26,11 +26,11 @@ abbrev pub last_entry : ℕ → Entry → List (ℕ × Entry)
 last_entry zero latest = []
 last_entry (suc before) latest = (suc before, latest) ∷ []
 
--- what is said of all exchanges
+-- what the air lines have said of all exchanges so far
 abbrev pub entries_of : AirLinesValue → List (ℕ × Entry)
 entries_of air = air.closed ++ last_entry air.exchange air.latest
 
--- they are no more than the limits allow
+-- the air lines, and what they say of exchanges, are no more than the limits of a scenario allow
 pub record AreFewAirLines (air : AirLinesValue) : Type 0 where
   pub lines : air.count ≤ most_air_lines
   pub entries : length (entries_of air) ≤ air.count

@@ -14,7 +14,7 @@ use Rattle.scenario.specs.Groups.{tags_of}
 use Rattle.scenario_text.specs.AirLines.{AirLinesValue, entries_of, no_air_lines, with_air_line}
 use Rattle.scenario_text.specs.StepLines.{StepLinesValue, no_step_lines, steps_of, with_only, with_op, with_round, with_step}
 
--- what the lines say that stand before all others
+-- what the lines of a scenario's head say, which stand before all others
 pub record HeadValue : Type 0 where
   pub version : Version
   pub link : LinkValue
@@ -29,7 +29,7 @@ pub record DraftValue : Type 0 where
 abbrev pub new_draft : HeadValue → DraftValue
 new_draft head = record { head = head; groups = []; air = no_air_lines; steps = no_step_lines }
 
--- how many tags there are
+-- how many tags the lines of the scenario have named so far
 abbrev pub tag_count : DraftValue → ℕ
 tag_count draft = length (tags_of draft.groups)
 

@@ -4,7 +4,7 @@ use Rattle.scenario_lines.specs.declared.fault.LineFault.TheVariants as line_fau
 use Rattle.scenario_text.specs.declared.fault.Fault.{Fault}
 use Rattle.scenario_text.specs.declared.fault.Fault.TheVariants.{Extra, End, Version, Line, Limit, Copies, Tag, Order, Twice}
 
--- what a reason is called
+-- the word by which the fault line of a scenario names this reason
 abbrev pub fault_word : Fault → List ℕ
 fault_word Extra = codes "extra"
 fault_word End = codes "end"

@@ -31,7 +31,7 @@ DisagreesBy draft line =
     (IsFirstUnmet (KeepsOrder draft.air line) Order
     (IsFirstUnmet (ChoosesOnce draft.air line) Twice (λ fault. ⊥)))))
 
--- ... behind these lines
+-- the first reason for which a line that may stand where the scenario stands doesn't agree with the lines before it
 abbrev pub DisagreesAt : ScenarioStanding → Line → Fault → Type 0
 DisagreesAt (within draft) line fault = DisagreesBy draft line fault
 DisagreesAt standing line fault = ⊥
@@ -66,11 +66,11 @@ IsFaultyAt standing fields =
     IsFirstUnmet (MayBegin standing fields) (LineReason line_faults.Word)
     (IsFirstUnmet (HasRoomFor standing fields) Limit (λ fault. SaysNothing fields fault ⊎ Disagrees standing fields fault))
 
--- the first reason for which a line with its line feed is faulty
+-- the first reason for which a line of a scenario that has its line feed is faulty, by where it stands
 abbrev pub IsFaultyInScenario : ScenarioStanding → List ℕ → Fault → Type 0
 -- the first line is the version
 IsFaultyInScenario start line fault = (fault ≡ Version) × ((version : TextVersion) → line ≢ line_text (lines.Version version))
--- behind the end nothing may stand
+-- behind the end of a scenario nothing may stand
 IsFaultyInScenario (ended draft) line fault = fault ≡ Extra
 IsFaultyInScenario standing line fault = IsFaultyAt standing (fields_of line) fault
 
@@ -95,7 +95,7 @@ unended_scenario_reason standing = End
 abbrev pub scenario_rules : TextRules ScenarioStanding Fault
 scenario_rules = record { start = start; leads = LeadsBy; is_faulty = IsFaultyInScenario; may_end = ScenarioMayEnd; unended = unended_scenario_reason }
 
--- the first faulty line of the bytes, counted from 1, with its first reason
+-- the first faulty line of the bytes by the rules of a scenario, counted from 1, with its first reason
 abbrev pub IsFirstScenarioFault : List ℕ → ℕ → Fault → Type 0
 IsFirstScenarioFault bytes number fault = IsFirstFault scenario_rules bytes number fault
 

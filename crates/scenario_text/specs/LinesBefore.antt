@@ -28,7 +28,7 @@ tags_by (lines.Tag tag) = 1
 tags_by (lines.Copies count tag) = count
 tags_by line = 0
 
--- ... and lines
+-- how many tags these lines of a scenario stand for
 abbrev pub tags_in : List Line → ℕ
 tags_in [] = 0
 tags_in (line ∷ more) = tags_by line + tags_in more
@@ -38,7 +38,7 @@ abbrev pub is_air : Line → Bool
 is_air (lines.Air exchange happening) = true
 is_air line = false
 
--- ... a step: a Select, a NAK, an event or a round
+-- the line is that of a step: a Select, a NAK, an event or a round
 abbrev pub is_step : Line → Bool
 is_step (lines.Select selection) = true
 is_step lines.Nak = true

@@ -21,15 +21,15 @@ use Rattle.scenario_text.specs.Draft.{DraftValue, HeadValue, draft_after, new_dr
 
 -- where a scenario stands after some of its lines
 pub data ScenarioStanding : Type 0 where
-  -- before the first line
+  -- before the first line of the scenario
   start : ScenarioStanding
-  -- behind the version
+  -- behind the version line of the scenario
   begun : Version → ScenarioStanding
   -- behind the link of version 2
   linked : LinkValue → ScenarioStanding
   -- behind the head, or a line after it
   within : DraftValue → ScenarioStanding
-  -- behind the end
+  -- behind the `end` line of the scenario
   ended : DraftValue → ScenarioStanding
 
 -- the head of a text of version 1 and of one of version 2

@@ -23,11 +23,11 @@ abbrev pub with_last : List Step → Option SpecValue → OpList → List Step
 with_last before None operations = before
 with_last before (Some spec) operations = before ++ steps.Round spec operations ∷ []
 
--- all steps
+-- all steps of the scenario so far, with the last one where that is a round
 abbrev pub steps_of : StepLinesValue → List Step
 steps_of said = with_last said.closed said.round said.operations
 
--- they are no more than the limits allow
+-- the steps, and the operations of the last round, are no more than the limits of a scenario allow
 pub record AreFewStepLines (said : StepLinesValue) : Type 0 where
   pub steps : length (steps_of said) ≤ most_steps
   pub ops : length said.operations.ops ≤ most_ops

@@ -21,7 +21,7 @@ use std::marker::Model;
 use steps::StepLines;
 use tags::TagLines;
 
-/// What the lines say that stand before all others.
+/// What the lines of a scenario's head say, which stand before all others.
 #[derive(Drop)]
 struct Head {
     version: Version,
@@ -87,7 +87,7 @@ impl Draft {
         self.air.count() == 0 && self.steps.count() == 0
     }
 
-    /// Whether a line that begins with this keyword may follow.
+    /// Whether a line with this keyword may follow those that the draft of a scenario has.
     pub(crate) fn may_stand(&self, keyword: Keyword) -> bool
         ensures { IsTrue result ↔ MayStand (within self.now) keyword }
     {
@@ -102,7 +102,7 @@ impl Draft {
         }
     }
 
-    /// Whether a line that begins with this keyword is not one too many.
+    /// Whether the draft of a scenario has room for one more line with this keyword.
     pub(crate) fn has_room(&self, keyword: Keyword) -> bool
         ensures { IsTrue result ↔ HasRoomForLine (within self.now) keyword }
     {

@@ -20,7 +20,7 @@ use scenario_lines::{
     spelled_lines_are_not_faulty,
 };
 
-/// What the laws of single lines say, together.
+/// What the laws of single lines of a scenario say, together.
 pub(crate) fn line_laws()
     ensures { LineLaws }
 {
@@ -73,7 +73,7 @@ pub fn scenario_texts_are_not_faulty()
     line_laws();
 }
 
-/// A text has at most one first faulty line, which has one first reason.
+/// As the text of a scenario, bytes have at most one first faulty line, which has one first reason.
 pub fn texts_have_one_fault()
     ensures { (bytes : List ℕ) (one other : ℕ) (fault reason : Fault)
         → IsFirstScenarioFault bytes one fault

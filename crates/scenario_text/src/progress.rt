@@ -62,7 +62,7 @@ fn behind_link(alloc: Global, version: Version, link: Link) -> Progress
 }
 
 impl Progress {
-    /// Whether a line that begins with this keyword may follow.
+    /// Whether a line with this keyword may stand where the reader of a scenario has come to.
     fn may_stand(&self, keyword: Keyword) -> bool
         ensures { IsTrue result ↔ MayStand (standing_of self.now) keyword }
     {
@@ -75,7 +75,7 @@ impl Progress {
         }
     }
 
-    /// Whether a line that begins with this keyword is not one too many.
+    /// Whether a line with this keyword is not one too many where the reader of a scenario has come to.
     fn has_room(&self, keyword: Keyword) -> bool
         ensures { IsTrue result ↔ HasRoomForLine (standing_of self.now) keyword }
     {

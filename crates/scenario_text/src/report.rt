@@ -15,7 +15,7 @@ pub fn fault_text(number: u32, fault: Fault) -> ArrayVec<u8, 32>
     fault_line(number, fault_word(fault))
 }
 
-/// What a reason is called.
+/// The word by which the fault line of a scenario names this reason, of 14 bytes at most.
 fn fault_word(fault: Fault) -> &'static str
     ensures word { result.now ≡ fault_word fault }
     ensures short { length result.now ≤ 14 }

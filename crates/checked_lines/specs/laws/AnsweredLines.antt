@@ -29,7 +29,7 @@ zip_append R (x ∷ xs) [] us vs first second = absurd first
 zip_append R (x ∷ xs) (y ∷ ys) us vs first second = (first.0, zip_append R xs ys us vs first.1 second)
 
 module _ {R A : Type 0} (rules : LineRules R A) where
-  -- before the first line
+  -- no line of the input is read yet: all of it is left, and the next line is the first
   pub asks_none : (input : List ℕ) → AsksTo rules input input 1
   asks_none input = record { before = []; asked = []; cut = refl; whole = All-nil (Lacks line_feed); spelled = tt; count = refl }
 
@@ -53,7 +53,7 @@ module _ {R A : Type 0} (rules : LineRules R A) where
     lines = so_far.lines;
   }
 
-  -- one more line
+  -- one more whole line of the input is read, which asks for this request
   pub asks_more : (input rest : List ℕ) (number : ℕ) (next : WholeLine rest) (request : R) → AsksTo rules input rest number → rules.asks next.line request → AsksTo rules input next.behind (number + 1)
   asks_more input rest number next request so_far asks =
       let line = next.line in
@@ -69,7 +69,7 @@ module _ {R A : Type 0} (rules : LineRules R A) where
         count = omega (arith, so_far.count, length-append so_far.before (line ∷ []));
       }
 
-  -- one more answer
+  -- the line of the answer to one more whole line of the input is added to the text
   pub answers_more : (input rest old new : List ℕ) (number : ℕ) (next : WholeLine rest) → AnswersTo rules input rest old number → AddsLineFor rules next.line old new
       → AnswersTo rules input next.behind new (number + 1)
   unfolding asks_more
@@ -123,7 +123,7 @@ module _ {R A : Type 0} (rules : LineRules R A) where
     each = so_far.spelled;
   }
 
-  -- all is answered
+  -- nothing of the input is left: the text is the answers to all its lines
   pub answers_all : (input part text : List ℕ) (number : ℕ) → AnswersTo rules input part text number → part ≡ [] → Answers rules input text
   answers_all input part text number so_far none = record {
     requests = so_far.asks.asked;

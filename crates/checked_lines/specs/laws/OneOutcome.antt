@@ -64,7 +64,7 @@ module _ {S R : Type 0} (rules : TextRules S R) (one : AreUnambiguous rules) whe
   one_fault bytes line line' reason reason' is is' =
       let same = one_outcome bytes (Faulty line reason) (Faulty line' reason') is is' in (cc, cc)
 
-  -- ... and a text has none
+  -- bytes that are a text by the rules have no first faulty line
   pub text_not_faulty : (bytes : List ℕ) (standing : S) (line : ℕ) (reason : R) → IsText rules bytes standing → IsFirstFault rules bytes line reason → ⊥
   text_not_faulty bytes standing line reason is is' = let same = one_outcome bytes (Whole standing) (Faulty line reason) is is' in absurd cc
 

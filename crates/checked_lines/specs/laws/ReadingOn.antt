@@ -32,7 +32,7 @@ module _ {S R : Type 0} (rules : TextRules S R) where
   leads_on from to number line [] outcome some leads is = absurd (some refl)
   leads_on from to number line (next ∷ behind) outcome some leads is = inr (to, leads, is)
 
-  -- ... or is faulty
+  -- what comes of lines, where the first is faulty: that is the first faulty line
   pub stops_here : (from : S) (number : ℕ) (line : List ℕ) (behind : List (List ℕ)) (reason : R) → behind ≢ [] → rules.is_faulty from line reason
       → HasOutcomeFrom rules from number (line ∷ behind) (Faulty number reason)
   stops_here from number line [] reason some faulty = absurd (some refl)
@@ -48,7 +48,7 @@ module _ {S R : Type 0} (rules : TextRules S R) where
       leads_on from lead.0 first line (before ++ left) outcome (some_after before left some) lead.1
       (outcome_behind lead.0 to (first + 1) number before left outcome some (omega (arith, place)) lead.2 is)
 
-  -- ... or is extra, as each line is
+  -- what comes of lines that stand where each line is faulty as one too many: the first of them is the first faulty line
   extra_here : (standing : S) (number : ℕ) (rest : List ℕ) (left : List (List ℕ)) → lines_of rest ≡ left → ((line : List ℕ) → rules.is_faulty standing line (rules.unended standing)) → rest ≢ []
       → HasOutcomeFrom rules standing number left (Faulty number (rules.unended standing))
   extra_here standing number rest [] cut extra some = absurd (some_piece line_feed rest cut)
@@ -61,7 +61,7 @@ module _ {S R : Type 0} (rules : TextRules S R) where
   none_read from first all = record { outcomes = λ outcome is. is }
 
   module _ (from : S) (first : ℕ) (all : List (List ℕ)) (standing : S) (number : ℕ) where
-    -- one line more
+    -- one line more is read, which may stand there and leads on
     pub one_read : (left : List (List ℕ)) (next : NextLine left) (to : S) → HasReadTo rules from first all standing number left → rules.leads standing next.line to
         → HasReadTo rules from first all to (number + 1) (lines_of next.rest)
     one_read left next to so_far leads = record {

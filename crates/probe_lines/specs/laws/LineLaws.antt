@@ -14,7 +14,7 @@ pub record ProbeLineLaws : Type 0 where
   pub not_faulty : (fields : List (List ℕ)) (line : ProbeLine) (fault : FieldsFault) → SpellsProbeLine fields line → IsFaultyProbeLine fields fault → ⊥
   pub one_fault : (fields : List (List ℕ)) (one other : FieldsFault) → IsFaultyProbeLine fields one → IsFaultyProbeLine fields other → one ≡ other
 
--- ... and the same of a tag
+-- the fields of a probe's tag line say one tag at most, or are faulty for one reason, and never both
 pub record TagLineLaws : Type 0 where
   pub told : (fields : List (List ℕ)) (one other : TagSpec) → SpellsTag fields one → SpellsTag fields other → one ≡ other
   pub not_faulty : (fields : List (List ℕ)) (tag : TagSpec) (fault : FaultReason) → SpellsTag fields tag → IsFaultyTagLine fields fault → ⊥

@@ -11,7 +11,7 @@ use bit_strings::Code;
 use pie_line::Link;
 use text_fields::{Fields, code_named, number, one_bit, seven_fields};
 
-/// The greatest length of time in a line, in nanoseconds.
+/// The greatest length of time in a link line, in nanoseconds.
 const MOST_NANOSECONDS: u32 = 999_999;
 
 /// The parameters of a link, each in the range of its field.

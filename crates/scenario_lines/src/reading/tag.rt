@@ -90,7 +90,7 @@ fn read_parts<'a>(others: Fields<'a>) -> Result<Parts<'a>, LineFault>
     })
 }
 
-/// The tag of these parts, each of which is in the range of its field.
+/// The tag of a tag line's parts, read, each of which is in the range of its field.
 fn whole_tag<'a>(parts: Parts<'a>) -> Result<TagText<'a>, LineFault>
     requires { IsTagForm (tag_value parts) }
     ensures ok { IfOk result (λ tag. (tag ≡ tag_value parts.entry) × IsTag tag) }

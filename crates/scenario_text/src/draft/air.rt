@@ -17,7 +17,7 @@ const MOST_AIR_LINES: u32 = 4096;
 /// The exchanges of which something is said, in order.
 #[derive(Drop)]
 pub(crate) struct AirLines {
-    /// How many air lines there are.
+    /// How many air lines the scenario has so far.
     count: u32,
     /// What is said of the exchanges before the last one.
     closed: Vec<(u64, Entry)>,
@@ -39,7 +39,7 @@ impl Model for AirLines {
 }
 
 impl AirLines {
-    /// No air line.
+    /// What is said before the first air line of a scenario: nothing of any exchange.
     pub(crate) fn new(alloc: Global) -> AirLines
         ensures { result ≡ no_air_lines }
     {
@@ -51,7 +51,7 @@ impl AirLines {
         }
     }
 
-    /// How many air lines there are.
+    /// How many air lines the scenario has so far.
     pub(crate) fn count(&self) -> u32
         ensures count { result ≡ self.now.count }
         ensures small { result ≤ most_air_lines }
@@ -138,7 +138,7 @@ impl AirLines {
         self.say(alloc, happening)
     }
 
-    /// What is said of all exchanges.
+    /// What the air lines have said of all exchanges, in order.
     pub(crate) fn into_entries(self) -> Result<List<(u64, Entry)>, OutOfMemory>
         ensures { IfOk result (λ entries. entries ≡ entries_of self) }
     {

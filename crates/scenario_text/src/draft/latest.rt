@@ -9,7 +9,7 @@ use scenario_lines::Happening;
 use std::alloc::Global;
 use std::marker::Model;
 
-/// An entry that grows.
+/// The entry of the last exchange, which grows with each air line of it.
 #[derive(Drop)]
 pub(crate) struct LatestEntry {
     events: Vec<(Event, u32)>,
@@ -26,7 +26,7 @@ impl Model for LatestEntry {
 }
 
 impl LatestEntry {
-    /// Nothing is said.
+    /// An entry for an exchange of which no air line says anything yet.
     pub(crate) fn new(alloc: Global) -> LatestEntry
         ensures { result ≡ no_entry }
     {
@@ -70,7 +70,7 @@ impl LatestEntry {
         Ok(())
     }
 
-    /// What is said.
+    /// The entry with all that the air lines have said of the exchange.
     pub(crate) fn into_entry(self) -> Entry
         requires events { length self.events < 2 ^ 32 }
         requires missed { length self.missed < 2 ^ 32 }

@@ -42,7 +42,7 @@ impl Model for StepLines {
 }
 
 impl StepLines {
-    /// No step.
+    /// The steps before the first line of a step: none.
     pub(crate) fn new(alloc: Global) -> StepLines
         ensures { result ≡ no_step_lines }
     {
@@ -143,7 +143,7 @@ impl StepLines {
         Ok(())
     }
 
-    /// The steps.
+    /// All steps that the lines of the scenario have named, in order.
     pub(crate) fn into_steps(self) -> Result<List<Step>, OutOfMemory>
         ensures { IfOk result (λ all. all ≡ steps_of self) }
     {

@@ -49,7 +49,7 @@ impl Model for TagLines {
 }
 
 impl TagLines {
-    /// No tag.
+    /// The groups of tags before the first tag line: none.
     pub(crate) fn new(alloc: Global) -> TagLines
         ensures { result ≡ [] }
     {
@@ -59,7 +59,7 @@ impl TagLines {
         }
     }
 
-    /// How many tags there are.
+    /// How many tags the lines of the scenario have named so far.
     pub(crate) fn count(&self) -> u32
         ensures count { result ≡ length (tags_of self.now) }
         ensures small { result ≤ most_tags }
@@ -105,7 +105,7 @@ impl TagLines {
         Ok(())
     }
 
-    /// The groups.
+    /// The list of the groups of tags that the lines of the scenario have named.
     pub(crate) fn into_list(self) -> List<TagGroup>
         ensures { result ≡ self }
     {
