@@ -91,7 +91,7 @@ pub record KeepsUp (start : Start) (past : List Item) (auditor : AuditorValue) :
   pub round : auditor.round ≡ (place_in past).round
   pub slot : auditor.slot ≡ (place_in past).slot
 
--- ... and knows what came back in the exchange that is last
+-- the auditor keeps up with the trace, and knows what came back in the exchange that is last
 pub record IsHearing (start : Start) (past : List Item) (sent : Record) (auditor : AuditorValue) : Type 0 where
   pub position_is : auditor.position ≡ positions.Sending
   pub keeps : KeepsUp start (exchanged sent ∷ past) auditor
@@ -101,13 +101,13 @@ pub record IsHearing (start : Start) (past : List Item) (sent : Record) (auditor
   pub count : auditor.answers.count ≡ length sent.replies
   pub levels : auditor.answers.levels ≡ heard_levels start.link sent.given
 
--- ... and has written the list line that has to come
+-- the auditor keeps up with the trace, and has written the list line that has to come next in it
 pub record ExpectsList (start : Start) (past : List Item) (listed : Listed) (auditor : AuditorValue) : Type 0 where
   pub position_is : auditor.position ≡ positions.Listing
   pub keeps : KeepsUp start past auditor
   pub text : auditor.text ≡ report_line_text (list_line listed)
 
--- ... and stands at this position
+-- the auditor keeps up with the trace, and stands at this position in it
 pub record AuditorIsAt (position : Position) (start : Start) (past : List Item) (auditor : AuditorValue) : Type 0 where
   pub position_is : auditor.position ≡ position
   pub keeps : KeepsUp start past auditor

@@ -14,6 +14,6 @@ word_of word =
     if bytes_eq word (codes "op") || bytes_eq word (codes "round") || bytes_eq word (codes "seen") then words.Unjudged else
     if bytes_eq word (codes "tag") || bytes_eq word (codes "done") then words.OfTags else words.Other
 
--- ... of the whole line
+-- what a line of a trace is, by the word that it begins with
 abbrev pub word_of_line : List ℕ → Word
 word_of_line line = word_of (first_field line)

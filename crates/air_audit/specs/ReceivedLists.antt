@@ -27,7 +27,7 @@ pub record IsWhatIsReceived (link : LinkValue) (tx rx line : List ℕ) : Type 0 
   pub received : IsReceived (table_of link.code) link.trext expects.Epc levels (Whole (replies.Epc listed.pc listed.epc))
   pub text : line ≡ text_of (list_line listed)
 
--- ... and those two lines stand directly before it
+-- a list line says the PC and the EPC that are received in the exchange whose tx line and rx line stand directly before it
 pub record IsReceivedBefore (link : LinkValue) (before : List (List ℕ)) (line : List ℕ) : Type 0 where
   pub earlier : List (List ℕ)
   pub tx : List ℕ

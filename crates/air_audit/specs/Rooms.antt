@@ -4,7 +4,7 @@ use Rattle.pie_line.specs.Link.{LinkValue}
 use Rattle.reply_grammar.specs.Table.{longest_reply}
 use Rattle.tag_population.specs.Answers.{AnswerValue}
 
--- the room for the stream of each reply, in levels
+-- the room that an audit has for the stream of each reply, in levels
 abbrev pub room_for_audited_streams : ℕ
 room_for_audited_streams = 132208
 

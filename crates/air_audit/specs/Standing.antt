@@ -48,7 +48,7 @@ record_of start past command =
 
 -- where a trace stands after some of its lines
 pub data TraceStanding : Type 0 where
-  -- before the first line
+  -- before the first line of the trace
   begun : TraceStanding
   -- behind the first line or an exchange
   between : (past : List Item) → TraceStanding
@@ -66,7 +66,7 @@ abbrev pub behind_exchange : List Item → List Listed → TraceStanding
 behind_exchange past [] = between past
 behind_exchange past (listed ∷ others) = listing past listed
 
--- the first line
+-- the first line of a trace, which says the backscatter link frequency
 abbrev pub link_line : LinkValue → ReportLine
 link_line link = BlfLine (blf_of link).0 (blf_of link).1
 

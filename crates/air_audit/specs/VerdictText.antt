@@ -29,6 +29,6 @@ abbrev pub verdict_line : Verdict → List ℕ
 verdict_line Yes = codes "yes" ++ line_feed ∷ []
 verdict_line (No number reason) = refused_line number (audit_reason_word reason)
 
--- no trace tells of an event between two exchanges
+-- the line for a scenario that has an event between two exchanges, of which no trace tells
 abbrev pub event_line : List ℕ
 event_line = refused_line 0 (codes "event")

@@ -302,7 +302,7 @@ impl<'a, L: Ledger> Auditor<'a, L> {
         self.hear_epc()
     }
 
-    /// The PC and the EPC of the stream that came last, if they come whole.
+    /// The PC and the EPC that are received of the levels that the audit heard last, if they come whole.
     fn hear_epc(&mut self) -> Option<(u16, EpcWords)>
         ensures same { self.new ≡ self.old }
         ensures received { (received : Received)

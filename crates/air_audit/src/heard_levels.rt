@@ -15,7 +15,7 @@ use std::marker::Model;
 use tag_machine::{Choice, Several};
 use tag_population::Answers;
 
-/// How many levels there is room for: more than the 131,968 of the longest stream.
+/// How many levels an audit has room for: more than the 131,968 of the longest stream.
 pub(crate) const STREAM_ROOM: u32 = 132_208;
 
 /// How many bits the longest reply has.
@@ -55,14 +55,14 @@ impl HeardLevels {
         Ok(HeardLevels { link, bits, levels })
     }
 
-    /// The link.
+    /// The link over which the interrogator hears.
     pub(crate) fn link(&self) -> &Link
         ensures { result.now ≡ self.now.link }
     {
         &self.link
     }
 
-    /// The levels.
+    /// The levels that the interrogator heard last.
     pub(crate) fn levels(&self) -> &Levels
         ensures value { result.now.items ≡ self.now.levels }
         ensures few { length self.now.levels ≤ room_for_audited_streams }

@@ -44,7 +44,7 @@ pub fn form_in(text: &[u8]) -> Option<Form>
     }
 }
 
-/// Adds a word.
+/// Adds a word to the words of a call.
 fn add(alloc: Global, words: &mut Vec<String>, word: &str) -> Result<(), AllocError>
     ensures { OnOk result (texts words.new.items ≡ texts words.old.items ++ word.now ∷ []) }
 {

@@ -69,7 +69,7 @@ key_name keys.Value = codes "value"
 key_name keys.Wanted = codes "preamble"
 key_name keys.Words = codes "words"
 
--- what its value is made of
+-- what the value of a member is made of, in the object of a line
 abbrev pub key_shape : Key → Shape
 key_shape keys.Action = Number
 key_shape keys.Count = Number

@@ -6,14 +6,14 @@ use Rattle.line_objects.specs.declared.rows.LineSet.{LineSet}
 use Rattle.line_objects.specs.declared.rows.LineSet.TheVariants as sets
 use Rattle.line_objects.specs.declared.rows.Row.{Row}
 
--- a word, and the members that stand behind it
+-- a row of a table of lines: a word, and the members that stand behind it
 abbrev pub RowValue : Type 0
 RowValue = List ℕ × List Key
 
 abbrev pub row_of : Row → RowValue
 row_of row = (row.0.now, row.1.now)
 
--- the replies of a tag
+-- the table of the replies of a tag: the word of each, and the members behind it
 abbrev pub reply_rows : List RowValue
 reply_rows =
     (codes "rn16", Rn16 ∷ [])
@@ -24,7 +24,7 @@ reply_rows =
     ∷ (codes "error", Error ∷ [])
     ∷ []
 
--- the commands (6.3.2.11)
+-- the table of the commands (6.3.2.11): the word of each, and the members behind it
 abbrev pub command_rows : List RowValue
 command_rows =
     (codes "queryrep", Session ∷ [])
@@ -43,7 +43,7 @@ command_rows =
     ∷ (codes "blockerase", Bank ∷ Ptr ∷ Count ∷ Rn ∷ [])
     ∷ []
 
--- the states of a tag (6.3.2.4), with the flags and the numbers that stand behind each
+-- the table of the states of a tag (6.3.2.4): the word of each, and the flags and the numbers behind it
 abbrev pub state_rows : List RowValue
 state_rows =
     (codes "ready", Flags ∷ [])
@@ -56,7 +56,7 @@ state_rows =
     ∷ (codes "off", Flags ∷ [])
     ∷ []
 
--- what a channel gives
+-- the table of what a channel gives of the replies in an exchange: its word, and the members behind it
 abbrev pub given_rows : List RowValue
 given_rows =
     (codes "silence", [])
@@ -65,7 +65,7 @@ given_rows =
     ∷ (codes "raw", [])
     ∷ []
 
--- the lines that answer decode lines, without replies and commands
+-- the table of the lines that answer decode lines, but for those of replies and of commands
 abbrev pub answer_rows : List RowValue
 answer_rows =
     (codes "bits", Bits ∷ [])
@@ -82,7 +82,7 @@ answer_rows =
     ∷ (codes "sgtin", EpcWords ∷ [])
     ∷ []
 
--- the lines that tell of a tag at the bench
+-- the table of the lines that `probe` writes of a tag at the bench
 abbrev pub probe_rows : List RowValue
 probe_rows =
     (codes "answer", Line ∷ Preamble ∷ Reply ∷ [])
@@ -91,14 +91,14 @@ probe_rows =
     ∷ (codes "done", [])
     ∷ []
 
--- the lines that say whether a trace is audited
+-- the table of the lines that `audit` writes: whether a trace is audited
 abbrev pub audit_rows : List RowValue
 audit_rows =
     (codes "yes", [])
     ∷ (codes "no", Line ∷ Reason ∷ [])
     ∷ []
 
--- the lines that say what is judged of a log
+-- the table of the lines that `judge` writes: what is judged of the log of one tag
 abbrev pub judge_rows : List RowValue
 judge_rows =
     (codes "yes", [])
@@ -106,11 +106,11 @@ judge_rows =
     ∷ (codes "no", Line ∷ Wanted ∷ Reply ∷ [])
     ∷ []
 
--- what may stand behind nothing that had to be answered
+-- the table of what may stand in a line of `judge` behind the hyphen that says that nothing had to be answered
 abbrev pub want_rows : List RowValue
 want_rows = (codes "-", Or ∷ OrPreamble ∷ Reply ∷ []) ∷ []
 
--- the lines of a report that says who said what in an exchange
+-- the table of the lines of a report that says who said what in each exchange
 abbrev pub report_rows : List RowValue
 report_rows =
     (codes "exchange", Exchange ∷ Command ∷ [])
@@ -130,7 +130,7 @@ abbrev pub keys_in : List RowValue → List ℕ → List Key → List Key
 keys_in [] word others = others
 keys_in (row ∷ rows) word others = if bytes_eq word row.0 then row.1 else keys_in rows word others
 
--- the members behind the first field of a line
+-- the members of a line's object behind its first field, by the word in that field and the set that the line is of
 abbrev pub line_keys : LineSet → List ℕ → List Key
 line_keys sets.Decode word = keys_in answer_rows word (keys_in reply_rows word (keys_in command_rows word []))
 line_keys sets.Probe word = keys_in probe_rows word []

@@ -19,7 +19,7 @@ abbrev pub number_value : Option ℕ → Data
 number_value None = null
 number_value (Some n) = number (unsigned n)
 
--- a text without the hyphen that stands for an empty one
+-- the text that a field of a line says, where a hyphen stands for the empty text
 abbrev pub without_hyphen : List ℕ → List ℕ
 without_hyphen field = if bytes_eq field (codes "-") then [] else field
 

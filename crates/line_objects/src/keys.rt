@@ -2,7 +2,7 @@
 ghost use Rattle.std.specs.Prelude.{◌≡◌};
 ghost use Rattle.line_objects.specs.Keys.{key_name, key_shape};
 
-/// A member of an object.
+/// A member that the object of a line may have, without its value.
 #[derive(Clone, Copy, Debug, PartialEq, Eq)]
 pub enum Key {
     /// What a Select does (6.3.2.11.1.1).
@@ -214,7 +214,7 @@ impl Key {
         }
     }
 
-    /// What its value is made of.
+    /// What the value of this member is made of, in the object of a line.
     pub fn shape(self) -> Shape
         ensures { result ≡ key_shape self }
     {

@@ -25,7 +25,7 @@ pub(crate) enum Value<'a> {
     Uri(Uri),
 }
 
-/// A member of an object.
+/// A member of the object of a line: its name and its value.
 #[derive(Drop)]
 pub(crate) struct Member<'a> {
     pub(crate) name: &'static str,
@@ -38,7 +38,7 @@ pub(crate) struct Object<'a> {
     pub(crate) members: Vec<Member<'a>>,
 }
 
-/// A text without the hyphen that stands for an empty one.
+/// The text that a field of a line says: the empty text where the field is a hyphen.
 fn without_hyphen(text: &[u8]) -> &[u8]
     ensures { result.now ≡ without_hyphen text.now }
 {
@@ -67,7 +67,7 @@ fn send_number<S: Serializer>(out: &mut S, number: Option<u64>) -> Result<(), S:
     }
 }
 
-/// Sends a value.
+/// Sends the value of a member: a number, a text or a URI.
 fn send_value<S: Serializer>(out: &mut S, value: &Value<'_>) -> Result<(), S::Error>
     ensures { OnOk result (SendsValue (data_of value.now) (S.written out.old) (S.written out.new)) }
 {

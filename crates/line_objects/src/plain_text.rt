@@ -33,7 +33,7 @@ impl PlainText {
         }
     }
 
-    /// What was written.
+    /// The plain text that was written to this sink.
     pub fn as_slice(&self) -> &[u8]
         ensures { result.now ≡ self.now.written }
     {

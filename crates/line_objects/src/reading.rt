@@ -14,7 +14,7 @@ use bit_strings::OutOfMemory;
 use std::alloc::Global;
 use text_fields::Fields;
 
-/// Adds a member.
+/// Adds a member, with its name and its value, to the members of a line's object.
 fn push_member<'a>(
     members: &mut Vec<Member<'a>>,
     name: &'static str,

@@ -19,11 +19,11 @@ pub enum LineSet {
     Exchanges,
 }
 
-/// A word, and the members that stand behind it.
+/// A row of a table of lines: a word, and the members that stand behind it.
 #[derive(Clone, Copy)]
 struct Row(&'static [u8], &'static [Key]);
 
-/// The replies of a tag.
+/// The table of the replies of a tag: the word of each, and the members behind it.
 const REPLY_ROWS: &[Row] = &[
     Row(b"rn16", &[Key::Rn16]),
     Row(b"epc", &[Key::Pc, Key::Epc]),
@@ -33,7 +33,7 @@ const REPLY_ROWS: &[Row] = &[
     Row(b"error", &[Key::Error]),
 ];
 
-/// The commands (6.3.2.11).
+/// The table of the commands (6.3.2.11): the word of each, and the members behind it.
 const COMMAND_ROWS: &[Row] = &[
     Row(b"queryrep", &[Key::Session]),
     Row(b"ack", &[Key::Rn]),
@@ -75,7 +75,7 @@ const HANDLE_KEYS: &[Key] = &[
     Key::Half,
 ];
 
-/// The states of a tag (6.3.2.4), with the flags and the numbers that stand behind each.
+/// The table of the states of a tag (6.3.2.4): the word of each, and the flags and the numbers behind it.
 const STATE_ROWS: &[Row] = &[
     Row(b"ready", &[Key::Flags]),
     Row(b"arbitrate", &[Key::Flags, Key::Session, Key::Q, Key::Slot]),
@@ -90,7 +90,7 @@ const STATE_ROWS: &[Row] = &[
     Row(b"off", &[Key::Flags]),
 ];
 
-/// What a channel gives.
+/// The table of what a channel gives of the replies in an exchange: its word, and the members behind it.
 const GIVEN_ROWS: &[Row] = &[
     Row(b"silence", &[]),
     Row(b"whole", &[Key::Tag]),
@@ -98,7 +98,7 @@ const GIVEN_ROWS: &[Row] = &[
     Row(b"raw", &[]),
 ];
 
-/// The lines that answer decode lines, without replies and commands.
+/// The table of the lines that answer decode lines, but for those of replies and of commands.
 const ANSWER_ROWS: &[Row] = &[
     Row(b"bits", &[Key::Bits]),
     Row(b"invalid", &[Key::Place]),
@@ -126,7 +126,7 @@ const TAG_KEYS: &[Key] = &[
     Key::User,
 ];
 
-/// The lines that tell of a tag at the bench.
+/// The table of the lines that `probe` writes of a tag at the bench.
 const PROBE_ROWS: &[Row] = &[
     Row(b"answer", &[Key::Line, Key::Preamble, Key::Reply]),
     Row(b"state", &[Key::Line, Key::StateOf]),
@@ -134,20 +134,20 @@ const PROBE_ROWS: &[Row] = &[
     Row(b"done", &[]),
 ];
 
-/// The lines that say whether a trace is audited.
+/// The table of the lines that `audit` writes: whether a trace is audited.
 const AUDIT_ROWS: &[Row] = &[Row(b"yes", &[]), Row(b"no", &[Key::Line, Key::Reason])];
 
-/// The lines that say what is judged of a log.
+/// The table of the lines that `judge` writes: what is judged of the log of one tag.
 const JUDGE_ROWS: &[Row] = &[
     Row(b"yes", &[]),
     Row(b"profile", &[Key::Line, Key::Wanted, Key::Reply]),
     Row(b"no", &[Key::Line, Key::Wanted, Key::Reply]),
 ];
 
-/// What may stand behind nothing that had to be answered.
+/// The table of what may stand in a line of `judge` behind the hyphen that says that nothing had to be answered.
 const WANT_ROWS: &[Row] = &[Row(b"-", &[Key::Or, Key::OrPreamble, Key::Reply])];
 
-/// The lines of a report that says who said what in an exchange.
+/// The table of the lines of a report that says who said what in each exchange.
 const REPORT_ROWS: &[Row] = &[
     Row(b"exchange", &[Key::Exchange, Key::Command]),
     Row(b"missed", &[Key::Exchange, Key::Tag]),
@@ -183,7 +183,7 @@ fn keys_in(rows: &[Row], word: &[u8], others: &'static [Key]) -> &'static [Key]
     }
 }
 
-/// The members behind the first field of a line.
+/// The members of a line's object behind its first field, by the word in that field and the set that the line is of.
 pub fn line_keys(set: LineSet, word: &[u8]) -> &'static [Key]
     ensures { result.now ≡ line_keys set word.now }
 {

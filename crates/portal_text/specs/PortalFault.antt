@@ -43,7 +43,7 @@ abbrev pub first_refused : (number next : ℕ) → List Line → Option ℕ
 first_refused number next [] = None
 first_refused number next (line ∷ later) = if is_refused next line then Some number else first_refused (number + 1) (next_behind next line) later
 
--- ... of a scenario: the first round is to be one of session 2
+-- the number of the first line of a scenario that one of two portals doesn't have: the first round is to be one of session 2
 abbrev pub portal_fault : Scenario → Option ℕ
 portal_fault scenario = first_refused 1 2 (scenario_lines scenario)
 

@@ -64,6 +64,6 @@ version_lines =
 abbrev pub version_text : List ℕ
 version_text = text_with version_lines
 
--- the version as one number: 1,000,000 for each major version, 1,000 for each minor one, and 1 for each patch
+-- the program's version as a number: 1,000,000 for each major version, 1,000 for each minor one, and 1 for each patch
 abbrev pub version_number : ℕ
 version_number = 1000000

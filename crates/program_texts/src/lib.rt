@@ -68,7 +68,7 @@ pub fn version_text() -> &'static str
     )
 }
 
-/// The version as one number: 1,000,000 for each major version, 1,000 for each minor one, and 1 for each patch.
+/// The program's version as a number: 1,000,000 for each major version, 1,000 for each minor one, and 1 for each patch.
 pub fn version_number() -> u32
     ensures number { result ≡ version_number }
 {

@@ -16,7 +16,7 @@ use Rattle.value_text.specs.ValueText.{locks_text}
 abbrev pub digits_of : List ℕ → List ℕ
 digits_of words = flat_map hex_word words
 
--- how an operation ended, as a word
+-- how an operation with a tag ended, as the word in the JSON object of its line
 abbrev pub result_word : OpResult → List ℕ
 result_word (results.Ok words) = codes "ok"
 result_word (results.TagError code) = codes "error"

@@ -20,7 +20,7 @@ most_rx_levels = 132000
 abbrev pub text_of : ReportLine → List ℕ
 text_of line = line_with (report_fields line)
 
--- the word that a line begins with
+-- the first field of a line of a trace: the word that the line begins with
 abbrev pub first_field : List ℕ → List ℕ
 first_field line = get_or (fields_of line) 0 []
 
@@ -40,7 +40,7 @@ pub record TxFields (line : List ℕ) : Type 0 where
   pub few : length intervals ≤ most_tx_intervals
   pub short : All (λ interval. interval ≤ longest_interval) intervals
 
--- ... of an rx line: the number of the exchange, how many tags replied, and the levels that came
+-- the fields of an rx line are of their forms: the number of the exchange, how many tags replied, and the levels that came
 pub record RxFields (line : List ℕ) : Type 0 where
   pub exchange : List ℕ
   pub count : List ℕ
@@ -64,7 +64,7 @@ IsNoTx line Word = first_field line ≢ codes "tx"
 IsNoTx line Shape = (first_field line ≡ codes "tx") × (¬ HasTxShape line)
 IsNoTx line Number = (first_field line ≡ codes "tx") × HasTxShape line × (¬ TxFields line)
 
--- ... no rx line
+-- the first reason for which a line is no rx line
 abbrev pub IsNoRx : List ℕ → FieldsFault → Type 0
 IsNoRx line Word = first_field line ≢ codes "rx"
 IsNoRx line Shape = (first_field line ≡ codes "rx") × (¬ HasRxShape line)

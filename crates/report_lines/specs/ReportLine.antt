@@ -42,7 +42,7 @@ pub data ReportLine : Type 0 where
   ListLine : (round slot pc : ℕ) → (epc : List ℕ) → ReportLine
   -- an operation with a listed tag had its result: its number, counted from 1, with the round and the slot
   OpLine : (round slot index : ℕ) → (result : OpResult) → ReportLine
-  -- a round ended, which had so many slots
+  -- a round ended: how it ended, and how many slots it had
   RoundLine : (round : ℕ) → (end : RoundEnd) → (slots : ℕ) → ReportLine
   -- how often a PC and an EPC were listed
   SeenLine : (count pc : ℕ) → (epc : List ℕ) → ReportLine
@@ -98,7 +98,7 @@ given_fields (gave.Whole tag reply) = codes "whole" ∷ decimal tag ∷ []
 given_fields (gave.Broken tag place) = codes "broken" ∷ decimal tag ∷ decimal place ∷ []
 given_fields gave.Raw = codes "raw" ∷ []
 
--- the fields of a line
+-- the fields of a line of a report
 abbrev pub report_fields : ReportLine → List (List ℕ)
 report_fields (BlfLine numerator denominator) = codes "blf" ∷ (decimal numerator ++ codes "/" ++ decimal denominator) ∷ []
 report_fields (ExchangeLine exchange command) = codes "exchange" ∷ decimal exchange ∷ command_fields command
@@ -123,6 +123,6 @@ report_line_text line = line_with (report_fields line) ++ line_feed ∷ []
 abbrev pub text_by : (ReportLine → List ℕ) → List ReportLine → List ℕ
 text_by text_of lines = flat_map text_of lines
 
--- ... as lines of a report
+-- lines of a report as text, each with its line feed
 abbrev pub report_text : List ReportLine → List ℕ
 report_text lines = text_by report_line_text lines

@@ -31,7 +31,7 @@ abbrev pub count_of : List SeenCount → ℕ × List ℕ → ℕ
 count_of [] pair = 0
 count_of (seen ∷ others) pair = if counts_pair pair seen then seen.count else count_of others pair
 
--- how often a pair was listed in all
+-- how often pairs of PC and EPC were listed in all: the sum of their counts
 abbrev pub total_of : List SeenCount → ℕ
 total_of [] = 0
 total_of (seen ∷ others) = seen.count + total_of others

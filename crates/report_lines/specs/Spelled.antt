@@ -48,7 +48,7 @@ pub record SpellingValue : Type 0 where
 abbrev pub new_spelling : Mode → LinkValue → SpellingValue
 new_spelling mode link = record { mode = mode; dump = record { link = link; dump = new_dump link } }
 
--- ... of a spelling that stands so
+-- the text of a line of a report, by the mode of the spelling and where its dump stands
 abbrev pub line_of_mode : SpellingValue → ReportLine → List ℕ
 line_of_mode spelling line = spelled_line spelling.mode spelling.dump line
 

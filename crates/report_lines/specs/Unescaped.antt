@@ -12,7 +12,7 @@ use Rattle.tag_memory.specs.Memory.{AreBanksOfWords}
 abbrev pub IsUnescaped : List ℕ → Type 0
 IsUnescaped text = escape text ≡ text
 
--- a value that is a text stands so
+-- a value that is a text stands in JSON without escapes
 abbrev pub HasPlainText : Data → Type 0
 HasPlainText (string text) = IsUnescaped text
 HasPlainText value = Unit {0}
@@ -27,7 +27,7 @@ BringsWords (results.Ok words) = AreWords words
 BringsWords (results.TagError code) = code < 2 ^ 8
 BringsWords result = Unit {0}
 
--- ... and so are the words of a line
+-- the words in a line of a report are numbers of 16 bits: a PC and an EPC, what an operation brought, and the memory of a tag
 abbrev pub HasWords : ReportLine → Type 0
 HasWords (ListLine round slot pc epc) = (pc < 2 ^ 16) × AreWords epc
 HasWords (OpLine round slot index result) = BringsWords result

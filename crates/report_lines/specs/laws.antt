@@ -1,2 +1,2 @@
--- Laws of the definitions.
+-- Laws of the definitions of the text of a report.
 pub mod TextReportLaws

@@ -20,7 +20,7 @@ use q_round::RoundEnd;
 use reply_grammar::EpcWords;
 use tag_machine::AnyTag;
 
-/// How an operation ended, as a word.
+/// How an operation with a tag ended, as the word in the JSON object of its line.
 fn result_name(ended: &OpResult) -> &'static str
     ensures { result.now ≡ result_word ended.now }
 {

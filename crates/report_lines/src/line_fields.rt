@@ -5,7 +5,7 @@ ghost use Rattle.report_lines.specs.ReadLines.{IsDecimal, first_field};
 
 use text_fields::Fields;
 
-/// How many fields a line has.
+/// How many fields a line has that is read as a tx line or an rx line.
 pub(crate) fn field_count(line: &[u8]) -> usize
     ensures { result ≡ length (fields_of line.now) }
 {
@@ -32,7 +32,7 @@ fn split_word(line: &[u8]) -> (&[u8], Fields<'_>)
     }
 }
 
-/// The word that a line begins with.
+/// The first field of a line of a trace: the word that the line begins with.
 pub fn first_field(line: &[u8]) -> &[u8]
     ensures { result.now ≡ first_field line.now }
 {

@@ -14,7 +14,7 @@ use text_fields::{
     push_next_words, push_number,
 };
 
-/// Ends a line.
+/// Ends a line of a report with its line feed.
 pub(crate) fn end_line(text: &mut String) -> Result<(), OutOfMemory>
     ensures { OnOk result (string_bytes text.new ≡ string_bytes text.old ++ line_feed ∷ []) }
 {

@@ -38,7 +38,7 @@ impl Model for ModeSpelling {
 }
 
 impl ModeSpelling {
-    /// Nothing was told yet, of a run over this link.
+    /// The spelling of a mode's report of a run over this link, of which no line was told yet.
     pub fn new(alloc: Global, mode: Mode, link: Link) -> Result<ModeSpelling, OutOfMemory>
         ensures { IfOk result (λ spelling. spelling ≡ new_spelling mode link) }
     {

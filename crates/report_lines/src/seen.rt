@@ -33,7 +33,7 @@ impl Model for SeenCounts {
     ghost view = { λ a. seen_of_listed a.counts.entries };
 }
 
-/// A copy of the words of an EPC.
+/// A copy of the words of an EPC that was listed, to be kept with its count.
 fn copy_of(epc: &EpcWords) -> Result<EpcWords, OutOfMemory>
     ensures { IfOk result (λ copy. copy ≡ epc.now) }
 {
@@ -83,7 +83,7 @@ impl SeenCounts {
         self.counts.len()
     }
 
-    /// How often a pair was listed in all.
+    /// How often pairs of PC and EPC were listed in all: the sum of their counts.
     pub fn total(&self) -> u64
         requires { total_of self.now < 2 ^ 64 }
         ensures { result ≡ total_of self.now }

@@ -37,7 +37,7 @@ pub trait Spelling {
         ensures { IsFalse result → (line : ReportLine) → is_of_exchanges line ≡ true
             → (text_of self.now line ≡ []) × (behind self.now line ≡ self.now) };
 
-    /// Whether a line that a trace alone has may make a difference.
+    /// Whether a report line that only a trace has may change the text, or where the spelling stands.
     fn wants_frames(&self) -> bool
         ensures { IsFalse result → (line : ReportLine) → is_of_trace line ≡ true
             → (text_of self.now line ≡ []) × (behind self.now line ≡ self.now) };

@@ -10,7 +10,7 @@ use text_fields::FieldsFault;
 /// How many intervals a line has at most.
 pub const MOST_INTERVALS: u32 = 20_000;
 
-/// The longest interval, in nanoseconds.
+/// The longest interval that a tx line may have, in nanoseconds.
 const LONGEST_INTERVAL: u32 = 999_999;
 
 /// Whether a line has a word, a number and from 1 to 20,000 intervals, by the number of its fields.

@@ -37,7 +37,7 @@ pub record IsCountedRound (start : Start) (history : List Item) (round : ℕ) (s
   pub spoken_to : (number : ℕ) (tag : TagValue) → HasNumber start number tag → 1 ≤ times number (tags_listed_in round history)
       → is_spoken_to spec (tag_after_query round history number tag) ≡ true
   pub numbered : (number : ℕ) → 1 ≤ times number (tags_listed_in round history) → IsMatchedTag start history round number
-  -- ... with the PC and the EPC in its memory
+  -- each tag that is listed is listed with the PC and the EPC in its memory
   pub own_epc : (sent : Record) (earlier : List Item) (number : ℕ) (tag : TagValue) → IsRecordOf history sent earlier → sent.round ≡ round
       → HasNumber start number tag → sender_listed_by sent ≡ number ∷ []
       → listed_by sent ≡ listed_as sent (tag_after_query round history number tag).body.memory ∷ []

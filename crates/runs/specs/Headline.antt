@@ -23,7 +23,7 @@ use Rattle.tag_machine.specs.Answers.{Sent}
 use Rattle.tag_machine.specs.Step.{step}
 use Rattle.tag_machine.specs.TagValue.{TagValue, is_present}
 
--- 6.3.2.11.1.1 Select
+-- 6.3.2.11.1.1 Select: the command is a Select
 abbrev pub IsSelect : Command → Type 0
 IsSelect (commands.Select target action bank pointer mask) = Unit {0}
 IsSelect command = ⊥
@@ -40,7 +40,7 @@ IsLegalStep steps.Nak = Unit {0}
 IsLegalStep (steps.Event event number) = Unit {0}
 IsLegalStep (steps.Round spec operations) = IsLegalRound spec operations
 
--- ... of each step
+-- what is used of the limits of a scenario by all its steps: each Select step sends a Select, and the rounds are legal
 abbrev pub AreLegalSteps : List Step → Type 0
 AreLegalSteps steps = AllByRecursion IsLegalStep steps
 

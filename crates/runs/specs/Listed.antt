@@ -13,7 +13,7 @@ sender_in (whole replied) = replied.number ∷ []
 sender_in (broken replied place) = []
 sender_in (raw code trext levels) = []
 
--- ... where a record lists something
+-- who sent what the channel gave whole, where the record of the exchange lists something
 abbrev pub sender_where : List Listed → Given → List ℕ
 sender_where [] given = []
 sender_where (listed ∷ more) given = sender_in given
@@ -34,7 +34,7 @@ tags_listed_where test (ended round end slots ∷ past) = tags_listed_where test
 abbrev pub is_of_round : ℕ → Record → Bool
 is_of_round round sent = sent.round == round
 
--- ... and of a slot of it
+-- the record is one of a slot of a round
 abbrev pub is_of_slot : ℕ → ℕ → Record → Bool
 is_of_slot round slot sent = sent.round == round && sent.slot == slot
 

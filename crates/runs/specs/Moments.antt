@@ -8,7 +8,7 @@ use Rattle.session_flags.specs.declared.flags.Flags.{Flags}
 use Rattle.runs.specs.TagInRound.{is_matched}
 use Rattle.tag_machine.specs.TagValue.{TagValue}
 
--- 6.3.2.11.2.1 Query
+-- 6.3.2.11.2.1 Query: the command is a Query, which begins a round
 abbrev pub is_query : Command → Bool
 is_query (commands.Query dr code trext sel session target q) = true
 is_query command = false

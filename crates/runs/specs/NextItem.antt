@@ -66,7 +66,7 @@ abbrev pub dialogue_behind_record : Start → Record → Dialogue → Dialogue
 dialogue_behind_record start sent (sends command expect extended go_on) = go_on (reception_with start.link.trext extended expect sent.given)
 dialogue_behind_record start sent dialogue = done
 
--- ... and behind a result
+-- what is left of a dialogue behind the result that it tells
 abbrev pub dialogue_behind_result : Dialogue → Dialogue
 dialogue_behind_result (tells result later) = later
 dialogue_behind_result dialogue = done

@@ -133,6 +133,6 @@ pub record IsListedBySound (recount : Recount) (number : ℕ) (tag : TagValue) :
 abbrev pub enough_from_fresh : ℕ → ℕ
 enough_from_fresh unsound = 2 * unsound + 1
 
--- ... and two more whatever the flag and the state of the tag were
+-- As many rounds are enough where so many may be unsound: two for each of them, and two more, whatever the flag and the state of the tag were.
 abbrev pub enough_from_any : ℕ → ℕ
 enough_from_any unsound = 2 * unsound + 2

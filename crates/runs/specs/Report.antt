@@ -67,6 +67,6 @@ run_lines start steps =
 abbrev pub report_of : Mode → Start → List Step → List ReportLine
 report_of mode start steps = filter (keeps mode) (run_lines start steps)
 
--- ... and of a scenario, as the text of its mode
+-- the report of a scenario, as the text of its mode
 abbrev pub report_text_of : Mode → Scenario → List ℕ
 report_text_of mode scenario = text_in mode scenario.link (report_of mode (start_of scenario) scenario.steps)

@@ -19,11 +19,11 @@ use Rattle.two_portals.specs.Played.{Played}
 abbrev pub pair_listed : Listed → ℕ × List ℕ
 pair_listed listed = (listed.pc, listed.epc)
 
--- ... and those that a record lists
+-- the pairs of PC and EPC that a record lists
 abbrev pub pairs_listed_by : Record → List (ℕ × List ℕ)
 pairs_listed_by sent = map pair_listed (listed_by sent)
 
--- ... and that were listed since the last round ended, in the order in which they came
+-- the pairs of PC and EPC that were listed since the last round ended, in the order in which they came
 abbrev pub pairs_since : List Item → List (ℕ × List ℕ)
 pairs_since [] = []
 pairs_since (befell event number ∷ past) = pairs_since past

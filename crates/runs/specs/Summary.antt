@@ -45,6 +45,6 @@ summary_of_past start past = record {
   quiet = all_quiet past;
 }
 
--- ... and the history of a scenario
+-- what a run of a scenario counts, over its history
 abbrev pub summary_of : Scenario → Summary
 summary_of scenario = summary_of_past (start_of scenario) (history scenario)

@@ -137,7 +137,7 @@ pub record StandsAfterSlot (session q : ℕ) (frame : List Outcome) (first : Tag
   pub state : IsAfterSlot session q frame (is_matched first.state) listed tag.state
   pub body : KeepsBody session listed first.body tag.body
 
--- ... and where it stands just before the next slot command, or before the end of the round
+-- where a tag stands just before the next slot command of a round or before the end of the round, behind whose Query it was the first tag value
 pub record StandsBeforeSlot (session q : ℕ) (outcome : Outcome) (frame : List Outcome) (first : TagValue) (listed listed_now : Bool) (tag : TagValue) : Type 0 where
   pub state : IsBeforeSlot session q outcome frame (is_matched first.state) listed listed_now tag.state
   pub body : KeepsBody session listed first.body tag.body

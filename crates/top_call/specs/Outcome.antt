@@ -12,7 +12,7 @@ use Rattle.top_call.specs.declared.ending.WriteEnd.TheVariants as ends
 use Rattle.top_call.specs.declared.status.Status.{Status}
 use Rattle.top_call.specs.declared.status.Status.TheVariants.{Done, BadWords, BadInput, ReadFault, WriteFault, TooLong, OutOfMemory}
 
--- how many bytes of input are read at most
+-- how many bytes the program reads of its input at most
 abbrev pub input_limit : ℕ
 input_limit = 16777216
 
@@ -22,7 +22,7 @@ pub record ReadsAll (old new : Option (List ℕ)) (bytes : List ℕ) : Type 0 wh
   pub end : AtEnd new
   pub limit : length bytes ≤ input_limit
 
--- nothing was read
+-- nothing was read of the source
 pub record ReadsNothing (old new : Option (List ℕ)) (bytes : List ℕ) : Type 0 where
   pub none : bytes ≡ []
   pub same : new ≡ old
@@ -126,14 +126,14 @@ Tells job source sink untouched OutOfMemory =
     × ((ReadsWithin source.left source.left' × (sink.written' ≡ sink.written)) ⊎ WritesFront job source.left source.left' sink.written sink.written')
 Tells job source sink untouched BadWords = ⊥
 
--- the status of an end of the writing
+-- the status of the program by how the writing of its text ended
 abbrev pub status_of : Result Wrote WriteEnd → Status
 status_of (Ok Text) = Done
 status_of (Ok FaultLine) = BadInput
 status_of (Err ends.Fault) = WriteFault
 status_of (Err ends.OutOfMemory) = OutOfMemory
 
--- the status where a source was not read to its end
+-- the status of the program where its source was not read to its end
 abbrev pub unread_status : ReadEnd → Status
 unread_status read_ends.Fault = ReadFault
 unread_status read_ends.TooLong = TooLong

@@ -7,7 +7,7 @@ use air_io::{ReadEnd, Sink, WriteFailed, write_all};
 use air_world::PlayFault;
 use std::alloc::AllocError;
 
-/// How many bytes of input are read at most.
+/// How many bytes the program reads of its input at most.
 pub const MOST_INPUT_BYTES: u32 = 16_777_216;
 
 /// What was written whole.
@@ -78,7 +78,7 @@ pub(crate) fn write_text<O: Sink>(
     Ok(wrote)
 }
 
-/// The status of an end of the writing.
+/// The status of the program by how the writing of its text ended.
 pub(crate) fn status_of(end: Result<Wrote, WriteEnd>) -> Status
     ensures { result ≡ status_of end }
 {
@@ -90,7 +90,7 @@ pub(crate) fn status_of(end: Result<Wrote, WriteEnd>) -> Status
     }
 }
 
-/// The status where a source was not read to its end.
+/// The status of the program where its source was not read to its end.
 pub(crate) fn unread_status(end: ReadEnd) -> Status
     ensures { result ≡ unread_status end }
 {

@@ -21,11 +21,11 @@ use Rattle.wave_dump.specs.declared.exchanged.Gave.TheVariants as gave
 abbrev pub latest_time : ℕ
 latest_time = 2 ^ 64 - 1
 
--- the time that lies so much behind a time
+-- the time that lies so many nanoseconds behind a time of a dump, and at most the latest time that a dump tells
 abbrev pub later : ℕ → ℕ → ℕ
 later time gap = min (time + gap) latest_time
 
--- so many periods of the backscatter link frequency, rounded down
+-- how many nanoseconds so many periods of the backscatter link frequency last, rounded down
 abbrev pub periods : LinkValue → ℕ → ℕ
 periods link count = count * (blf_of link).1 / (blf_of link).0
 
@@ -115,11 +115,11 @@ first_signals = idle_between 0 0 none_text
 abbrev pub sent_signals : Exchanged → Signals
 sent_signals exchanged = idle_between exchanged.number 0 (with_underscores (command_line exchanged.command))
 
--- ... where tags replied, of which no stream came
+-- the signals of a dump behind the frame of an exchange, where tags replied of which no stream came
 abbrev pub unheard_signals : Exchanged → Signals
 unheard_signals exchanged = record (sent_signals exchanged) { replies = exchanged.replies }
 
--- ... and where a stream came, in whose levels the tags' signal is the level
+-- the signals of a dump where a stream comes in an exchange, in whose levels the tags' signal is the level
 abbrev pub heard_signals : Exchanged → Signals
 heard_signals exchanged = record (unheard_signals exchanged) { reply = reply_value exchanged.given }
 
@@ -254,7 +254,7 @@ pub record DumpValue : Type 0 where
 abbrev pub new_dump : LinkValue → DumpValue
 new_dump link = record { begin = t4 link; signals = first_signals }
 
--- behind an exchange
+-- where a dump stands behind an exchange
 abbrev pub dump_behind : LinkValue → DumpValue → Exchanged → DumpValue
 dump_behind link dump exchanged = record {
   begin = begin_behind link exchanged.command (frame_end dump.begin exchanged.intervals) exchanged.levels;

@@ -91,7 +91,7 @@ fn push_answer(
 }
 
 impl Dump {
-    /// Nothing was told yet, of a run over this link.
+    /// The dump of a run over this link, before its first frame.
     pub fn new(alloc: Global, link: Link) -> Result<Dump, OutOfMemory>
         ensures { IfOk result (λ dump. dump ≡ record { link = link; dump = new_dump link }) }
     {

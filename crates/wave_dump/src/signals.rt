@@ -44,7 +44,7 @@ fn same_text(one: &str, other: &str) -> bool
     one == other
 }
 
-/// No signal changes.
+/// Whether no signal of a dump changes from one moment to another.
 fn are_same(old: &Signals<'_>, new: &Signals<'_>) -> bool
     ensures { IsTrue result ↔ (change_lines (signals_of old.now) (signals_of new.now) ≡ []) }
 {
@@ -139,7 +139,7 @@ pub(crate) fn push_changes(
     push_text_value(text, old.reply, new.reply, " g")
 }
 
-/// Writes a time.
+/// Writes the line of a time in a dump: `#` and the time in nanoseconds.
 pub(crate) fn push_time(text: &mut String, time: u64) -> Result<(), OutOfMemory>
     ensures { OnOk result (string_bytes text.new ≡ string_bytes text.old
         ++ text_with (time_line time ∷ [])) }

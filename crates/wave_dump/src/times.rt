@@ -5,14 +5,14 @@ ghost use Rattle.wave_dump.specs.Waves.{answer_begin, begin_behind_silence, late
 use command_grammar::Command;
 use pie_line::Link;
 
-/// The time that lies so much behind a time.
+/// The time that lies so many nanoseconds behind a time of a dump, and at most the latest time that a dump tells.
 pub(crate) fn later(time: u64, gap: u64) -> u64
     ensures { result ≡ later time gap }
 {
     time.saturating_add(gap)
 }
 
-/// So many periods of the backscatter link frequency, rounded down.
+/// How many nanoseconds so many periods of the backscatter link frequency last, rounded down.
 fn periods(link: &Link, count: u32) -> u64
     ensures { result ≡ periods link.now count }
 {
@@ -35,21 +35,21 @@ fn t1(link: &Link) -> u64
     u64::from(link.rtcal()).max(periods(link, 10))
 }
 
-/// T2.
+/// T2 (6.3.1.6 Link timing), which lies between a reply and the next frame.
 pub(crate) fn t2(link: &Link) -> u64
     ensures { result ≡ t2 link.now }
 {
     periods(link, 10)
 }
 
-/// T3.
+/// T3 (6.3.1.6 Link timing), which an interrogator waits behind T1 for a reply.
 fn t3(link: &Link) -> u64
     ensures { result ≡ t3 link.now }
 {
     periods(link, 3)
 }
 
-/// T4.
+/// T4 (6.3.1.6 Link timing), which lies between two commands.
 pub(crate) fn t4(link: &Link) -> u64
     ensures { result ≡ t4 link.now }
 {

@@ -29,7 +29,7 @@ pub spelling_behind-more : {S : Type 0} (behind : S → ReportLine → S) (spell
 spelling_behind-more behind spelling [] line = refl
 spelling_behind-more behind spelling (first ∷ lines) line = spelling_behind-more behind (behind spelling first) lines line
 
--- ... and the text, as it grows by the text of lines
+-- the text of the lines of a report grows by the text of the lines that come behind them
 pub text_from-append : {S : Type 0} (text_of : S → ReportLine → List ℕ) (behind : S → ReportLine → S) (spelling : S) (lines more : List ReportLine)
     → text_from text_of behind spelling (lines ++ more) ≡ text_from text_of behind spelling lines ++ text_from text_of behind (spelling_behind behind spelling lines) more
 text_from-append text_of behind spelling [] more = refl

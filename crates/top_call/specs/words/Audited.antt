@@ -22,7 +22,7 @@ pub record SaysVerdict (scenario : Scenario) (trace text : List ℕ) : Type 0 wh
   pub right : IsAuditVerdict (start_of scenario) trace verdict
   pub line : text ≡ verdict_line verdict
 
--- no trace tells of an event between two exchanges
+-- the scenario has an event between two exchanges, of which no trace tells, and the text is the line that says so
 pub record SaysEvent (scenario : Scenario) (text : List ℕ) : Type 0 where
   pub untold : ¬ HasNoEventStep scenario.steps
   pub line : text ≡ event_line

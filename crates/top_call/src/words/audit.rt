@@ -23,7 +23,7 @@ use scenario_text::{
 };
 use std::alloc::Global;
 
-/// Reads the input to its end, and writes what is defined for it. The whole input is read before anything is written.
+/// Reads a scenario and a trace to their end, and only then writes whether the trace is audited, or a fault line.
 pub fn answer<I: Source, O: Sink>(alloc: Global, input: &mut I, output: &mut O) -> Status
     ensures { Tells audit_job (source_change I.left I.faults input.old input.new)
         (sink_change O.written O.faults output.old output.new) (output.new ≡ output.old) result }

@@ -14,8 +14,8 @@ use decode_lines::{
 };
 use std::alloc::Global;
 
-/// Answers the lines of the input as they come, and then writes what is defined for it. Nothing is written
-/// before the input is read to its end.
+/// Decodes the lines of the input as they come, and then writes the answers to them, or a fault line. Nothing is
+/// written before the input is read to its end.
 pub fn answer<I: Source, O: Sink>(alloc: Global, input: &mut I, output: &mut O) -> Status
     ensures { Tells decode_job (source_change I.left I.faults input.old input.new)
         (sink_change O.written O.faults output.old output.new) (output.new ≡ output.old) result }

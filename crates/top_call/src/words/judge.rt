@@ -14,7 +14,7 @@ use judge_lines::{
 use log_verdicts::logs_that_tags_make_are_explained;
 use std::alloc::Global;
 
-/// Reads the input to its end, and writes what is defined for it. The whole input is read before anything is written.
+/// Reads the log of one tag to its end, and only then writes what is judged of it, or a fault line.
 pub fn answer<I: Source, O: Sink>(alloc: Global, input: &mut I, output: &mut O) -> Status
     ensures { Tells judge_job (source_change I.left I.faults input.old input.new)
         (sink_change O.written O.faults output.old output.new) (output.new ≡ output.old) result }

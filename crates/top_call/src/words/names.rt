@@ -19,8 +19,8 @@ use report_lines::{lines_have_names, named};
 use std::alloc::Global;
 use text_fields::{fault_line, push_bytes, split_line};
 
-/// Reads the input to its end, and writes what is defined for it. The whole input is checked before a line is
-/// written.
+/// Reads lines to the end of the input, and writes each with its name behind it, or a fault line. The whole input is
+/// checked before a line is written.
 pub fn answer<I: Source, O: Sink>(alloc: Global, input: &mut I, output: &mut O) -> Status
     ensures tells { Tells names_job (source_change I.left I.faults input.old input.new)
         (sink_change O.written O.faults output.old output.new) (output.new ≡ output.old) result }

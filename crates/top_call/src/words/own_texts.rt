@@ -23,7 +23,7 @@ pub fn answer<I: Source, O: Sink>(text: &[u8], _input: &mut I, output: &mut O) -
     status_of(write_own_text(text, output))
 }
 
-/// Writes the text.
+/// Writes a text that the program says of itself.
 fn write_own_text<O: Sink>(text: &[u8], output: &mut O) -> Result<Wrote, WriteEnd>
     ensures { EndsSo (text_job text.now) []
         (sink_change O.written O.faults output.old output.new) result }

@@ -28,7 +28,7 @@ impl Model for Page {
 }
 
 impl Page {
-    /// The empty page.
+    /// A page of output that has no byte yet.
     pub fn new() -> Page
         ensures { result ≡ [] }
     {

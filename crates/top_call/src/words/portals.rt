@@ -23,7 +23,7 @@ use scenario_text::{
 use std::alloc::{AllocError, Global};
 use text_fields::fault_line;
 
-/// Reads the input to its end, and writes what is defined for it.
+/// Reads a scenario to its end, and writes what the two portals in it list, together and alone, or a fault line.
 pub fn answer<I: Source, O: Sink>(alloc: Global, input: &mut I, output: &mut O) -> Status
     ensures { Tells portals_job (source_change I.left I.faults input.old input.new)
         (sink_change O.written O.faults output.old output.new) (output.new ≡ output.old) result }

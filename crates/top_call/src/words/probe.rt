@@ -13,7 +13,7 @@ use probe_lines::{
 };
 use std::alloc::Global;
 
-/// Reads the input to its end, and writes what is defined for it. The whole input is checked before a line is written.
+/// Reads a probe of one tag to its end, checks it whole, and then writes what comes of it, or a fault line.
 pub fn answer<I: Source, O: Sink>(alloc: Global, input: &mut I, output: &mut O) -> Status
     ensures { Tells probe_job (source_change I.left I.faults input.old input.new)
         (sink_change O.written O.faults output.old output.new) (output.new ≡ output.old) result }

@@ -15,7 +15,7 @@ use scenario_text::{
 };
 use std::alloc::Global;
 
-/// Reads the input to its end, and writes what is defined for it.
+/// Reads a scenario of either version to its end, and writes its text of version 2, or a fault line.
 pub fn answer<I: Source, O: Sink>(alloc: Global, input: &mut I, output: &mut O) -> Status
     ensures { Tells upgrade_job (source_change I.left I.faults input.old input.new)
         (sink_change O.written O.faults output.old output.new) (output.new ≡ output.old) result }
