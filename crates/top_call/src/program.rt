@@ -12,9 +12,7 @@ ghost use Rattle.report_lines.specs.declared.mode.Mode.{Mode};
 use crate::forms::{Form, form_of};
 use crate::laws::jobs_are_lawful;
 use crate::status::Status;
-use crate::words::{
-    audit, decode, encode, generate, judge, names, objects, own_texts, portals, probe, run, upgrade,
-};
+use crate::words::{decode, generate, objects, own_texts, whole};
 use air_io::{Sink, Source, SureSink, SureSource};
 use program_texts::{help_text, version_text};
 use std::alloc::Global;
@@ -191,17 +189,10 @@ fn write_answer<I: Source, O: Sink>(
 {
     match form {
         Form::Decode => decode::answer(alloc, input, output),
-        Form::Encode => encode::answer(alloc, input, output),
-        Form::Run(mode) => run::answer(alloc, mode, input, output),
-        Form::Upgrade => upgrade::answer(alloc, input, output),
-        Form::Portals => portals::answer(alloc, input, output),
-        Form::Names => names::answer(alloc, input, output),
-        Form::Probe => probe::answer(alloc, input, output),
-        Form::Judge => judge::answer(alloc, input, output),
-        Form::Audit => audit::answer(alloc, input, output),
         Form::Objects(set) => objects::answer(alloc, set, input, output),
         Form::Gen { seed, tags } => generate::answer(alloc, seed, tags, input, output),
         Form::Help => own_texts::answer(help_text().as_bytes(), input, output),
         Form::Version => own_texts::answer(version_text().as_bytes(), input, output),
+        _ => whole::answer(alloc, form, input, output),
     }
 }

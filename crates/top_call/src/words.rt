@@ -13,3 +13,4 @@ pub mod portals;
 pub mod probe;
 pub mod run;
 pub mod upgrade;
+pub mod whole;

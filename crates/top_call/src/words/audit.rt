@@ -2,16 +2,15 @@
 ghost use Rattle.std.specs.Prelude.{◌≡◌, ◌≤◌, ◌⊎◌, ℕ, List, IfOk, length};
 ghost use Rattle.scenario.specs.Limits.{IsScenario};
 ghost use Rattle.top_call.specs.Job.{Defines, IsLawful};
-ghost use Rattle.top_call.specs.Outcome.{EndsSo, Tells, input_limit, source_change, sink_change};
+ghost use Rattle.top_call.specs.Outcome.{EndsSo, input_limit, sink_change};
 ghost use Rattle.top_call.specs.words.Audited.{SaysEvent, SaysVerdict, audit_job};
 
-use crate::ending::{MOST_INPUT_BYTES, WriteEnd, Wrote, status_of, unread_status, write_text};
-use crate::status::Status;
+use crate::ending::{WriteEnd, Wrote, write_text};
 use air_audit::{
     audit, event_text, has_event_step, list_lines_are_received, split_scenario,
     traces_have_a_verdict, traces_have_at_most_one_verdict, verdict_text,
 };
-use air_io::{Sink, Source, read_to_end};
+use air_io::Sink;
 use air_world::tags_at_start;
 use arrayvec::ArrayVec;
 use bit_strings::OutOfMemory;
@@ -23,20 +22,9 @@ use scenario_text::{
 };
 use std::alloc::Global;
 
-/// Reads a scenario and a trace to their end, and only then writes whether the trace is audited, or a fault line.
-pub fn answer<I: Source, O: Sink>(alloc: Global, input: &mut I, output: &mut O) -> Status
-    ensures { Tells audit_job (source_change I.left I.faults input.old input.new)
-        (sink_change O.written O.faults output.old output.new) (output.new ≡ output.old) result }
-{
-    match read_to_end(alloc, input, MOST_INPUT_BYTES) {
-        Ok(bytes) => status_of(write_audited(alloc, bytes.as_slice(), output)),
-        Err(end) => unread_status(end),
-    }
-}
-
 /// Writes what is defined for the bytes of an input: the verdict on the trace behind the scenario, or the one line that reports
 /// the first faulty line of the scenario.
-fn write_audited<O: Sink>(alloc: Global, input: &[u8], output: &mut O) -> Result<Wrote, WriteEnd>
+pub fn write_audited<O: Sink>(alloc: Global, input: &[u8], output: &mut O) -> Result<Wrote, WriteEnd>
     requires { length input.now ≤ input_limit }
     ensures { EndsSo audit_job input.now
         (sink_change O.written O.faults output.old output.new) result }

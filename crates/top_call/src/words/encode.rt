@@ -5,14 +5,13 @@ ghost use Rattle.encode_lines.specs.EncodeLines.{Encodes, EncodesLine, AskForEnc
 ghost use Rattle.encode_lines.specs.Request.{AsksToEncode};
 ghost use Rattle.encode_lines.specs.declared.request.Request.{Request};
 ghost use Rattle.top_call.specs.Job.{IsLawful};
-ghost use Rattle.top_call.specs.Outcome.{input_limit, AddsWhole, AddsFront, EndsSo, Tells, source_change, sink_change};
+ghost use Rattle.top_call.specs.Outcome.{input_limit, AddsWhole, AddsFront, EndsSo, sink_change};
 ghost use Rattle.top_call.specs.UnwrittenBytes.{WritesWaiting, Loses};
 ghost use Rattle.top_call.specs.words.Encoded.{encode_job};
 
-use crate::ending::{MOST_INPUT_BYTES, WriteEnd, Wrote, status_of, unread_status, write_text};
-use crate::status::Status;
+use crate::ending::{WriteEnd, Wrote, write_text};
 use crate::words::page::Page;
-use air_io::{Sink, Source, read_to_end};
+use air_io::Sink;
 use encode_lines::{
     Encoder, check_lines, encode_lines_are_not_faulty, encode_lines_have_a_text,
     encode_lines_have_one_text, fault_text, requests_have_a_line,
@@ -21,21 +20,9 @@ use round_trip::written_lines_are_read_back;
 use std::alloc::Global;
 use text_fields::split_line;
 
-/// Reads the input to its end, and writes what is defined for it. The whole input is checked before a line is written;
-/// then each line is written as it is made.
-pub fn answer<I: Source, O: Sink>(alloc: Global, input: &mut I, output: &mut O) -> Status
-    ensures { Tells encode_job (source_change I.left I.faults input.old input.new)
-        (sink_change O.written O.faults output.old output.new) (output.new ≡ output.old) result }
-{
-    match read_to_end(alloc, input, MOST_INPUT_BYTES) {
-        Ok(bytes) => status_of(write_encoded(alloc, bytes.as_slice(), output)),
-        Err(end) => unread_status(end),
-    }
-}
-
 /// Writes what is defined for the bytes of an input: a line for each of its lines, or the one line that reports the first
 /// faulty line.
-fn write_encoded<O: Sink>(alloc: Global, input: &[u8], output: &mut O) -> Result<Wrote, WriteEnd>
+pub fn write_encoded<O: Sink>(alloc: Global, input: &[u8], output: &mut O) -> Result<Wrote, WriteEnd>
     requires { length input.now ≤ input_limit }
     ensures { EndsSo encode_job input.now
         (sink_change O.written O.faults output.old output.new) result }

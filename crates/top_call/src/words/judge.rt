@@ -1,12 +1,11 @@
 //! The word `judge`: whether a log of one tag can be that of a tag that follows the tables, whatever it drew.
 ghost use Rattle.std.specs.Prelude.{◌≡◌, ◌⊎◌, ℕ, List};
 ghost use Rattle.top_call.specs.Job.{Defines, IsLawful};
-ghost use Rattle.top_call.specs.Outcome.{EndsSo, Tells, source_change, sink_change};
+ghost use Rattle.top_call.specs.Outcome.{EndsSo, sink_change};
 ghost use Rattle.top_call.specs.words.Judged.{judge_job};
 
-use crate::ending::{MOST_INPUT_BYTES, WriteEnd, Wrote, status_of, unread_status, write_text};
-use crate::status::Status;
-use air_io::{Sink, Source, read_to_end};
+use crate::ending::{WriteEnd, Wrote, write_text};
+use air_io::Sink;
 use judge_lines::{
     Refusal, fault_text, judge_log, log_texts_are_not_faulty, log_texts_have_one_fault,
     log_texts_have_one_verdict, push_verdict, texts_are_logs_or_faulty,
@@ -14,20 +13,9 @@ use judge_lines::{
 use log_verdicts::logs_that_tags_make_are_explained;
 use std::alloc::Global;
 
-/// Reads the log of one tag to its end, and only then writes what is judged of it, or a fault line.
-pub fn answer<I: Source, O: Sink>(alloc: Global, input: &mut I, output: &mut O) -> Status
-    ensures { Tells judge_job (source_change I.left I.faults input.old input.new)
-        (sink_change O.written O.faults output.old output.new) (output.new ≡ output.old) result }
-{
-    match read_to_end(alloc, input, MOST_INPUT_BYTES) {
-        Ok(bytes) => status_of(write_judged(alloc, bytes.as_slice(), output)),
-        Err(end) => unread_status(end),
-    }
-}
-
 /// Writes what is defined for the bytes of an input: what is judged of the log that they say, or the one line that reports the first faulty
 /// line.
-fn write_judged<O: Sink>(alloc: Global, input: &[u8], output: &mut O) -> Result<Wrote, WriteEnd>
+pub fn write_judged<O: Sink>(alloc: Global, input: &[u8], output: &mut O) -> Result<Wrote, WriteEnd>
     ensures { EndsSo judge_job input.now
         (sink_change O.written O.faults output.old output.new) result }
 {

@@ -6,35 +6,20 @@ ghost use Rattle.report_lines.specs.Names.{BecomesLines};
 ghost use Rattle.sgtin_text.specs.SgtinText.{name_line};
 ghost use Rattle.top_call.specs.Job.{Defines, IsLawful};
 ghost use Rattle.top_call.specs.words.Named.{IsOfLines, AddsNames, IsCutAt, names_job};
-ghost use Rattle.top_call.specs.Outcome.{input_limit, AddsWhole, AddsFront, EndsSo, Tells, source_change, sink_change};
+ghost use Rattle.top_call.specs.Outcome.{input_limit, AddsWhole, AddsFront, EndsSo, sink_change};
 ghost use Rattle.top_call.specs.UnwrittenBytes.{WritesWaiting, Loses};
 
-use crate::ending::{MOST_INPUT_BYTES, WriteEnd, Wrote, status_of, unread_status, write_text};
-use crate::status::Status;
+use crate::ending::{WriteEnd, Wrote, write_text};
 use crate::words::page::Page;
-use air_io::{Sink, Source, WriteFailed, read_to_end};
+use air_io::{Sink, WriteFailed};
 use arrayvec::ArrayVec;
 use epc_sgtin::{Sgtin, Uri};
 use report_lines::{lines_have_names, named};
-use std::alloc::Global;
 use text_fields::{fault_line, push_bytes, split_line};
-
-/// Reads lines to the end of the input, and writes each with its name behind it, or a fault line. The whole input is
-/// checked before a line is written.
-pub fn answer<I: Source, O: Sink>(alloc: Global, input: &mut I, output: &mut O) -> Status
-    ensures tells { Tells names_job (source_change I.left I.faults input.old input.new)
-        (sink_change O.written O.faults output.old output.new) (output.new ≡ output.old) result }
-    ensures memory { result ≡ Status.OutOfMemory → output.new ≡ output.old }
-{
-    match read_to_end(alloc, input, MOST_INPUT_BYTES) {
-        Ok(bytes) => status_of(write_with_names(bytes.as_slice(), output)),
-        Err(end) => unread_status(end),
-    }
-}
 
 /// Writes what is defined for the bytes of an input: its lines, each with its name behind it, or the one line that
 /// reports that the last line has no line feed. It takes no memory.
-fn write_with_names<O: Sink>(input: &[u8], output: &mut O) -> Result<Wrote, WriteEnd>
+pub fn write_with_names<O: Sink>(input: &[u8], output: &mut O) -> Result<Wrote, WriteEnd>
     requires { length input.now ≤ input_limit }
     ensures ends { EndsSo names_job input.now
         (sink_change O.written O.faults output.old output.new) result }

@@ -6,12 +6,14 @@ ghost use Rattle.top_call.specs.Outcome.{EndsSo, Tells, source_change, sink_chan
 ghost use Rattle.top_call.specs.words.Objects.{objects_job, plain_job};
 
 use crate::ending::{WriteEnd, Wrote, status_of, write_text};
+use crate::forms::Form;
 use crate::status::Status;
-use crate::words::audit::{self, audit_is_lawful};
+use crate::words::audit::audit_is_lawful;
 use crate::words::decode::{self, decode_is_lawful};
-use crate::words::judge::{self, judge_is_lawful};
-use crate::words::probe::{self, probe_is_lawful};
-use crate::words::run::{self, run_is_lawful};
+use crate::words::judge::judge_is_lawful;
+use crate::words::probe::probe_is_lawful;
+use crate::words::run::run_is_lawful;
+use crate::words::whole;
 use air_io::{Sink, Source};
 use air_world::Mode;
 use line_objects::{LineSet, PlainText, objects_of, texts_have_objects};
@@ -49,10 +51,10 @@ fn answer_plain<I: Source, O: Sink>(
 {
     match set {
         LineSet::Decode => decode::answer(alloc, input, output),
-        LineSet::Probe => probe::answer(alloc, input, output),
-        LineSet::Audit => audit::answer(alloc, input, output),
-        LineSet::Judge => judge::answer(alloc, input, output),
-        LineSet::Exchanges => run::answer(alloc, Mode::Exchanges, input, output),
+        LineSet::Probe => whole::answer(alloc, Form::Probe, input, output),
+        LineSet::Audit => whole::answer(alloc, Form::Audit, input, output),
+        LineSet::Judge => whole::answer(alloc, Form::Judge, input, output),
+        LineSet::Exchanges => whole::answer(alloc, Form::Run(Mode::Exchanges), input, output),
     }
 }
 

@@ -6,12 +6,11 @@ ghost use Rattle.portal_text.specs.PortalText.{portals_text};
 ghost use Rattle.runs.specs.Portals.{portals_told};
 ghost use Rattle.scenario.specs.Limits.{IsScenario};
 ghost use Rattle.top_call.specs.Job.{Defines, IsLawful};
-ghost use Rattle.top_call.specs.Outcome.{EndsSo, Tells, source_change, sink_change};
+ghost use Rattle.top_call.specs.Outcome.{EndsSo, sink_change};
 ghost use Rattle.top_call.specs.words.Compared.{portals_job};
 
-use crate::ending::{MOST_INPUT_BYTES, WriteEnd, Wrote, status_of, unread_status, write_text};
-use crate::status::Status;
-use air_io::{Sink, Source, read_to_end};
+use crate::ending::{WriteEnd, Wrote, write_text};
+use air_io::Sink;
 use air_world::compare_portals;
 use portal_text::{portal_fault, portal_scenarios, portals_text, round_specs};
 use runs::portals_are_independent;
@@ -23,20 +22,9 @@ use scenario_text::{
 use std::alloc::{AllocError, Global};
 use text_fields::fault_line;
 
-/// Reads a scenario to its end, and writes what the two portals in it list, together and alone, or a fault line.
-pub fn answer<I: Source, O: Sink>(alloc: Global, input: &mut I, output: &mut O) -> Status
-    ensures { Tells portals_job (source_change I.left I.faults input.old input.new)
-        (sink_change O.written O.faults output.old output.new) (output.new ≡ output.old) result }
-{
-    match read_to_end(alloc, input, MOST_INPUT_BYTES) {
-        Ok(bytes) => status_of(write_portals(alloc, bytes.as_slice(), output)),
-        Err(end) => unread_status(end),
-    }
-}
-
 /// Writes what is defined for the bytes of an input: the lines of the two portals of the scenario that they spell, or the
 /// one line that reports the first faulty line.
-fn write_portals<O: Sink>(alloc: Global, input: &[u8], output: &mut O) -> Result<Wrote, WriteEnd>
+pub fn write_portals<O: Sink>(alloc: Global, input: &[u8], output: &mut O) -> Result<Wrote, WriteEnd>
     ensures { EndsSo portals_job input.now
         (sink_change O.written O.faults output.old output.new) result }
 {

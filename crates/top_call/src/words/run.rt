@@ -2,13 +2,12 @@
 ghost use Rattle.std.specs.Prelude.{◌≡◌, ℕ, List};
 ghost use Rattle.report_lines.specs.declared.mode.Mode.{Mode};
 ghost use Rattle.top_call.specs.Job.{Defines, IsLawful};
-ghost use Rattle.top_call.specs.Outcome.{EndsSo, Tells, source_change, sink_change};
+ghost use Rattle.top_call.specs.Outcome.{EndsSo, sink_change};
 ghost use Rattle.top_call.specs.words.Reported.{run_job};
 
-use crate::ending::{MOST_INPUT_BYTES, WriteEnd, Wrote, status_of, unread_status, write_text};
-use crate::status::Status;
+use crate::ending::{WriteEnd, Wrote, write_text};
 use air_audit::own_traces_are_audited;
-use air_io::{Sink, Source, read_to_end};
+use air_io::Sink;
 use air_world::{Mode, play, set_up};
 use runs::{headline, rounds_are_complete};
 use scenario_text::{
@@ -17,25 +16,9 @@ use scenario_text::{
 };
 use std::alloc::Global;
 
-/// Reads the input to its end, and writes what is defined for it. The whole input is read before a line is written.
-pub fn answer<I: Source, O: Sink>(
-    alloc: Global,
-    mode: Mode,
-    input: &mut I,
-    output: &mut O,
-) -> Status
-    ensures { Tells (run_job mode) (source_change I.left I.faults input.old input.new)
-        (sink_change O.written O.faults output.old output.new) (output.new ≡ output.old) result }
-{
-    match read_to_end(alloc, input, MOST_INPUT_BYTES) {
-        Ok(bytes) => status_of(write_report(alloc, mode, bytes.as_slice(), output)),
-        Err(end) => unread_status(end),
-    }
-}
-
 /// Writes what is defined for the bytes of an input: the report of the scenario that they spell, or the one
 /// line that reports the first faulty line.
-fn write_report<O: Sink>(
+pub fn write_report<O: Sink>(
     alloc: Global,
     mode: Mode,
     input: &[u8],

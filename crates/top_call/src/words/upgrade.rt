@@ -1,12 +1,11 @@
 //! The word `upgrade`: a scenario of either version as the text of version 2.
 ghost use Rattle.std.specs.Prelude.{◌≡◌, ℕ, List};
 ghost use Rattle.top_call.specs.Job.{Defines, IsLawful};
-ghost use Rattle.top_call.specs.Outcome.{EndsSo, Tells, source_change, sink_change};
+ghost use Rattle.top_call.specs.Outcome.{EndsSo, sink_change};
 ghost use Rattle.top_call.specs.words.Upgraded.{upgrade_job};
 
-use crate::ending::{MOST_INPUT_BYTES, WriteEnd, Wrote, status_of, unread_status, write_text};
-use crate::status::Status;
-use air_io::{Sink, Source, read_to_end};
+use crate::ending::{WriteEnd, Wrote, write_text};
+use air_io::Sink;
 use runs::upgraded_scenarios_run_the_same;
 use scenario::{upgrade, upgraded_scenarios_are_legal};
 use scenario_text::{
@@ -15,20 +14,9 @@ use scenario_text::{
 };
 use std::alloc::Global;
 
-/// Reads a scenario of either version to its end, and writes its text of version 2, or a fault line.
-pub fn answer<I: Source, O: Sink>(alloc: Global, input: &mut I, output: &mut O) -> Status
-    ensures { Tells upgrade_job (source_change I.left I.faults input.old input.new)
-        (sink_change O.written O.faults output.old output.new) (output.new ≡ output.old) result }
-{
-    match read_to_end(alloc, input, MOST_INPUT_BYTES) {
-        Ok(bytes) => status_of(write_upgraded(alloc, bytes.as_slice(), output)),
-        Err(end) => unread_status(end),
-    }
-}
-
 /// Writes what is defined for the bytes of an input: the text of version 2 of the scenario that they spell, or the one
 /// line that reports the first faulty line.
-fn write_upgraded<O: Sink>(alloc: Global, input: &[u8], output: &mut O) -> Result<Wrote, WriteEnd>
+pub fn write_upgraded<O: Sink>(alloc: Global, input: &[u8], output: &mut O) -> Result<Wrote, WriteEnd>
     ensures { EndsSo upgrade_job input.now
         (sink_change O.written O.faults output.old output.new) result }
 {
