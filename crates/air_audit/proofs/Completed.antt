@@ -12,7 +12,7 @@ use Rattle.tag_machine.specs.TagValue.{TagValue}
 use Rattle.air_audit.specs.AuditedTrace.{trace_rules}
 use Rattle.air_audit.specs.FirstRefusal.{BeginTrace, IsFirstRefusal, IsFirstThatBeginsNone}
 use Rattle.air_audit.specs.Standing.{TraceStanding, begun, between, sending, listing, telling, ended, behind_exchange, link_line, rx_line, told_line, behind_told, next_tag, TellsNextTag, TraceGoesOn}
-use Rattle.air_audit.specs.declared.first_words.Word.TheVariants as words
+use Rattle.air_audit.specs.declared.trace_line_words.Word.TheVariants as words
 use Rattle.air_audit.specs.declared.verdict.AuditReason.{AuditReason}
 use Rattle.air_audit.proofs.OneStanding.{Laws}
 use Rattle.air_audit.proofs.OneVerdict.{unambiguous}

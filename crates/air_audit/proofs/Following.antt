@@ -15,13 +15,13 @@ use Rattle.report_lines.specs.ReportLine.{ReportLine, ListLine, RxLine, report_l
 use Rattle.runs.proofs.Answering.{TagLaws, given-of-answers}
 use Rattle.runs.specs.Listing.{Listed, listed_by}
 use Rattle.air_audit.specs.Auditing.{AuditorValue, GoesOnOrStops, GoesOnWith, AuditorIsAt, IsHearing, KeepsUp, SendsTo, AuditorStandsAt, AuditStopsAt, TellsLine, TellsOther, position_behind}
-use Rattle.air_audit.specs.FirstWords.{word_of_line, word_of}
+use Rattle.air_audit.specs.TraceLineWords.{word_of_line, word_of}
 use Rattle.air_audit.specs.LineRefusals.{DiffersFirst, IsNoTxLine, IsOther, IsRefusedAs, IsRefusedHere}
 use Rattle.air_audit.specs.Standing.{GoesOnAs, TraceStanding, begun, between, sending, telling, TellsNextTag, behind_exchange, behind_told, link_line, next_tag, record_of, rx_line, told_line}
 use Rattle.air_audit.specs.declared.auditor.Position.{Position}
 use Rattle.air_audit.specs.declared.auditor.Position.TheVariants as positions
-use Rattle.air_audit.specs.declared.first_words.Word.{Word}
-use Rattle.air_audit.specs.declared.first_words.Word.TheVariants as words
+use Rattle.air_audit.specs.declared.trace_line_words.Word.{Word}
+use Rattle.air_audit.specs.declared.trace_line_words.Word.TheVariants as words
 use Rattle.air_audit.specs.declared.stop.Stop.{Stop}
 use Rattle.air_audit.specs.declared.stop.Stop.TheVariants as stops
 use Rattle.air_audit.specs.declared.verdict.AuditReason.{AuditReason}

@@ -14,7 +14,7 @@ use Rattle.tag_machine.specs.Exchange.{Replied}
 use Rattle.tag_population.specs.Answers.{AnswerValue, answer_of, answers_of}
 use Rattle.air_model.specs.Channel.{default_given, first_broken, heard_levels, whole_or_silence}
 use Rattle.air_model.proofs.ReceptionLaws.{few_words, levels_least}
-use Rattle.air_audit.specs.Rooms.{IsShortAnswer}
+use Rattle.air_audit.specs.HeardLevels.{IsShortAnswer}
 
 abbrev IsSentReply : Replied → Type 0
 IsSentReply replied = IsSent (Some replied.sent)

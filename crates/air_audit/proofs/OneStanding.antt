@@ -11,11 +11,11 @@ use Rattle.pie_line.specs.Pie.{IsFrame, longest_interval}
 use Rattle.pie_line.specs.declared.frame.FrameKind.{FrameKind}
 use Rattle.air_model.specs.Past.{Start, exchanges_in}
 use Rattle.report_lines.specs.ReadLines.{TxFields, RxFields}
-use Rattle.air_audit.specs.FirstWords.{word_of_line, word_of}
+use Rattle.air_audit.specs.TraceLineWords.{word_of_line, word_of}
 use Rattle.air_audit.specs.Standing.{GoesOnAs, TraceStanding, begun, between, sending, listing, telling, record_of}
 use Rattle.air_audit.specs.TraceLines.{AreFrameOf, Sends}
-use Rattle.air_audit.specs.declared.first_words.Word.{Word}
-use Rattle.air_audit.specs.declared.first_words.Word.TheVariants as words
+use Rattle.air_audit.specs.declared.trace_line_words.Word.{Word}
+use Rattle.air_audit.specs.declared.trace_line_words.Word.TheVariants as words
 
 -- the laws of frames and of commands that this goes by
 pub record Laws : Type 0 where

@@ -10,12 +10,12 @@ use Rattle.air_model.specs.Past.{Start, exchanges_in}
 use Rattle.report_lines.specs.ReadLines.{HasTxShape, TxFields}
 use Rattle.air_audit.specs.AuditedTrace.{trace_rules}
 use Rattle.air_audit.specs.FirstRefusal.{IsAuditVerdict}
-use Rattle.air_audit.specs.FirstWords.{word_of_line}
+use Rattle.air_audit.specs.TraceLineWords.{word_of_line}
 use Rattle.air_audit.specs.LineRefusals.{IsNoTxLine, IsRefusedAs, tx_parts, rx_parts}
 use Rattle.air_audit.specs.Standing.{GoesOnAs, TraceStanding, begun, between, sending, listing, telling, ended}
 use Rattle.air_audit.specs.TraceLines.{Sends}
-use Rattle.air_audit.specs.declared.first_words.Word.{Word}
-use Rattle.air_audit.specs.declared.first_words.Word.TheVariants as words
+use Rattle.air_audit.specs.declared.trace_line_words.Word.{Word}
+use Rattle.air_audit.specs.declared.trace_line_words.Word.TheVariants as words
 use Rattle.air_audit.specs.declared.verdict.AuditReason.{AuditReason}
 use Rattle.air_audit.specs.declared.verdict.Verdict.{Verdict}
 use Rattle.air_audit.specs.declared.verdict.Verdict.TheVariants.{Yes, No}

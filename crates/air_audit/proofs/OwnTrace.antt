@@ -32,11 +32,11 @@ use Rattle.report_lines.specs.ReadLines.{text_of}
 use Rattle.checked_lines.specs.TextRules.{HasOutcomeFrom, Lead, Whole}
 use Rattle.checked_lines.specs.laws.ReadingOn.{outcome_behind}
 use Rattle.air_audit.specs.AuditedTrace.{IsAudited, trace_rules}
-use Rattle.air_audit.specs.FirstWords.{word_of_line}
+use Rattle.air_audit.specs.TraceLineWords.{word_of_line}
 use Rattle.air_audit.specs.OwnTraces.{HasNoEventStep}
 use Rattle.air_audit.specs.Standing.{Place, TraceStanding, begun, between, sending, ended, behind_exchange, place_in, place_of_command, record_of, rx_line}
 use Rattle.air_audit.specs.TraceLines.{Sends}
-use Rattle.air_audit.specs.declared.first_words.Word.TheVariants as words
+use Rattle.air_audit.specs.declared.trace_line_words.Word.TheVariants as words
 use Rattle.air_audit.proofs.Completed.{rest_lines, rest-leads}
 use Rattle.air_audit.proofs.OneStanding.{tx-is-tx}
 use Rattle.air_audit.proofs.Places.{IsAck, IsInPlace, stands-in-place}

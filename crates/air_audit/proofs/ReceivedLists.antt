@@ -27,12 +27,12 @@ use Rattle.runs.proofs.Tags.{tags-exchanged}
 use Rattle.text_fields.specs.Lines.{lines_of}
 use Rattle.checked_lines.specs.TextRules.{HasOutcomeFrom, Whole}
 use Rattle.air_audit.specs.AuditedTrace.{IsAudited, trace_rules}
-use Rattle.air_audit.specs.FirstWords.{word_of_line, word_of}
+use Rattle.air_audit.specs.TraceLineWords.{word_of_line, word_of}
 use Rattle.air_audit.specs.ReceivedLists.{IsReceivedBefore, ListsWhatIsReceived}
 use Rattle.air_audit.specs.Standing.{GoesOnAs, TraceStanding, begun, between, sending, listing, telling, ended, TraceGoesOn, behind_exchange, behind_told, link_line, next_tag, record_of, rx_line}
 use Rattle.air_audit.specs.TraceLines.{Sends}
-use Rattle.air_audit.specs.declared.first_words.Word.{Word}
-use Rattle.air_audit.specs.declared.first_words.Word.TheVariants as words
+use Rattle.air_audit.specs.declared.trace_line_words.Word.{Word}
+use Rattle.air_audit.specs.declared.trace_line_words.Word.TheVariants as words
 use Rattle.air_audit.proofs.Received.{made-again}
 use Rattle.air_audit.proofs.Words.{link-is-other}
 

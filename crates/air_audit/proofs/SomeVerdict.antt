@@ -25,9 +25,9 @@ use Rattle.pie_line.specs.declared.frame.FrameKind.{FrameKind}
 use Rattle.pie_line.specs.declared.frame.FrameKind.TheVariants as kinds
 use Rattle.pie_line.specs.declared.frame.Lead.{Lead}
 use Rattle.pie_line.specs.declared.frame.Lead.TheVariants as leads
-use Rattle.pie_text.specs.Numbers.{RefusesNumbers, SpellsNumbers}
-use Rattle.pie_text.specs.declared.numbers.NotNumbers.{NotNumbers}
-use Rattle.pie_text.specs.declared.numbers.NotNumbers.TheVariants as faults
+use Rattle.pie_text.specs.NumberLists.{RefusesNumbers, SpellsNumbers}
+use Rattle.pie_text.specs.declared.number_lists.NotNumbers.{NotNumbers}
+use Rattle.pie_text.specs.declared.number_lists.NotNumbers.TheVariants as faults
 use Rattle.air_model.specs.Channel.{heard_levels, lead_of}
 use Rattle.air_model.specs.Past.{Start, Record, Item, exchanges_in}
 use Rattle.report_lines.specs.ReadLines.{IsDecimal, HasTxShape, RxFields, TxFields, most_tx_intervals, most_rx_levels, text_of}
@@ -35,12 +35,12 @@ use Rattle.report_lines.specs.ReportLine.{ReportLine, RxLine}
 use Rattle.runs.specs.Report.{list_line}
 use Rattle.air_audit.specs.AuditedTrace.{TraceMayEnd, trace_rules}
 use Rattle.air_audit.specs.FirstRefusal.{IsAuditVerdict}
-use Rattle.air_audit.specs.FirstWords.{word_of_line}
+use Rattle.air_audit.specs.TraceLineWords.{word_of_line}
 use Rattle.air_audit.specs.LineRefusals.{DiffersFirst, IsOther, IsRefusedAs}
 use Rattle.air_audit.specs.Standing.{GoesOnAs, IsTheLine, TraceStanding, begun, between, sending, listing, telling, ended, behind_exchange, behind_told, link_line, next_tag, record_of, rx_line, told_line}
 use Rattle.air_audit.specs.TraceLines.{AreFrameOf, FrameBeginsWith}
-use Rattle.air_audit.specs.declared.first_words.Word.{Word}
-use Rattle.air_audit.specs.declared.first_words.Word.TheVariants as words
+use Rattle.air_audit.specs.declared.trace_line_words.Word.{Word}
+use Rattle.air_audit.specs.declared.trace_line_words.Word.TheVariants as words
 use Rattle.air_audit.specs.declared.verdict.AuditReason.{AuditReason}
 use Rattle.air_audit.specs.declared.verdict.AuditReason.TheVariants as reasons
 use Rattle.air_audit.specs.declared.verdict.Verdict.{Verdict}

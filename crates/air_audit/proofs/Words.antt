@@ -12,10 +12,10 @@ use Rattle.text_fields.proofs.LineLaws.{pieces_between-cut, whole_piece}
 use Rattle.report_lines.specs.ReadLines.{text_of, first_field}
 use Rattle.report_lines.specs.ReportLine.{ReportLine, OpLine, RoundLine, SeenLine, TagLine, DoneLine, report_fields}
 use Rattle.tag_machine.specs.TagValue.{TagValue}
-use Rattle.air_audit.specs.FirstWords.{word_of_line, word_of}
+use Rattle.air_audit.specs.TraceLineWords.{word_of_line, word_of}
 use Rattle.air_audit.specs.Standing.{GoesOnAs, TellsNextTag, TraceGoesOn, TraceStanding, link_line, next_tag, rx_line, told_line}
-use Rattle.air_audit.specs.declared.first_words.Word.{Word}
-use Rattle.air_audit.specs.declared.first_words.Word.TheVariants as words
+use Rattle.air_audit.specs.declared.trace_line_words.Word.{Word}
+use Rattle.air_audit.specs.declared.trace_line_words.Word.TheVariants as words
 
 -- all of the bytes stand above the space
 abbrev pub all_visible : List ℕ → Bool

@@ -1,12 +1,12 @@
 pub mod TraceLines
-pub mod FirstWords
+pub mod TraceLineWords
 pub mod Standing
 pub mod LineRefusals
 pub mod AuditedTrace
 pub mod FirstRefusal
 pub mod OwnTraces
 pub mod Sent
-pub mod Rooms
+pub mod HeardLevels
 pub mod Auditing
 pub mod TraceBehind
 pub mod VerdictText

@@ -10,11 +10,11 @@ use Rattle.air_model.specs.Past.{Start, Record, exchanges_in}
 use Rattle.report_lines.specs.ReadLines.{text_of, HasTxShape, HasRxShape, TxFields, RxFields}
 use Rattle.report_lines.specs.ReportLine.{ReportLine}
 use Rattle.runs.specs.Report.{list_line}
-use Rattle.air_audit.specs.declared.first_words.Word.{Word}
-use Rattle.air_audit.specs.declared.first_words.Word.TheVariants as words
+use Rattle.air_audit.specs.declared.trace_line_words.Word.{Word}
+use Rattle.air_audit.specs.declared.trace_line_words.Word.TheVariants as words
 use Rattle.air_audit.specs.declared.verdict.AuditReason.{AuditReason}
 use Rattle.air_audit.specs.declared.verdict.AuditReason.TheVariants as reasons
-use Rattle.air_audit.specs.FirstWords.{word_of_line}
+use Rattle.air_audit.specs.TraceLineWords.{word_of_line}
 use Rattle.air_audit.specs.Standing.{TraceStanding, begun, between, sending, listing, telling, ended, link_line, rx_line, told_line, next_tag}
 use Rattle.air_audit.specs.TraceLines.{Sends}
 

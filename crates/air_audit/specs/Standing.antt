@@ -11,10 +11,10 @@ use Rattle.report_lines.specs.ReportLine.{ReportLine, BlfLine, RxLine, TagLine, 
 use Rattle.runs.specs.Listing.{Listed, listed_by}
 use Rattle.runs.specs.Report.{list_line}
 use Rattle.report_lines.specs.ReadLines.{text_of}
-use Rattle.air_audit.specs.FirstWords.{word_of_line}
+use Rattle.air_audit.specs.TraceLineWords.{word_of_line}
 use Rattle.air_audit.specs.TraceLines.{Sends}
-use Rattle.air_audit.specs.declared.first_words.Word.{Word}
-use Rattle.air_audit.specs.declared.first_words.Word.TheVariants as words
+use Rattle.air_audit.specs.declared.trace_line_words.Word.{Word}
+use Rattle.air_audit.specs.declared.trace_line_words.Word.TheVariants as words
 
 -- The round and the slot of a record, which no line of its exchange says: the round is the number of the Query commands so far,
 -- and the slot that of the slot commands from the last Query on. Both are 0 before any Query.

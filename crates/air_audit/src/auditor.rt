@@ -15,13 +15,13 @@ ghost use Rattle.air_audit.specs.Standing.{TraceStanding, begun, between, listin
 ghost use Rattle.report_lines.specs.ReadLines.{first_field};
 
 use crate::AuditReason;
-use crate::first_words::{Word, word_of_line};
 use crate::heard_levels::{HeardLevels, STREAM_ROOM};
 use crate::rounds::place_of_command;
 use crate::rx_line::compare_rx_line;
 use crate::sent_frame::SentFrame;
 use crate::stop::Stop;
 use crate::texts::is_text;
+use crate::trace_line_words::{Word, word_of_line};
 use air_events::EntryCursor;
 use bit_strings::{Bits, OutOfMemory};
 use command_grammar::Command;
@@ -101,7 +101,7 @@ impl<'a, L: Ledger> Model for Auditor<'a, L> {
     ghost use Rattle.std.specs.Prelude.{◌≤◌, length};
     ghost use Rattle.std.specs.String.{string_bytes};
     ghost use Rattle.air_audit.specs.Auditing.{AuditorValue};
-    ghost use Rattle.air_audit.specs.Rooms.{room_for_audited_streams};
+    ghost use Rattle.air_audit.specs.HeardLevels.{room_for_audited_streams};
 
     ghost Value = { AuditorValue };
 

@@ -5,7 +5,7 @@ ghost use Rattle.line_code.specs.TableFacts.{with_level_flipped};
 ghost use Rattle.tag_machine.specs.Exchange.{Replied};
 ghost use Rattle.tag_population.specs.Answers.{answers_of};
 ghost use Rattle.air_model.specs.Channel.{HasFewLevels, default_given, first_broken, given_of, heard_levels, whole_or_silence};
-ghost use Rattle.air_audit.specs.Rooms.{IsShortAnswer, room_for_audited_streams};
+ghost use Rattle.air_audit.specs.HeardLevels.{IsShortAnswer, room_for_audited_streams};
 
 use bit_strings::{Bits, Levels, OutOfMemory};
 use line_codes::encode_bits;
@@ -35,7 +35,7 @@ pub(crate) struct HeardLevels {
 impl Model for HeardLevels {
     ghost use Rattle.std.specs.Prelude.{◌≡◌};
     ghost use Rattle.reply_grammar.specs.Table.{longest_reply};
-    ghost use Rattle.air_audit.specs.Rooms.{HeardValue, room_for_audited_streams};
+    ghost use Rattle.air_audit.specs.HeardLevels.{HeardValue, room_for_audited_streams};
 
     ghost Value = { HeardValue };
 

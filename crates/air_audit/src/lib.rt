@@ -3,7 +3,6 @@
 
 mod auditor;
 mod fields;
-mod first_words;
 mod heard_levels;
 mod laws;
 mod rounds;
@@ -12,6 +11,7 @@ mod sent_frame;
 mod stop;
 mod texts;
 mod trace_behind;
+mod trace_line_words;
 mod traces;
 mod verdict;
 mod verdict_lines;

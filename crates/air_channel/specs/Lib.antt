@@ -1,5 +1,5 @@
 pub mod Air
-pub mod Rooms
+pub mod BufferSizes
 pub mod Receiving
 pub mod Giving
 pub mod Lent

@@ -12,7 +12,7 @@ ghost use Rattle.tag_machine.specs.Exchange.{AreLegalTags, IsQueryRep, busy_from
 ghost use Rattle.air_channel.specs.Air.{NamesTags, air_after, air_after_event};
 ghost use Rattle.air_model.specs.Channel.{HasFewLevels, given_in, got_of};
 ghost use Rattle.air_channel.specs.Lent.{KeepsAir};
-ghost use Rattle.air_channel.specs.Rooms.{longest_frame};
+ghost use Rattle.air_channel.specs.BufferSizes.{longest_frame};
 
 use crate::channel::give;
 use crate::receiver::Receiver;
@@ -71,7 +71,7 @@ impl Model for Air {
     ghost use Rattle.air_channel.specs.Air.{AirValue};
     ghost use Rattle.std.specs.Prelude.{◌≤◌, length};
     ghost use Rattle.air_events.specs.Streams.{longest_stream};
-    ghost use Rattle.air_channel.specs.Rooms.{IsShortFrame, room_for_frames, room_for_streams};
+    ghost use Rattle.air_channel.specs.BufferSizes.{IsShortFrame, room_for_frames, room_for_streams};
 
     ghost Value = { AirValue };
 

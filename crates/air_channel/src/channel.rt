@@ -7,7 +7,7 @@ ghost use Rattle.tag_machine.specs.Exchange.{Replied};
 ghost use Rattle.air_model.specs.Channel.{HasFewLevels, default_given, first_broken, given_of, got_of, heard_levels, whole_or_silence};
 ghost use Rattle.air_model.specs.declared.got.Got.TheVariants as Got;
 ghost use Rattle.air_channel.specs.Giving.{AreSentAnswers, answer_levels};
-ghost use Rattle.air_channel.specs.Rooms.{room_for_frames, room_for_streams};
+ghost use Rattle.air_channel.specs.BufferSizes.{room_for_frames, room_for_streams};
 
 use air_model::Got;
 use bit_strings::{Bits, Levels};

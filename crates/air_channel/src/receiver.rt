@@ -4,7 +4,7 @@ ghost use Rattle.command_grammar.specs.Commands.{IsLegalCommand};
 ghost use Rattle.command_grammar.specs.reading.Framing.{FramerStandsFor};
 ghost use Rattle.pie_line.specs.Pie.{wave_of};
 ghost use Rattle.air_model.specs.Channel.{lead_of, wave_for};
-ghost use Rattle.air_channel.specs.Rooms.{IsShortFrame, room_for_frames};
+ghost use Rattle.air_channel.specs.BufferSizes.{IsShortFrame, room_for_frames};
 
 use bit_strings::Bits;
 use command_grammar::{Command, CommandRefusal, Framer, Pushed, encode_command};

@@ -4,7 +4,7 @@ ghost use Rattle.std.specs.Option.{IsSomeAnd};
 ghost use Rattle.reply_grammar.specs.declared.expected.Reply.{Reply};
 ghost use Rattle.reply_grammar.specs.Table.{AnswersExpected};
 ghost use Rattle.tag_machine.specs.TagValue.{StateValue};
-ghost use Rattle.tag_machine.specs.Numbers.{numbers_of};
+ghost use Rattle.tag_machine.specs.StateNumbers.{numbers_of};
 ghost use Rattle.tag_machine.specs.laws.Extended.{has_half};
 ghost use Rattle.tag_machine.specs.laws.Replies.{expect_of, expect_of_read};
 

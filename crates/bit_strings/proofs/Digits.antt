@@ -1,8 +1,8 @@
 -- How a loop over bits adds their digits.
 use Rattle.std.proofs.Common.{◌≡◌, ◌+◌, ◌*◌, ◌^◌, ◌<◌, ◌≤◌, ℕ, Bool, true, false, List, length, take, get_or, ◌/◌, ◌%◌, ◌∷◌, ◌++◌, [], append_assoc, append-nil, refl, ap, sym, ◌∙◌, arith, length-take}
 use Rattle.std.specs.Prelude.{◌==◌}
-use Rattle.bit_strings.specs.Numbers.{value_of, digit_of, field_of}
-use Rattle.bit_strings.specs.laws.Numbers.{value_of-take_more, value_of-within, field_of-more, field_of-none}
+use Rattle.bit_strings.specs.NumbersInBits.{value_of, digit_of, field_of}
+use Rattle.bit_strings.specs.laws.NumbersInBits.{value_of-take_more, value_of-within, field_of-more, field_of-none}
 use Rattle.bit_strings.specs.BitString.{BitString}
 use mir.Val.{bool_byte}
 

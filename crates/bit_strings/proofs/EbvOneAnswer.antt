@@ -2,7 +2,7 @@
 use Rattle.std.proofs.Common.{◌≡◌, ℕ, ◌-◌, Bool, true, List, [], ◌++◌, length, drop, refl, sym, ◌∙◌, ap, subst, arith, length-append, length-take, length-drop, append_assoc, append-nil, Some}
 use Rattle.std.specs.Prelude.{slice_get}
 use Rattle.std.proofs.lemmas.List.{take-append-drop, take_all, nil_from_length}
-use Rattle.bit_strings.specs.Numbers.{part_of}
+use Rattle.bit_strings.specs.NumbersInBits.{part_of}
 use Rattle.bit_strings.specs.Ebv.{IsEbv, IsCutEbv, IsTooLong, BeginsWithNothing}
 use Rattle.bit_strings.specs.laws.Ebv.{ebv_apart, says-ebv, ends-ebv, no_ebv-nothing, no_ebv-long}
 use Rattle.bit_strings.specs.EbvAnswers.{IsEbvAnswer, HasEbvAt, IsEbvStep}

@@ -5,8 +5,8 @@ use Rattle.std.proofs.lemmas.Bool.{cases_lt}
 use Rattle.std.specs.Prelude.{slice_get, get_or, take, drop, Some, ◌⊎◌}
 use Rattle.std.proofs.lemmas.List.{length-replicate, nil_from_length, get_or-drop, take_more, take_at, drop_at, take-append-drop, take-append-le, drop-append-le}
 use Rattle.std.proofs.lemmas.List.Elements.{All-push, All-cons}
-use Rattle.bit_strings.specs.Numbers.{value_of, field_of, digit_of, part_of}
-use Rattle.bit_strings.specs.laws.Numbers.{value_of-within, value_of-push, value_of-append, value_of-field, length-field_of, same_from_value}
+use Rattle.bit_strings.specs.NumbersInBits.{value_of, field_of, digit_of, part_of}
+use Rattle.bit_strings.specs.laws.NumbersInBits.{value_of-within, value_of-push, value_of-append, value_of-field, length-field_of, same_from_value}
 use Rattle.bit_strings.specs.Ebv.{number_of_digits, blocks_of, IsShortest, IsEbv, IsCutEbv, IsTooLong, BeginsWithNothing}
 use Rattle.bit_strings.specs.laws.Ebv.{AreSevens, seven-head, seven-tail, nothing-digit, digit-nothing, shortest-some, nothing-more, too_long-more}
 use Rattle.bit_strings.specs.EbvAnswers.{HasEbvAt}

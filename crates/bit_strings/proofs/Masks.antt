@@ -6,10 +6,10 @@ use Rattle.std.specs.Simd.Lanes.{top, pick_l}
 use Rattle.std.specs.List.{range_with_len}
 use Rattle.std.proofs.Math.Bool.{cond}
 use Rattle.std.proofs.lemmas.Simd.{pick_l_whole}
-use Rattle.bit_strings.specs.Numbers.{digit_of, value_of, field_of}
+use Rattle.bit_strings.specs.NumbersInBits.{digit_of, value_of, field_of}
 use Rattle.std.proofs.lemmas.Bool.{eq-eqb, ne_eqb}
 use Rattle.std.proofs.lemmas.Nat.{shr-shr}
-use Rattle.bit_strings.specs.laws.Numbers.{field_of-more, field_of-mod}
+use Rattle.bit_strings.specs.laws.NumbersInBits.{field_of-more, field_of-mod}
 use Rattle.std.proofs.lemmas.List.{map-append}
 use lib.Dec.{eqb}
 use mir.Val.{bool_byte}

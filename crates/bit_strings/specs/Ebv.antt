@@ -1,7 +1,7 @@
 -- Annex A: an extensible bit vector is a list of blocks of eight bits, each an
 -- extension bit and seven bits of data. Profile: only the shortest spelling, of at most four blocks, is accepted.
 use Rattle.std.specs.Prelude.{◌≡◌, ◌≢◌, ℕ, ◌+◌, ◌*◌, ◌^◌, ◌/◌, ◌≤◌, Bool, true, false, List, [], ◌∷◌, ◌++◌, length, take, All, Some, slice_get, nat_lt, if◌then◌else◌}
-use Rattle.bit_strings.specs.Numbers.{value_of, field_of}
+use Rattle.bit_strings.specs.NumbersInBits.{value_of, field_of}
 
 -- the number that the blocks' data are as digits to the base 128, most significant first
 abbrev pub number_of_digits : List (List Bool) → ℕ

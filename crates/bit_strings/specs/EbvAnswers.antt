@@ -1,6 +1,6 @@
 -- What is read where an extensible bit vector is looked for.
 use Rattle.std.specs.Prelude.{ℕ, ◌-◌, ◌≤◌, ◌≡◌, Bool, List, length, drop}
-use Rattle.bit_strings.specs.Numbers.{part_of}
+use Rattle.bit_strings.specs.NumbersInBits.{part_of}
 use Rattle.bit_strings.specs.Ebv.{IsEbv, BeginsWithNothing, IsTooLong, IsCutEbv}
 use Rattle.bit_strings.specs.declared.ebv.Ebv.{Ebv}
 use Rattle.bit_strings.specs.declared.ebv.Ebv.TheVariants.{Value, Short, NotShortest, TooLong}

@@ -2,6 +2,6 @@ pub mod BitString
 pub mod Ebv
 pub mod EbvAnswers
 pub mod Family
-pub mod Numbers
+pub mod NumbersInBits
 pub mod Words
 pub mod laws

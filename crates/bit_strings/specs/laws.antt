@@ -2,5 +2,5 @@
 pub mod Ebv
 pub mod Family
 pub mod Lists
-pub mod Numbers
+pub mod NumbersInBits
 pub mod Words

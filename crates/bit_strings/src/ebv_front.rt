@@ -1,6 +1,6 @@
 //! Extensible bit vectors, one bit at a time.
 ghost use Rattle.std.specs.Prelude.{◌≡◌, ◌+◌, ◌%◌, ◌++◌, ◌∷◌, [], ℕ, List, Bool, length};
-ghost use Rattle.bit_strings.specs.Numbers.{value_of};
+ghost use Rattle.bit_strings.specs.NumbersInBits.{value_of};
 ghost use Rattle.bit_strings.specs.Ebv.{IsEbv, IsCutEbv};
 ghost use Rattle.bit_strings.specs.EbvAnswers.{IsEbvStep};
 ghost use Rattle.bit_strings.specs.declared.ebv_front.EbvStep.{EbvStep};
@@ -23,9 +23,9 @@ pub struct EbvFront {
 
 impl Model for EbvFront {
     ghost use Rattle.std.specs.Prelude.{◌^◌, ◌<◌, Bool, List, length};
-    ghost use Rattle.bit_strings.specs.Numbers.{value_of, field_of};
+    ghost use Rattle.bit_strings.specs.NumbersInBits.{value_of, field_of};
     ghost use Rattle.bit_strings.specs.Ebv.{IsCutEbv};
-    ghost use Rattle.bit_strings.specs.laws.Numbers.{value_and_width};
+    ghost use Rattle.bit_strings.specs.laws.NumbersInBits.{value_and_width};
 
     ghost Value = { List Bool };
 

@@ -1,6 +1,6 @@
 //! Laws of the definitions that the contracts of this crate cite.
 ghost use Rattle.std.specs.Prelude.{◌≡◌, ◌^◌, ◌<◌, ◌++◌, ℕ, List, Bool, length};
-ghost use Rattle.bit_strings.specs.Numbers.{value_of, field_of};
+ghost use Rattle.bit_strings.specs.NumbersInBits.{value_of, field_of};
 ghost use Rattle.bit_strings.specs.Ebv.{IsEbv, ebv_of};
 
 /// A field is the one list of its width with its value.

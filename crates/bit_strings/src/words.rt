@@ -1,6 +1,6 @@
 //! Words and the 16 bits of each, all at once (6.3.1.4 Transmission order).
 ghost use Rattle.std.specs.Prelude.{◌≡◌, ◌*◌, length, map};
-ghost use Rattle.bit_strings.specs.Numbers.{digit_of, value_of, field_of};
+ghost use Rattle.bit_strings.specs.NumbersInBits.{digit_of, value_of, field_of};
 
 use std::simd::prelude::{SimdPartialEq, u8x16};
 

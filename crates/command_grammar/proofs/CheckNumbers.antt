@@ -1,7 +1,7 @@
 -- A check number as a field is its bits.
 use Rattle.std.proofs.Common.{◌≡◌, ℕ, List, Bool, ap, sym, ◌∙◌}
-use Rattle.bit_strings.specs.Numbers.{value_of, field_of}
-use Rattle.bit_strings.specs.laws.Numbers.{field_of-value_of}
+use Rattle.bit_strings.specs.NumbersInBits.{value_of, field_of}
+use Rattle.bit_strings.specs.laws.NumbersInBits.{field_of-value_of}
 use Rattle.gen2_crc.specs.Crc.{crc5_of, crc16_of}
 use Rattle.gen2_crc.specs.laws.CheckNumbers.{length-crc5_of, length-crc16_of}
 

@@ -4,6 +4,6 @@ pub mod reading
 pub use Rattle.bit_strings.specs.BitString
 pub use Rattle.bit_strings.specs.Ebv
 pub use Rattle.bit_strings.specs.Family
-pub use Rattle.bit_strings.specs.Numbers
+pub use Rattle.bit_strings.specs.NumbersInBits
 pub use Rattle.bit_strings.specs.Words
 pub use Rattle.gen2_crc.specs.Crc

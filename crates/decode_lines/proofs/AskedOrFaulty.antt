@@ -2,9 +2,9 @@
 use Rattle.std.proofs.Common.{◌≡◌, ◌⊎◌, ℕ, List, ◌∷◌, Result, Ok, Err, inl, inr, refl}
 use Rattle.std.specs.Prelude.{IfOk, IfErr}
 use Rattle.text_fields.specs.Lines.{fields_of}
-use Rattle.pie_text.specs.Numbers.{RefusesNumbers, SpellsNumbers}
-use Rattle.pie_text.specs.declared.numbers.NotNumbers.{NotNumbers}
-use Rattle.pie_text.specs.declared.numbers.NotNumbers.TheVariants as reasons
+use Rattle.pie_text.specs.NumberLists.{RefusesNumbers, SpellsNumbers}
+use Rattle.pie_text.specs.declared.number_lists.NotNumbers.{NotNumbers}
+use Rattle.pie_text.specs.declared.number_lists.NotNumbers.TheVariants as reasons
 use Rattle.pie_line.specs.Pie.{longest_interval}
 use Rattle.decode_lines.specs.Request.{request_word, most_intervals, AsksToDecodeBehind, AreFaultyToDecode, IsFaultyToDecode}
 use Rattle.checked_lines.specs.laws.OneLine.{AsksOrIsFaulty}

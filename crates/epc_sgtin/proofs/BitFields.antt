@@ -2,8 +2,8 @@
 use Rattle.std.proofs.Common.{◌≡◌, ℕ, zero, suc, ◌+◌, ◌/◌, ◌%◌, ◌^◌, ◌<◌, Bool, List, [], ◌∷◌, ◌++◌, refl, sym, ◌∙◌, ap, arith, append_assoc, append-nil, length, drop, take, zero-add, add_comm}
 use Rattle.std.proofs.lemmas.Nat.{shr-shr}
 use Rattle.std.proofs.Math.Seq.{take-append_seam}
-use Rattle.bit_strings.specs.Numbers.{field_of, part_of, value_of}
-use Rattle.bit_strings.specs.laws.Numbers.{field_of-more, field_of-mod, length-field_of, value_of-field}
+use Rattle.bit_strings.specs.NumbersInBits.{field_of, part_of, value_of}
+use Rattle.bit_strings.specs.laws.NumbersInBits.{field_of-more, field_of-mod, length-field_of, value_of-field}
 use Rattle.bit_strings.specs.Words.{bits_of_words}
 
 -- a field is the field of its front and that of its back

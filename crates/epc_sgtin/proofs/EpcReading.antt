@@ -1,7 +1,7 @@
 -- What stands in the fields of 96 bits.
 use Rattle.std.proofs.Common.{◌≡◌, ℕ, ◌+◌, ◌^◌, ◌<◌, Bool, List, [], ◌++◌, refl, sym, ◌∙◌, ap, subst, arith, append_assoc, append-nil, length-append}
-use Rattle.bit_strings.specs.Numbers.{field_of, part_of, value_of}
-use Rattle.bit_strings.specs.laws.Numbers.{length-field_of}
+use Rattle.bit_strings.specs.NumbersInBits.{field_of, part_of, value_of}
+use Rattle.bit_strings.specs.laws.NumbersInBits.{length-field_of}
 use Rattle.epc_sgtin.specs.Partitions.{partition_row}
 use Rattle.epc_sgtin.specs.EpcFaults.{header_in, partition_in, company_in, item_in}
 use Rattle.epc_sgtin.proofs.BitFields.{field-at}

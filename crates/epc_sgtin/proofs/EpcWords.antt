@@ -5,7 +5,7 @@ use Rattle.std.proofs.lemmas.List.{length-append}
 use Rattle.std.proofs.lemmas.List.Concat.{flat_map-append}
 use Rattle.std.proofs.lemmas.List.Elements.{All-append, All-cons, All-nil}
 use Rattle.std.proofs.lemmas.Nat.{shr_below, pow_pos}
-use Rattle.bit_strings.specs.Numbers.{field_of}
+use Rattle.bit_strings.specs.NumbersInBits.{field_of}
 use Rattle.bit_strings.specs.Words.{bits_of_words}
 use Rattle.epc_sgtin.specs.SgtinValue.{SgtinValue, IsLegalSgtin, IsCompany, IsItem}
 use Rattle.epc_sgtin.specs.Partitions.{partition_row}

@@ -1,6 +1,6 @@
 -- GS1 Tag Data Standard, SGTIN-96: the 96 bits of the EPC in words of the EPC bank.
 use Rattle.std.specs.Prelude.{◌≡◌, ℕ, ◌-◌, ◌^◌, ◌<◌, Bool, List, ◌++◌, All}
-use Rattle.bit_strings.specs.Numbers.{field_of}
+use Rattle.bit_strings.specs.NumbersInBits.{field_of}
 use Rattle.bit_strings.specs.Words.{bits_of_words}
 use Rattle.epc_sgtin.specs.SgtinValue.{SgtinValue, IsLegalSgtin}
 use Rattle.epc_sgtin.specs.Partitions.{partition_row}

@@ -1,6 +1,6 @@
 -- Why words are no SGTIN-96: five things are asked in order, and the first that fails is the answer. The order is profile.
 use Rattle.std.specs.Prelude.{◌≡◌, ◌≢◌, ℕ, ◌+◌, Bool, List, length, Result, Ok, Err}
-use Rattle.bit_strings.specs.Numbers.{value_of, part_of}
+use Rattle.bit_strings.specs.NumbersInBits.{value_of, part_of}
 use Rattle.bit_strings.specs.Words.{bits_of_words}
 use Rattle.epc_sgtin.specs.SgtinValue.{SgtinValue, IsCompany, IsItem}
 use Rattle.epc_sgtin.specs.Partitions.{partition_row}

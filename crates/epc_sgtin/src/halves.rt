@@ -1,6 +1,6 @@
 //! The two halves of an EPC of six words, 48 bits each.
 ghost use Rattle.std.specs.Prelude.{◌≡◌, ◌^◌, ◌<◌, [], ◌∷◌};
-ghost use Rattle.bit_strings.specs.Numbers.{field_of};
+ghost use Rattle.bit_strings.specs.NumbersInBits.{field_of};
 ghost use Rattle.bit_strings.specs.Words.{bits_of_words};
 
 /// The 48 bits of three words, as a number.

@@ -4,7 +4,7 @@ use Rattle.std.specs.Prelude.{bit_and, bit_xor}
 use Rattle.std.specs.Simd.Lanes.{mask_l}
 use Rattle.std.proofs.Math.Bool.{cond}
 use Rattle.std.proofs.lemmas.Nat.{and_block, xor_block, mod-pow-add}
-use Rattle.bit_strings.specs.Numbers.{digit_of}
+use Rattle.bit_strings.specs.NumbersInBits.{digit_of}
 use Rattle.fm0_line.specs.Stays.{same, stays, odds}
 use Rattle.fm0_line.proofs.Symbols.{evens}
 

@@ -1,7 +1,7 @@
 //! FM0 baseband and its preamble.
 ghost use Rattle.std.specs.Prelude.{◌≡◌, ◌<◌, Some, ◌∷◌, [], true, Bool, List, length, map};
 ghost use Rattle.std.specs.Simd.Lanes.{mask_l};
-ghost use Rattle.bit_strings.specs.Numbers.{digit_of, field_of};
+ghost use Rattle.bit_strings.specs.NumbersInBits.{digit_of, field_of};
 ghost use Rattle.line_code.specs.Stream.{blocks};
 ghost use Rattle.fm0_line.specs.Fm0.{fm0, fm0_second};
 ghost use Rattle.fm0_line.specs.Stays.{stays, odds};

@@ -7,8 +7,8 @@ use mathlib.Core.Bool.{beq}
 use Rattle.std.proofs.lemmas.Nat.{xor_lt, shr-shr}
 use Rattle.std.proofs.lemmas.Nat.Bits.{bit_at_xor}
 use Rattle.std.proofs.lemmas.List.{length-map}
-use Rattle.bit_strings.specs.Numbers.{value_of, field_of}
-use Rattle.bit_strings.specs.laws.Numbers.{value_of-field, field_of-value_of, field_of-mod, same_from_value}
+use Rattle.bit_strings.specs.NumbersInBits.{value_of, field_of}
+use Rattle.bit_strings.specs.laws.NumbersInBits.{value_of-field, field_of-value_of, field_of-mod, same_from_value}
 use Rattle.gen2_crc.specs.Crc.{differ, minus, divide, remainder_of, others5, preset5, others16, preset16, crc5_of, register_of, crc16_of, residue, RegisterStandsFor}
 use Rattle.gen2_crc.specs.laws.CheckNumbers.{length-register_of, length-crc5_of}
 use Rattle.gen2_crc.specs.laws.Division.{one-bit, left_of, left_of-true, left_of-false, remainder_of-append}

@@ -4,8 +4,8 @@ use Rattle.std.specs.Prelude.{bit_xor}
 use Rattle.std.proofs.lemmas.Bool.{cases_lt, le-leb, lt-leb, eqb-true, agree_below_at}
 use Rattle.std.proofs.lemmas.Nat.{xor_lt, xor_shr, xor_mod, xor_block, xor_comm}
 use Rattle.std.specs.Int.Bits.{xor_assoc, xor_zero_l, xor_zero_r}
-use Rattle.bit_strings.specs.Numbers.{value_of, field_of}
-use Rattle.bit_strings.specs.laws.Numbers.{length-field_of, value_of-field, value_of-append, field_of-value_of, same_from_value}
+use Rattle.bit_strings.specs.NumbersInBits.{value_of, field_of}
+use Rattle.bit_strings.specs.laws.NumbersInBits.{length-field_of, value_of-field, value_of-append, field_of-value_of, same_from_value}
 use Rattle.gen2_crc.specs.Crc.{minus, remainder_of, others16, preset16, RegisterStandsFor, register_of}
 use Rattle.gen2_crc.specs.declared.tables.TheConstants.{BEHIND_LOWER, BEHIND_UPPER}
 use Rattle.gen2_crc.specs.laws.Division.{first-bit, remainder_of-none, remainder_of-append}

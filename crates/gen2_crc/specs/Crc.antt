@@ -1,7 +1,7 @@
 -- 6.3.1.5 Cyclic-redundancy check and Annex F: a check number is what long division of the whole message
 -- leaves. Polynomials are lists of coefficients, each 0 or 1, highest power first.
 use Rattle.std.specs.Prelude.{◌≡◌, ℕ, zero, suc, Bool, true, false, not, List, [], ◌∷◌, ◌++◌, length, map, replicate}
-use Rattle.bit_strings.specs.Numbers.{value_of}
+use Rattle.bit_strings.specs.NumbersInBits.{value_of}
 
 -- the difference of two coefficients, which has no carry
 abbrev pub differ : Bool → Bool → Bool

@@ -1,6 +1,6 @@
 //! Laws of the definitions that the contracts of this crate cite.
 ghost use Rattle.std.specs.Prelude.{◌≡◌, List, Bool, length};
-ghost use Rattle.bit_strings.specs.Numbers.{value_of, field_of};
+ghost use Rattle.bit_strings.specs.NumbersInBits.{value_of, field_of};
 ghost use Rattle.gen2_crc.specs.Crc.{crc5_of, crc16_of};
 
 /// A check number has 5 or 16 bits, and they are the field of its value.

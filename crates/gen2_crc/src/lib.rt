@@ -3,7 +3,7 @@
 #![tactic(auto)]
 
 ghost use Rattle.std.specs.Prelude.{◌≡◌, ◌≤◌, ◌↔◌, List, Bool, ◌++◌, length, take, IsTrue};
-ghost use Rattle.bit_strings.specs.Numbers.{value_of};
+ghost use Rattle.bit_strings.specs.NumbersInBits.{value_of};
 ghost use Rattle.gen2_crc.specs.Crc.{crc5_of, crc16_of, register_of, residue};
 
 use bit_strings::Bits;

@@ -1,6 +1,6 @@
 //! The CRC-16, bit by bit and word by word.
 ghost use Rattle.std.specs.Prelude.{◌≡◌, ◌↔◌, List, Bool, false, [], ◌∷◌, ◌++◌, length, replicate, IsTrue};
-ghost use Rattle.bit_strings.specs.Numbers.{value_of, field_of};
+ghost use Rattle.bit_strings.specs.NumbersInBits.{value_of, field_of};
 ghost use Rattle.bit_strings.specs.Words.{bits_of_words};
 ghost use Rattle.gen2_crc.specs.Crc.{crc16_of, register_of, remainder_of, others16, residue, RegisterStandsFor};
 

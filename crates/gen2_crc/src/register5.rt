@@ -1,6 +1,6 @@
 //! The CRC-5 bit by bit.
 ghost use Rattle.std.specs.Prelude.{◌≡◌, ◌<◌, List, Bool, [], ◌∷◌, ◌++◌};
-ghost use Rattle.bit_strings.specs.Numbers.{value_of, field_of};
+ghost use Rattle.bit_strings.specs.NumbersInBits.{value_of, field_of};
 ghost use Rattle.gen2_crc.specs.Crc.{crc5_of, remainder_of, others5};
 
 use std::marker::Model;

@@ -4,7 +4,7 @@ use Rattle.std.proofs.Math.Nat.{min-eq_left, min-eq_right, min-le_left, le_of_lt
 use Rattle.std.proofs.Math.Seq.{take-length, drop-length, take-append_seam, drop-append_seam}
 use Rattle.std.proofs.lemmas.Bool.{cases_lt}
 use Rattle.std.proofs.lemmas.List.{append-nil, append_assoc, take-append-drop, length-take-le, length-drop}
-use Rattle.gen2_library.specs.Called.{IsFrontOfText, Gives, GivesFront, Overflows}
+use Rattle.gen2_library.specs.LentRoom.{IsFrontOfText, Gives, GivesFront, Overflows}
 use Rattle.top_call.specs.Job.{Job, Defines}
 use Rattle.top_call.specs.StatusNumber.{status_number}
 use Rattle.top_call.specs.declared.status.Status.{Status}

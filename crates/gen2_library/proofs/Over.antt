@@ -2,7 +2,7 @@
 use Rattle.std.proofs.Common.{◌≡◌, ◌⊎◌, ℕ, ◌+◌, ◌≤◌, ◌<◌, Bool, List, ◌++◌, length, Some, true, false, [], refl, sym, ◌∙◌, ap, subst, arith, inl, inr, length-append, if◌then◌else◌}
 use Rattle.std.proofs.lemmas.List.{append-nil}
 use Rattle.air_io.specs.Flow.{TakesBytes, AtEnd, FaultsRose}
-use Rattle.gen2_library.specs.Called.{input_of, IsFrontOfText}
+use Rattle.gen2_library.specs.LentRoom.{input_of, IsFrontOfText}
 use Rattle.top_call.specs.Job.{Job, Defines}
 use Rattle.top_call.specs.Outcome.{input_limit, TakesInput, ReadsTooMuch, SpeaksOfNoInput, WritesWhole, WritesFront}
 use Rattle.top_call.specs.declared.status.Status.{Status}

@@ -1,6 +1,6 @@
 //! The program over memory: an input that is there, and room for its output.
 ghost use Rattle.std.specs.Prelude.{◌≡◌, ◌≢◌, ◌↔◌, ◌⊎◌, ℕ, ◌≤◌, ◌<◌, true, false, List, [], length, IsTrue};
-ghost use Rattle.gen2_library.specs.Called.{input_of, IsFrontOfText};
+ghost use Rattle.gen2_library.specs.LentRoom.{input_of, IsFrontOfText};
 ghost use Rattle.report_lines.specs.declared.mode.Mode.{Mode};
 ghost use Rattle.top_call.specs.Form.{texts, SpellForm, SpellSomeForm};
 ghost use Rattle.top_call.specs.Job.{Defines};
@@ -11,7 +11,7 @@ ghost use Rattle.top_call.specs.declared.status.Status.{Status};
 ghost use Rattle.top_call.specs.words.Generated.{CountsEveryTag};
 ghost use Rattle.top_call.specs.words.Reported.{SaysHeadline, SaysInventory};
 
-use crate::room::Room;
+use crate::lent_room::Room;
 use air_io::SureSource;
 use std::alloc::Global;
 use top_call::{

@@ -4,7 +4,7 @@
 #![tactic(auto)]
 
 ghost use Rattle.std.specs.Prelude.{◌≡◌, ◌≢◌, ◌⊎◌, ℕ, ◌≤◌, ◌<◌, true, false, List, length, drop};
-ghost use Rattle.gen2_library.specs.Called.{HasUnreadableWord, input_of, Gives, GivesFront, Overflows};
+ghost use Rattle.gen2_library.specs.LentRoom.{HasUnreadableWord, input_of, Gives, GivesFront, Overflows};
 ghost use Rattle.report_lines.specs.declared.mode.Mode.{Mode};
 ghost use Rattle.text_fields.specs.Lines.{fields_of};
 ghost use Rattle.program_texts.specs.Texts.{version_number};
@@ -17,12 +17,12 @@ ghost use Rattle.top_call.specs.words.Generated.{CountsEveryTag};
 ghost use Rattle.top_call.specs.words.Reported.{SaysHeadline, SaysInventory};
 
 mod call;
-mod room;
+mod lent_room;
 mod words;
 
 use call::{is_too_long, run_over};
+use lent_room::Room;
 use program_texts::version_number;
-use room::Room;
 use std::alloc::Global;
 use top_call::Status;
 use words::{form_in, has_unreadable_word, words_of};

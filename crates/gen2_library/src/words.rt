@@ -1,7 +1,7 @@
 //! The words of a call: one text, with a space between two of them.
 ghost use Rattle.std.specs.Prelude.{◌≡◌, [], ◌∷◌, ◌++◌, All, IfOk, IfSome, IsFalse, IsTrue, OnOk, Some};
 ghost use Rattle.std.specs.Str.{IsUtf8};
-ghost use Rattle.gen2_library.specs.Called.{HasUnreadableWord};
+ghost use Rattle.gen2_library.specs.LentRoom.{HasUnreadableWord};
 ghost use Rattle.text_fields.specs.Lines.{fields_of};
 ghost use Rattle.top_call.specs.Form.{texts, SpellForm};
 ghost use Rattle.top_call.specs.declared.forms.Form.{Form};

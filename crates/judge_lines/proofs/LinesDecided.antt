@@ -19,9 +19,9 @@ use Rattle.probe_lines.specs.declared.line.LineWord.{LineWord}
 use Rattle.probe_lines.specs.declared.line.LineWord.TheVariants as words
 use Rattle.reply_text.specs.ReplyText.{IsReplyForm, replies}
 use Rattle.scenario_lines.specs.Names.{keyword_text}
-use Rattle.scenario_lines.specs.declared.first_fields.EventKind.{EventKind}
-use Rattle.scenario_lines.specs.declared.first_fields.EventKind.TheVariants as kinds
-use Rattle.scenario_lines.specs.declared.first_fields.Keyword.TheVariants as keywords
+use Rattle.scenario_lines.specs.declared.keywords.EventKind.{EventKind}
+use Rattle.scenario_lines.specs.declared.keywords.EventKind.TheVariants as kinds
+use Rattle.scenario_lines.specs.declared.keywords.Keyword.TheVariants as keywords
 use Rattle.scenario_lines.specs.declared.tag.TagSpec.{TagSpec}
 use Rattle.scenario_lines.proofs.Decisions.{Any, Decided, Spelled, behind_decided as then, nothing_decided as end, same_answer, text_decided}
 use Rattle.scenario_lines.proofs.FieldsDecided.{IsLasting, bits_decided, lasting_decided}

@@ -3,8 +3,8 @@ use Rattle.std.proofs.Common.{◌≡◌, ℕ, ◌+◌, ◌*◌, ◌/◌, ◌%◌
 use Rattle.std.specs.List.{range_with_len}
 use Rattle.std.proofs.lemmas.List.{get_or-map, length-map}
 use Rattle.std.proofs.lemmas.List.FromFn.{get_or-map-range_with_len, length-map-range_with_len}
-use Rattle.bit_strings.specs.Numbers.{field_of}
-use Rattle.bit_strings.specs.laws.Numbers.{field_of-mod}
+use Rattle.bit_strings.specs.NumbersInBits.{field_of}
+use Rattle.bit_strings.specs.laws.NumbersInBits.{field_of-mod}
 use mir.Val.{bool_byte}
 
 -- what a function of a phase and of four bits gives for a row's number

@@ -13,7 +13,7 @@ pub record IsEven (t : Table) (chips : ℕ) : Type 0 where
 abbrev pub longest_lead : ℕ
 longest_lead = 352
 
--- something stands before the data
+-- a preamble stands before the data
 abbrev pub HasLead : Table → Type 0
 HasLead t = (trext : Bool) → 1 ≤ length (t.lead trext)
 

@@ -1,6 +1,6 @@
 //! What a line code is.
 ghost use Rattle.std.specs.Prelude.{◌≡◌, ◌≢◌, ℕ, ◌*◌, ◌<◌, ◌≤◌, length, Bool, Some, IfSome, IfNone, slice_get};
-ghost use Rattle.bit_strings.specs.Numbers.{field_of};
+ghost use Rattle.bit_strings.specs.NumbersInBits.{field_of};
 ghost use Rattle.line_code.specs.Table.{Context, Table};
 ghost use Rattle.line_code.specs.Stream.{blocks};
 ghost use Rattle.line_code.specs.States.{context_after};

@@ -1,6 +1,6 @@
 //! The encoder.
 ghost use Rattle.std.specs.Prelude.{◌≡◌, ◌≤◌, ◌+◌, ◌*◌, ◌++◌, length};
-ghost use Rattle.bit_strings.specs.Numbers.{field_of, value_of};
+ghost use Rattle.bit_strings.specs.NumbersInBits.{field_of, value_of};
 ghost use Rattle.line_code.specs.Stream.{IsStream, blocks};
 ghost use Rattle.line_code.specs.States.{context_after};
 

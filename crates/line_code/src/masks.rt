@@ -1,7 +1,7 @@
 //! Levels as the bits of a number.
 ghost use Rattle.std.specs.Prelude.{◌≡◌, length, map};
 ghost use Rattle.std.specs.Simd.Lanes.{mask_l};
-ghost use Rattle.bit_strings.specs.Numbers.{digit_of};
+ghost use Rattle.bit_strings.specs.NumbersInBits.{digit_of};
 
 use std::simd::prelude::{SimdPartialEq, u8x16};
 

@@ -1,13 +1,13 @@
 -- What fields say, joined.
 use Rattle.std.proofs.Common.{◌≡◌, ◌≢◌, ◌≤◌, ◌-◌, ℕ, List, [], ◌∷◌, ◌++◌, Option, length, get_or, take, drop, refl, ap, ◌∙◌, append_assoc, arith}
 use Rattle.std.proofs.lemmas.List.{take_all}
-use Rattle.line_objects.specs.Keys.{key_name, key_shape}
+use Rattle.line_objects.specs.MemberNames.{key_name, key_shape}
 use Rattle.line_objects.specs.Objects.{Pair, field_pairs, fields_pairs, kind_pair, pairs_behind, shaped_pairs, uri_pairs}
-use Rattle.line_objects.specs.Rows.{keys_behind}
+use Rattle.line_objects.specs.LineMembers.{keys_behind}
 use Rattle.line_objects.specs.Values.{text_value}
-use Rattle.line_objects.specs.declared.keys.Key.{Key}
-use Rattle.line_objects.specs.declared.keys.Key.TheVariants as keys
-use Rattle.line_objects.specs.declared.keys.Shape.TheVariants.{EpcText}
+use Rattle.line_objects.specs.declared.member_names.Key.{Key}
+use Rattle.line_objects.specs.declared.member_names.Key.TheVariants as keys
+use Rattle.line_objects.specs.declared.member_names.Shape.TheVariants.{EpcText}
 
 abbrev Uris : Type 0
 Uris = List ℕ → Option (List ℕ)

@@ -4,7 +4,7 @@ use Rattle.std.proofs.lemmas.List.{append-nil}
 use Rattle.text_fields.specs.Lines.{line_feed, lines_of}
 use Rattle.text_fields.proofs.LineLaws.{some_piece}
 use Rattle.line_objects.specs.Objects.{object_of, objects_of}
-use Rattle.line_objects.specs.declared.rows.LineSet.{LineSet}
+use Rattle.line_objects.specs.declared.line_members.LineSet.{LineSet}
 
 abbrev Uris : Type 0
 Uris = List ℕ → Option (List ℕ)

@@ -1,5 +1,5 @@
-pub mod Keys
-pub mod Rows
+pub mod MemberNames
+pub mod LineMembers
 pub mod Values
 pub mod Objects
 pub mod Members

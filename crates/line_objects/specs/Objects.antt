@@ -4,14 +4,14 @@ use Rattle.serde_json.specs.Data.{Data, object}
 use Rattle.serde_json.specs.Written.{compact_text}
 use Rattle.report_lines.specs.JsonLines.{members_in}
 use Rattle.text_fields.specs.Lines.{fields_of, line_feed, lines_of}
-use Rattle.line_objects.specs.Keys.{key_name, key_shape}
-use Rattle.line_objects.specs.Rows.{keys_behind, line_keys}
+use Rattle.line_objects.specs.MemberNames.{key_name, key_shape}
+use Rattle.line_objects.specs.LineMembers.{keys_behind, line_keys}
 use Rattle.line_objects.specs.Values.{AreUris, number_in, number_value, text_value}
-use Rattle.line_objects.specs.declared.keys.Key.{Key}
-use Rattle.line_objects.specs.declared.keys.Key.TheVariants as keys
-use Rattle.line_objects.specs.declared.keys.Shape.{Shape}
-use Rattle.line_objects.specs.declared.keys.Shape.TheVariants.{Number, Text, EpcText, PlaceOrReason, Joint}
-use Rattle.line_objects.specs.declared.rows.LineSet.{LineSet}
+use Rattle.line_objects.specs.declared.member_names.Key.{Key}
+use Rattle.line_objects.specs.declared.member_names.Key.TheVariants as keys
+use Rattle.line_objects.specs.declared.member_names.Shape.{Shape}
+use Rattle.line_objects.specs.declared.member_names.Shape.TheVariants.{Number, Text, EpcText, PlaceOrReason, Joint}
+use Rattle.line_objects.specs.declared.line_members.LineSet.{LineSet}
 
 -- a name with its value
 abbrev pub Pair : Type 0

@@ -5,7 +5,7 @@ ghost use Rattle.std.specs.Str.{IsUtf8};
 ghost use Rattle.serde_json.specs.Data.{string};
 ghost use Rattle.line_objects.specs.Objects.{AreObjectsOf};
 ghost use Rattle.line_objects.specs.Values.{AreUris, number_in, text_value};
-ghost use Rattle.line_objects.specs.declared.rows.LineSet.{LineSet};
+ghost use Rattle.line_objects.specs.declared.line_members.LineSet.{LineSet};
 
 use epc_sgtin::sgtin_laws;
 

@@ -2,17 +2,17 @@
 //! objects are profile).
 #![tactic(auto)]
 
-mod keys;
 mod laws;
+mod line_members;
+mod member_names;
 mod members;
 mod objects;
 mod plain_text;
 mod reading;
-mod rows;
 mod values;
 
 pub use laws::{fields_are_told, texts_have_objects};
+pub use line_members::LineSet;
 pub use objects::objects_of;
 pub use plain_text::PlainText;
-pub use rows::LineSet;
 pub use values::spelled_number;

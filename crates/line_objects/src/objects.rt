@@ -4,9 +4,9 @@ ghost use Rattle.line_objects.specs.Objects.{AreObjectsOf, object_of};
 ghost use Rattle.line_objects.specs.Values.{AreUris};
 
 use crate::laws::fields_have_uris;
+use crate::line_members::LineSet;
 use crate::members::Object;
 use crate::reading::members_of;
-use crate::rows::LineSet;
 use bit_strings::OutOfMemory;
 use std::alloc::Global;
 use text_fields::split_line;

@@ -1,14 +1,14 @@
 //! What the fields of a line say, as members.
 ghost use Rattle.std.specs.Prelude.{◌≡◌, ◌≢◌, ◌++◌, ℕ, List, [], ◌∷◌, OnOk, IfOk, IfNone, IfSome, Option};
 ghost use Rattle.text_fields.specs.Lines.{fields_of};
-ghost use Rattle.line_objects.specs.declared.keys.Key.{Key};
+ghost use Rattle.line_objects.specs.declared.member_names.Key.{Key};
 ghost use Rattle.line_objects.specs.Members.{pairs_of, data_of};
 ghost use Rattle.line_objects.specs.Objects.{absent_pairs, field_pairs, fields_pairs, kind_pair, line_pairs, pairs_behind, place_or_reason, uri_pairs};
 ghost use Rattle.line_objects.specs.Values.{AreUris, number_in};
 
-use crate::keys::{Key, Shape};
+use crate::line_members::{LineSet, keys_behind, line_keys};
+use crate::member_names::{Key, Shape};
 use crate::members::{Member, Value};
-use crate::rows::{LineSet, keys_behind, line_keys};
 use crate::values::{number_in, uri_in};
 use bit_strings::OutOfMemory;
 use std::alloc::Global;

@@ -1,7 +1,7 @@
 -- A pair of lock bits as a number from 0 to 3, and the number that five of them make.
 use Rattle.std.proofs.Common.{◌≡◌, ℕ, ◌+◌, ◌*◌, ◌/◌, ◌%◌, ◌<◌, ◌==◌, Bool, true, false, refl, arith, zero, suc}
 use Rattle.std.proofs.lemmas.Nat.{div-mul-add}
-use Rattle.bit_strings.specs.Numbers.{digit_of}
+use Rattle.bit_strings.specs.NumbersInBits.{digit_of}
 use Rattle.lock_rules.specs.declared.locks.Pair.{Pair}
 use Rattle.lock_rules.specs.declared.locks.Locks.{Locks}
 use Rattle.lock_rules.specs.Lock.{pair_number, locks_number, locks_of}

@@ -1,7 +1,7 @@
 -- 6.3.2.11.3.5 Lock: how a payload of ten mask bits and ten action bits changes the pairs of a tag's fields.
 use Rattle.std.specs.Prelude.{ℕ, ◌+◌, ◌*◌, ◌/◌, ◌%◌, ◌^◌, ◌==◌, Bool, not, ◌&&◌, ◌||◌, List, [], ◌∷◌, if◌then◌else◌, Result, Ok, Err}
 use Rattle.std.specs.List.{list_any}
-use Rattle.bit_strings.specs.Numbers.{digit_of}
+use Rattle.bit_strings.specs.NumbersInBits.{digit_of}
 use Rattle.lock_rules.specs.declared.terms.ErrorCode.{ErrorCode}
 use Rattle.lock_rules.specs.declared.terms.ErrorCode.TheVariants.{Overrun, Locked}
 use Rattle.lock_rules.specs.declared.terms.Field.{Field}

@@ -2,7 +2,7 @@
 use Rattle.std.proofs.Common.{◌≡◌, ℕ, true, is_some, List, Option, Some, None, refl, sym, ◌∙◌, ap, subst}
 use Rattle.command_grammar.specs.declared.commands.Command.{Command}
 use Rattle.command_grammar.specs.Commands.{IsLegalCommand}
-use Rattle.tag_machine.specs.Numbers.{numbers_of}
+use Rattle.tag_machine.specs.StateNumbers.{numbers_of}
 use Rattle.tag_machine.specs.TagValue.{StateValue, ArbitrateState, ReplyState, AcknowledgedState, OpenState, SecuredState, TagValue, IsLegalState}
 use Rattle.log_verdicts.specs.Log.{Seen}
 use Rattle.log_verdicts.specs.Explaining.{seen_answer_to}

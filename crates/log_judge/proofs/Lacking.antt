@@ -11,11 +11,11 @@ use Rattle.tag_machine.specs.Access.{access_whole, half_outcome, held_state, is_
 use Rattle.tag_machine.specs.Answers.{Outcome, Sent, plain_answer, silent}
 use Rattle.tag_machine.specs.Draws.{back}
 use Rattle.tag_machine.specs.Inventory.{unless_half}
-use Rattle.tag_machine.specs.Numbers.{numbers_of}
+use Rattle.tag_machine.specs.StateNumbers.{numbers_of}
 use Rattle.tag_machine.specs.Step.{step}
 use Rattle.tag_machine.specs.TagValue.{StateValue, OpenState, SecuredState, BodyValue, TagValue}
-use Rattle.tag_machine.specs.declared.numbers.StateNumbers.{StateNumbers}
-use Rattle.tag_machine.specs.declared.numbers.StateNumbers.TheVariants as numbers
+use Rattle.tag_machine.specs.declared.state_numbers.StateNumbers.{StateNumbers}
+use Rattle.tag_machine.specs.declared.state_numbers.StateNumbers.TheVariants as numbers
 use Rattle.tag_machine.specs.declared.states.Half.{Half}
 use Rattle.tag_machine.specs.declared.states.Held.{Held}
 use Rattle.tag_machine.specs.declared.states.Password.{Password}

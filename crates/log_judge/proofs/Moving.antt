@@ -8,9 +8,9 @@ use Rattle.tag_machine.specs.TagValue.{StateValue, ArbitrateState, BodyValue, Ta
 use Rattle.tag_machine.specs.Answers.{Outcome, silent}
 use Rattle.tag_machine.specs.Draws.{begin_reply}
 use Rattle.tag_machine.specs.Inventory.{count_down, q_after_adjust, slot_below}
-use Rattle.tag_machine.specs.Numbers.{numbers_of}
+use Rattle.tag_machine.specs.StateNumbers.{numbers_of}
 use Rattle.tag_machine.specs.Step.{step}
-use Rattle.tag_machine.specs.declared.numbers.StateNumbers.{StateNumbers}
+use Rattle.tag_machine.specs.declared.state_numbers.StateNumbers.{StateNumbers}
 use Rattle.log_verdicts.specs.Log.{Seen, Exchange}
 use Rattle.log_verdicts.specs.Explaining.{ByTables, outcome_of_heard, seen_of}
 use Rattle.log_verdicts.specs.laws.Logs.{IsLegalHeard}

@@ -3,9 +3,9 @@ use Rattle.std.specs.Prelude.{ℕ, ◌-◌, ◌^◌, ◌==◌, ◌&&◌, nat_lt,
 use Rattle.command_grammar.specs.declared.commands.Command.{Command}
 use Rattle.command_grammar.specs.declared.commands.Command.TheVariants as commands
 use Rattle.tag_machine.specs.TagValue.{StateValue}
-use Rattle.tag_machine.specs.Numbers.{numbers_of}
-use Rattle.tag_machine.specs.declared.numbers.StateNumbers.{StateNumbers}
-use Rattle.tag_machine.specs.declared.numbers.StateNumbers.TheVariants as numbers
+use Rattle.tag_machine.specs.StateNumbers.{numbers_of}
+use Rattle.tag_machine.specs.declared.state_numbers.StateNumbers.{StateNumbers}
+use Rattle.tag_machine.specs.declared.state_numbers.StateNumbers.TheVariants as numbers
 use Rattle.log_verdicts.specs.Log.{Seen}
 use Rattle.log_verdicts.specs.Verdicts.{Want, Nothing, AnyRn16, AnyHandle, NothingOrAnyRn16}
 use Rattle.log_verdicts.specs.laws.Logs.{number_seen}

@@ -9,10 +9,10 @@ use Rattle.reply_grammar.specs.declared.expected.Reply.TheVariants.{Rn16, Epc, H
 use Rattle.tag_memory.specs.Memory.{Banks, access_word_of, bank_of}
 use Rattle.tag_memory.specs.Access.{banks_after_write}
 use Rattle.tag_machine.specs.Access.{held_state, memory_outcome, whole_of}
-use Rattle.tag_machine.specs.Numbers.{numbers_of}
+use Rattle.tag_machine.specs.StateNumbers.{numbers_of}
 use Rattle.tag_machine.specs.Step.{step}
-use Rattle.tag_machine.specs.declared.numbers.StateNumbers.{StateNumbers}
-use Rattle.tag_machine.specs.declared.numbers.StateNumbers.TheVariants as numbers
+use Rattle.tag_machine.specs.declared.state_numbers.StateNumbers.{StateNumbers}
+use Rattle.tag_machine.specs.declared.state_numbers.StateNumbers.TheVariants as numbers
 use Rattle.tag_machine.specs.TagValue.{TagValue}
 use Rattle.tag_machine.specs.declared.states.Half.{Half}
 use Rattle.tag_machine.specs.declared.states.Held.{Held}

@@ -5,7 +5,7 @@ use Rattle.log_verdicts.specs.Log.{LogEntry, Seen, Exchange}
 use Rattle.log_verdicts.specs.Explaining.{Manner, ByTables, WithLiberties}
 use Rattle.command_grammar.specs.declared.commands.Command.{Command}
 use Rattle.command_grammar.specs.Commands.{IsLegalCommand}
-use Rattle.tag_machine.specs.Numbers.{numbers_of}
+use Rattle.tag_machine.specs.StateNumbers.{numbers_of}
 use Rattle.log_verdicts.specs.laws.Kinds.{HasSmallQ, reworded}
 use Rattle.log_verdicts.specs.laws.Known.{Known, Follows, at_slot, want_of}
 use Rattle.log_judge.specs.Answers.{want_in}

@@ -1,7 +1,7 @@
 //! What a tag may draw at a command, and what is told of that by an answer.
 ghost use Rattle.std.specs.Prelude.{◌≡◌, ◌-◌, ◌^◌, is_some};
 ghost use Rattle.tag_machine.specs.Hearing.{tag_value_of};
-ghost use Rattle.tag_machine.specs.Numbers.{numbers_of};
+ghost use Rattle.tag_machine.specs.StateNumbers.{numbers_of};
 ghost use Rattle.log_judge.specs.Answers.{seen_in, want_in};
 ghost use Rattle.log_judge.specs.Drawing.{comes_now, draws_at, fallen, falls_in_turn, first_word, has_drawn, rn16_wanted, slots_behind, slots_told, want_behind, want_told};
 

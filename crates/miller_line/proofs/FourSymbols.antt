@@ -1,6 +1,6 @@
 -- Four symbols, and how many levels they have.
 use Rattle.std.proofs.Common.{◌≡◌, ℕ, ◌*◌, ◌∷◌, Bool, true, false, List, inl, inr, length, refl}
-use Rattle.bit_strings.specs.Numbers.{field_of}
+use Rattle.bit_strings.specs.NumbersInBits.{field_of}
 use Rattle.line_code.specs.Table.{Context}
 use Rattle.line_code.specs.Stream.{blocks}
 use Rattle.miller_line.specs.Miller.{miller, IsOneOfThree, start_phase}

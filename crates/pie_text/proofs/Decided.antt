@@ -3,9 +3,9 @@ use Rattle.std.proofs.Common.{◌≡◌, ◌≢◌, ◌⊎◌, ◌<◌, ◌^◌,
 use Rattle.std.specs.Fmt.{decimal}
 use Rattle.std.proofs.lemmas.Bool.{cases_eq, cases_lt}
 use Rattle.std.proofs.lemmas.List.Elements.{All-nil, All-cons, All-head, All-tail}
-use Rattle.pie_text.specs.declared.numbers.NotNumbers.{NotNumbers}
-use Rattle.pie_text.specs.declared.numbers.NotNumbers.TheVariants.{Shape, Number}
-use Rattle.pie_text.specs.Numbers.{AreFewFilled, RefusesNumbers, SpellsNumbers}
+use Rattle.pie_text.specs.declared.number_lists.NotNumbers.{NotNumbers}
+use Rattle.pie_text.specs.declared.number_lists.NotNumbers.TheVariants.{Shape, Number}
+use Rattle.pie_text.specs.NumberLists.{AreFewFilled, RefusesNumbers, SpellsNumbers}
 use Rattle.pie_text.specs.Spelling.{IsNumberUpTo, decimal_value}
 use Rattle.pie_text.proofs.Numerals.{fields_spell, spelled_numbers}
 

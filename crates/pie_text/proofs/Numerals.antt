@@ -4,9 +4,9 @@ use Rattle.std.specs.Fmt.{decimal}
 use Rattle.std.proofs.lemmas.Fmt.{decimal_is_IsNumeral}
 use Rattle.std.proofs.lemmas.List.{length-map}
 use Rattle.std.proofs.lemmas.List.Elements.{All-nil, All-cons, All-head, All-tail}
-use Rattle.pie_text.specs.declared.numbers.NotNumbers.{NotNumbers}
-use Rattle.pie_text.specs.declared.numbers.NotNumbers.TheVariants.{Shape, Number}
-use Rattle.pie_text.specs.Numbers.{AreFewFilled, RefusesNumbers, SpellsNumbers}
+use Rattle.pie_text.specs.declared.number_lists.NotNumbers.{NotNumbers}
+use Rattle.pie_text.specs.declared.number_lists.NotNumbers.TheVariants.{Shape, Number}
+use Rattle.pie_text.specs.NumberLists.{AreFewFilled, RefusesNumbers, SpellsNumbers}
 use Rattle.pie_text.specs.Spelling.{IsNumberUpTo, decimal_value}
 
 -- the fact of `within`

@@ -1,5 +1,5 @@
 pub mod FieldEnd
-pub mod Numbers
+pub mod NumberLists
 pub mod PieText
 pub mod Spelling
 pub mod laws

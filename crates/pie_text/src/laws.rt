@@ -1,7 +1,7 @@
 //! The law of lists of numbers. The function here states it by its contract, and does nothing.
 ghost use Rattle.std.specs.Prelude.{◌⊎◌, ◌<◌, ◌^◌, ℕ, List};
-ghost use Rattle.pie_text.specs.declared.numbers.NotNumbers.{NotNumbers};
-ghost use Rattle.pie_text.specs.Numbers.{RefusesNumbers, SpellsNumbers};
+ghost use Rattle.pie_text.specs.declared.number_lists.NotNumbers.{NotNumbers};
+ghost use Rattle.pie_text.specs.NumberLists.{RefusesNumbers, SpellsNumbers};
 
 /// Fields spell numbers up to a greatest one, or are refused.
 pub fn numbers_or_refused()

@@ -8,9 +8,9 @@ mod kept_intervals;
 mod kept_texts;
 mod laws;
 mod leading;
-mod numbers;
+mod number_lists;
 
 pub use frames::{push_frame, push_pie_refusal};
 pub use kept_intervals::KeptIntervals;
 pub use laws::numbers_or_refused;
-pub use numbers::{NotNumbers, Numbers, read_numbers};
+pub use number_lists::{NotNumbers, Numbers, read_numbers};

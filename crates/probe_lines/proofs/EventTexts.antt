@@ -5,8 +5,8 @@ use Rattle.air_events.specs.declared.Event.TheVariants as events
 use Rattle.command_text.specs.CommandText.{flag_word}
 use Rattle.command_text.proofs.FieldTexts.{flag_is}
 use Rattle.command_text.proofs.ToldApart.{flag_told}
-use Rattle.scenario_lines.specs.declared.first_fields.EventKind.{EventKind}
-use Rattle.scenario_lines.specs.declared.first_fields.EventKind.TheVariants as kinds
+use Rattle.scenario_lines.specs.declared.keywords.EventKind.{EventKind}
+use Rattle.scenario_lines.specs.declared.keywords.EventKind.TheVariants as kinds
 use Rattle.scenario_lines.specs.Names.{event_kind, event_word}
 use Rattle.text_fields.specs.NamedFields.{AreFilled, AreSpelling}
 use Rattle.text_fields.proofs.FilledFields.{none_filled, one_more}

@@ -10,15 +10,15 @@ use Rattle.command_grammar.specs.Commands.{SpellsCommand}
 use Rattle.reply_text.specs.ReplyText.{reply_line}
 use Rattle.report_lines.specs.ReportLine.{TagLine, DoneLine, flags_word, report_text, state_word}
 use Rattle.scenario_lines.specs.declared.tag.TagSpec.{TagSpec}
-use Rattle.tag_machine.specs.declared.numbers.StateNumbers.{StateNumbers}
-use Rattle.tag_machine.specs.declared.numbers.StateNumbers.TheVariants as numbers
+use Rattle.tag_machine.specs.declared.state_numbers.StateNumbers.{StateNumbers}
+use Rattle.tag_machine.specs.declared.state_numbers.StateNumbers.TheVariants as numbers
 use Rattle.tag_machine.specs.declared.states.Half.{Half}
 use Rattle.tag_machine.specs.declared.states.Password.{Password}
 use Rattle.tag_machine.specs.declared.states.Password.TheVariants as passwords
 use Rattle.tag_machine.specs.Answers.{Outcome, Sent, silent}
 use Rattle.tag_machine.specs.Events.{tag_after_event, tag_of_image}
 use Rattle.tag_machine.specs.Names.{name_of}
-use Rattle.tag_machine.specs.Numbers.{numbers_of}
+use Rattle.tag_machine.specs.StateNumbers.{numbers_of}
 use Rattle.tag_machine.specs.Step.{step}
 use Rattle.tag_machine.specs.TagValue.{TagValue}
 use Rattle.probe_lines.specs.Said.{Stimulus, StimulusEffect, Hears, Befalls, Nothing}

@@ -6,7 +6,7 @@ use Rattle.checked_lines.specs.TextRules.{TextRules, Faulty, Whole, HasOutcomeFr
 use Rattle.checked_lines.specs.declared.fault.FaultReason.{FaultReason}
 use Rattle.checked_lines.specs.declared.fault.FaultReason.TheVariants.{Extra, End, Version, Word, Limit, Shape, Number, Pc}
 use Rattle.scenario_lines.specs.declared.fault.LineFault.TheVariants as line_faults
-use Rattle.scenario_lines.specs.declared.first_fields.Keyword.TheVariants as keywords
+use Rattle.scenario_lines.specs.declared.keywords.Keyword.TheVariants as keywords
 use Rattle.scenario_lines.specs.declared.tag.TagSpec.{TagSpec}
 use Rattle.scenario_lines.specs.Names.{keyword_text}
 use Rattle.scenario_lines.specs.Reading.{MisreadsTag}

@@ -2,8 +2,8 @@
 use Rattle.std.proofs.Common.{◌≡◌, ℕ, ◌+◌, ◌*◌, ◌≤◌, Bool, true, false, ◌&&◌, List, ◌∷◌, ◌++◌, length, refl, arith, length-append}
 use Rattle.std.specs.Prelude.{◌↔◌, nat_le}
 use Rattle.std.proofs.lemmas.Bool.{eqb-true, eq-eqb, leb-true, le-leb}
-use Rattle.bit_strings.specs.Numbers.{field_of}
-use Rattle.bit_strings.specs.laws.Numbers.{length-field_of}
+use Rattle.bit_strings.specs.NumbersInBits.{field_of}
+use Rattle.bit_strings.specs.laws.NumbersInBits.{length-field_of}
 use Rattle.bit_strings.specs.Words.{bits_of_words}
 use Rattle.bit_strings.specs.laws.Words.{length-bits_of_words}
 use Rattle.reply_grammar.specs.declared.expected.Expect.{Expect}

@@ -1,7 +1,7 @@
 -- How a reply is written part by part.
 use Rattle.std.proofs.Common.{◌≡◌, ℕ, ◌+◌, ◌≤◌, Bool, List, ◌++◌, length, ◌∙◌, ap, arith}
 use Rattle.bit_strings.specs.BitString.{BitString}
-use Rattle.bit_strings.specs.Numbers.{value_of, field_of}
+use Rattle.bit_strings.specs.NumbersInBits.{value_of, field_of}
 use Rattle.bit_strings.specs.Words.{bits_of_words}
 use Rattle.gen2_crc.specs.Crc.{crc16_of}
 use Rattle.gen2_crc.specs.laws.CheckNumbers.{field_of-crc16}

@@ -1,6 +1,6 @@
 -- Why bits are no reply that is expected: four things are asked in order, and the first that fails is the answer.
 use Rattle.std.specs.Prelude.{◌≡◌, ℕ, ◌-◌, ◌*◌, ◌+◌, ◌≤◌, ◌⊎◌, ◌==◌, Bool, List, ◌++◌, length, take, Some, slice_get}
-use Rattle.bit_strings.specs.Numbers.{value_of, part_of}
+use Rattle.bit_strings.specs.NumbersInBits.{value_of, part_of}
 use Rattle.gen2_crc.specs.Crc.{crc16_of}
 use Rattle.reply_grammar.specs.declared.expected.Expect.{Expect}
 use Rattle.reply_grammar.specs.declared.expected.Expect.TheVariants.{Rn16, Epc, Handle, Same, Words, AnyWords, Header}

@@ -5,7 +5,7 @@ use Rattle.std.specs.List.{AllByRecursion}
 use Rattle.std.specs.Prelude.{All}
 use Rattle.tag_machine.specs.Exchange.{AreLegalTags}
 use Rattle.runs.specs.ScenarioStart.{start_of, scenario_tag}
-use Rattle.bit_strings.specs.laws.Numbers.{value_of-below}
+use Rattle.bit_strings.specs.laws.NumbersInBits.{value_of-below}
 use Rattle.bit_strings.specs.Words.{bits_of_words}
 use Rattle.command_grammar.specs.Commands.{IsWord, IsLegalCommand}
 use Rattle.command_grammar.specs.declared.commands.Command.{Command}

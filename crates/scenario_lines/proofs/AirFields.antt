@@ -6,8 +6,8 @@ use Rattle.air_events.specs.declared.Event.TheVariants as events
 use Rattle.air_events.specs.declared.Choice.TheVariants as choices
 use Rattle.text_fields.specs.Binary.{binary}
 use Rattle.command_text.specs.CommandText.{flag_word}
-use Rattle.scenario_lines.specs.declared.first_fields.Keyword.TheVariants as keywords
-use Rattle.scenario_lines.specs.declared.first_fields.AirKind.{AirKind}
+use Rattle.scenario_lines.specs.declared.keywords.Keyword.TheVariants as keywords
+use Rattle.scenario_lines.specs.declared.keywords.AirKind.{AirKind}
 use Rattle.scenario_lines.specs.declared.line.Happening.{Happening}
 use Rattle.scenario_lines.specs.declared.line.Happening.TheVariants as happenings
 use Rattle.scenario_lines.specs.Names.{air_field_count, air_kind, air_word, event_field_count, event_kind}

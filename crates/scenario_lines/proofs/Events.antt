@@ -3,7 +3,7 @@ use Rattle.std.proofs.Common.{◌≡◌, refl}
 use Rattle.command_fields.specs.declared.choices.FlagName.{FlagName}
 use Rattle.air_events.specs.declared.Event.{Event}
 use Rattle.air_events.specs.declared.Event.TheVariants as events
-use Rattle.scenario_lines.specs.declared.first_fields.EventKind.TheVariants.{Expire}
+use Rattle.scenario_lines.specs.declared.keywords.EventKind.TheVariants.{Expire}
 use Rattle.scenario_lines.specs.Names.{event_kind}
 
 -- an expiry has a flag

@@ -16,14 +16,14 @@ use Rattle.q_round.specs.declared.rule.Rule.{Rule}
 use Rattle.q_round.specs.declared.rule.Rule.TheVariants as rules
 use Rattle.scenario_lines.specs.declared.version.Version.{Version}
 use Rattle.scenario_lines.specs.declared.version.Version.TheVariants.{One, Two}
-use Rattle.scenario_lines.specs.declared.first_fields.Keyword.{Keyword}
-use Rattle.scenario_lines.specs.declared.first_fields.Keyword.TheVariants as keywords
-use Rattle.scenario_lines.specs.declared.first_fields.EventKind.{EventKind}
-use Rattle.scenario_lines.specs.declared.first_fields.EventKind.TheVariants as events
-use Rattle.scenario_lines.specs.declared.first_fields.OpKind.{OpKind}
-use Rattle.scenario_lines.specs.declared.first_fields.OpKind.TheVariants as op_kinds
-use Rattle.scenario_lines.specs.declared.first_fields.AirKind.{AirKind}
-use Rattle.scenario_lines.specs.declared.first_fields.AirKind.TheVariants as airs
+use Rattle.scenario_lines.specs.declared.keywords.Keyword.{Keyword}
+use Rattle.scenario_lines.specs.declared.keywords.Keyword.TheVariants as keywords
+use Rattle.scenario_lines.specs.declared.keywords.EventKind.{EventKind}
+use Rattle.scenario_lines.specs.declared.keywords.EventKind.TheVariants as events
+use Rattle.scenario_lines.specs.declared.keywords.OpKind.{OpKind}
+use Rattle.scenario_lines.specs.declared.keywords.OpKind.TheVariants as op_kinds
+use Rattle.scenario_lines.specs.declared.keywords.AirKind.{AirKind}
+use Rattle.scenario_lines.specs.declared.keywords.AirKind.TheVariants as airs
 use Rattle.scenario_lines.specs.Names.{HasRuleText, air_word, event_word, keyword_text, op_word, rule_text, sel_text, several_text, version_digit}
 use Rattle.value_text.specs.ValueText.{locks_text, pair_text, password_text}
 

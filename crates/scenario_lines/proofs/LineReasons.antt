@@ -5,8 +5,8 @@ use Rattle.pie_line.specs.Link.{IsLegalLink, LinkValue}
 use Rattle.pie_line.specs.LinkRefusal.{IsFirstBroken}
 use Rattle.pie_line.specs.declared.link.LinkRefusal.{LinkRefusal}
 use Rattle.pie_line.specs.declared.link.LinkRefusal.TheVariants as refusals
-use Rattle.scenario_lines.specs.declared.first_fields.Keyword.{Keyword}
-use Rattle.scenario_lines.specs.declared.first_fields.Keyword.TheVariants as keywords
+use Rattle.scenario_lines.specs.declared.keywords.Keyword.{Keyword}
+use Rattle.scenario_lines.specs.declared.keywords.Keyword.TheVariants as keywords
 use Rattle.scenario_lines.specs.declared.line.Line.{Line}
 use Rattle.scenario_lines.specs.declared.line.Line.TheVariants as lines
 use Rattle.scenario_lines.specs.declared.fault.LineFault.{LineFault}

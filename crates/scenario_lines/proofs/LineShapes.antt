@@ -6,8 +6,8 @@ use Rattle.std.proofs.lemmas.List.Elements.{All-head, All-weaker}
 use Rattle.text_fields.specs.Lines.{IsFieldText}
 use Rattle.scenario_lines.specs.declared.line.Line.{Line}
 use Rattle.scenario_lines.specs.declared.line.Line.TheVariants as lines
-use Rattle.scenario_lines.specs.declared.first_fields.Keyword.{Keyword}
-use Rattle.scenario_lines.specs.declared.first_fields.Keyword.TheVariants as keywords
+use Rattle.scenario_lines.specs.declared.keywords.Keyword.{Keyword}
+use Rattle.scenario_lines.specs.declared.keywords.Keyword.TheVariants as keywords
 use Rattle.scenario_lines.specs.Names.{air_kind, air_word, event_kind, op_kind, keyword_text}
 use Rattle.scenario_lines.specs.LineForm.{HasForm}
 use Rattle.scenario_lines.specs.LineFaults.{BeginsWithKeyword, HasKnownKind, HasShape}

@@ -14,14 +14,14 @@ use Rattle.air_events.specs.declared.Choice.TheVariants as choices
 use Rattle.air_events.specs.Streams.{HasStreamLength, longest_stream}
 use Rattle.command_fields.specs.declared.choices.FlagName.{FlagName}
 use Rattle.command_fields.specs.declared.choices.FlagName.TheVariants as flags
-use Rattle.scenario_lines.specs.declared.first_fields.EventKind.{EventKind}
-use Rattle.scenario_lines.specs.declared.first_fields.EventKind.TheVariants as event_kinds
-use Rattle.scenario_lines.specs.declared.first_fields.OpKind.{OpKind}
-use Rattle.scenario_lines.specs.declared.first_fields.OpKind.TheVariants as op_kinds
-use Rattle.scenario_lines.specs.declared.first_fields.AirKind.{AirKind}
-use Rattle.scenario_lines.specs.declared.first_fields.AirKind.TheVariants as airs
-use Rattle.scenario_lines.specs.declared.first_fields.Keyword.{Keyword}
-use Rattle.scenario_lines.specs.declared.first_fields.Keyword.TheVariants as keywords
+use Rattle.scenario_lines.specs.declared.keywords.EventKind.{EventKind}
+use Rattle.scenario_lines.specs.declared.keywords.EventKind.TheVariants as event_kinds
+use Rattle.scenario_lines.specs.declared.keywords.OpKind.{OpKind}
+use Rattle.scenario_lines.specs.declared.keywords.OpKind.TheVariants as op_kinds
+use Rattle.scenario_lines.specs.declared.keywords.AirKind.{AirKind}
+use Rattle.scenario_lines.specs.declared.keywords.AirKind.TheVariants as airs
+use Rattle.scenario_lines.specs.declared.keywords.Keyword.{Keyword}
+use Rattle.scenario_lines.specs.declared.keywords.Keyword.TheVariants as keywords
 use Rattle.air_events.specs.TagNumbers.{most_tags}
 use Rattle.q_round.specs.SpecValue.{SpecValue}
 use Rattle.scenario_lines.specs.declared.version.Version.{Version}

@@ -7,7 +7,7 @@ use Rattle.access_ops.specs.laws.OperationLaws.{IsLegalOp}
 use Rattle.command_fields.specs.declared.choices.Bank.{Bank}
 use Rattle.command_text.specs.CommandText.{bank_word, payload_digits}
 use Rattle.text_fields.specs.Hexadecimal.{hex_word, hex_words}
-use Rattle.scenario_lines.specs.declared.first_fields.OpKind.{OpKind}
+use Rattle.scenario_lines.specs.declared.keywords.OpKind.{OpKind}
 use Rattle.scenario_lines.specs.Names.{op_field_count, op_kind}
 use Rattle.value_text.specs.ValueText.{password_text}
 use Rattle.scenario_lines.specs.Spelling.{op_fields}

@@ -13,16 +13,16 @@ use Rattle.air_events.specs.declared.Several.{Several}
 use Rattle.air_events.specs.declared.Several.TheVariants as severals
 use Rattle.q_round.specs.declared.rule.Rule.{Rule}
 use Rattle.q_round.specs.declared.rule.Rule.TheVariants as rules
-use Rattle.scenario_lines.specs.declared.first_fields.Keyword.{Keyword}
-use Rattle.scenario_lines.specs.declared.first_fields.Keyword.TheVariants as keywords
+use Rattle.scenario_lines.specs.declared.keywords.Keyword.{Keyword}
+use Rattle.scenario_lines.specs.declared.keywords.Keyword.TheVariants as keywords
 use Rattle.scenario_lines.specs.declared.version.Version.{Version}
 use Rattle.scenario_lines.specs.declared.version.Version.TheVariants.{One, Two}
-use Rattle.scenario_lines.specs.declared.first_fields.EventKind.{EventKind}
-use Rattle.scenario_lines.specs.declared.first_fields.EventKind.TheVariants.{Timeout, Off, On, Expire}
-use Rattle.scenario_lines.specs.declared.first_fields.OpKind.{OpKind}
-use Rattle.scenario_lines.specs.declared.first_fields.OpKind.TheVariants as op_kinds
-use Rattle.scenario_lines.specs.declared.first_fields.AirKind.{AirKind}
-use Rattle.scenario_lines.specs.declared.first_fields.AirKind.TheVariants as airs
+use Rattle.scenario_lines.specs.declared.keywords.EventKind.{EventKind}
+use Rattle.scenario_lines.specs.declared.keywords.EventKind.TheVariants.{Timeout, Off, On, Expire}
+use Rattle.scenario_lines.specs.declared.keywords.OpKind.{OpKind}
+use Rattle.scenario_lines.specs.declared.keywords.OpKind.TheVariants as op_kinds
+use Rattle.scenario_lines.specs.declared.keywords.AirKind.{AirKind}
+use Rattle.scenario_lines.specs.declared.keywords.AirKind.TheVariants as airs
 use Rattle.scenario_lines.specs.declared.line.Happening.{Happening}
 use Rattle.scenario_lines.specs.declared.line.Happening.TheVariants as happenings
 

@@ -20,10 +20,10 @@ use Rattle.scenario_lines.specs.Spelling.{link_fields, tag_spec_fields, copies_f
 use Rattle.scenario_lines.specs.Names.{event_kind, event_word, event_field_count, op_kind, op_word, op_field_count, air_kind, air_word, air_field_count}
 use Rattle.scenario_lines.specs.LineFaults.{HasKnownKind, HasShape, BreaksLink, BreaksPc, BreaksPcOfCopies}
 use Rattle.text_fields.specs.NamedFields.{AreFilled, SpellBehind}
-use Rattle.scenario_lines.specs.declared.first_fields.Keyword.TheVariants as keywords
-use Rattle.scenario_lines.specs.declared.first_fields.EventKind.{EventKind}
-use Rattle.scenario_lines.specs.declared.first_fields.OpKind.{OpKind}
-use Rattle.scenario_lines.specs.declared.first_fields.AirKind.{AirKind}
+use Rattle.scenario_lines.specs.declared.keywords.Keyword.TheVariants as keywords
+use Rattle.scenario_lines.specs.declared.keywords.EventKind.{EventKind}
+use Rattle.scenario_lines.specs.declared.keywords.OpKind.{OpKind}
+use Rattle.scenario_lines.specs.declared.keywords.AirKind.{AirKind}
 use Rattle.scenario_lines.specs.declared.line.Happening.{Happening}
 
 -- The fields have not the shape that is wanted; or they have it, and spell no value in its ranges.

@@ -17,11 +17,11 @@ use Rattle.pie_line.specs.Link.{LinkValue}
 use Rattle.q_round.specs.SpecValue.{SpecValue}
 use Rattle.scenario_lines.specs.declared.tag.TagSpec.{TagSpec}
 use Rattle.scenario_lines.specs.declared.version.Version.{Version}
-use Rattle.scenario_lines.specs.declared.first_fields.AirKind.{AirKind}
-use Rattle.scenario_lines.specs.declared.first_fields.EventKind.{EventKind}
-use Rattle.scenario_lines.specs.declared.first_fields.OpKind.{OpKind}
-use Rattle.scenario_lines.specs.declared.first_fields.Keyword.{Keyword}
-use Rattle.scenario_lines.specs.declared.first_fields.Keyword.TheVariants as keywords
+use Rattle.scenario_lines.specs.declared.keywords.AirKind.{AirKind}
+use Rattle.scenario_lines.specs.declared.keywords.EventKind.{EventKind}
+use Rattle.scenario_lines.specs.declared.keywords.OpKind.{OpKind}
+use Rattle.scenario_lines.specs.declared.keywords.Keyword.{Keyword}
+use Rattle.scenario_lines.specs.declared.keywords.Keyword.TheVariants as keywords
 use Rattle.scenario_lines.specs.declared.line.Happening.{Happening}
 use Rattle.scenario_lines.specs.declared.line.Happening.TheVariants as happenings
 use Rattle.scenario_lines.specs.declared.line.Selection.{Selection}

@@ -6,7 +6,7 @@ ghost use Rattle.tag_memory.specs.Image.{banks_of, pc_fits, sizes_fit};
 ghost use Rattle.tag_memory.specs.Memory.{IsLegalMemory};
 ghost use Rattle.scenario_lines.specs.declared.tag.TagSpec.{TagSpec};
 ghost use Rattle.scenario_lines.specs.TagForm.{IsTag};
-ghost use Rattle.scenario_lines.specs.declared.first_fields.Keyword.{Keyword};
+ghost use Rattle.scenario_lines.specs.declared.keywords.Keyword.{Keyword};
 ghost use Rattle.scenario_lines.specs.declared.line.Line.{Line};
 ghost use Rattle.scenario_lines.specs.declared.fault.LineFault.{LineFault};
 ghost use Rattle.scenario_lines.specs.LineForm.{IsLine};

@@ -4,7 +4,7 @@
 
 mod choice;
 mod fault;
-mod first_fields;
+mod keywords;
 mod laws;
 mod line;
 mod names;
@@ -15,7 +15,7 @@ mod version;
 
 pub use choice::ChoiceText;
 pub use fault::LineFault;
-pub use first_fields::{AirKind, EventKind, Keyword, OpKind};
+pub use keywords::{AirKind, EventKind, Keyword, OpKind};
 pub use laws::{
     lines_are_field_texts, lines_are_told_apart, lines_begin_or_are_faulty,
     lines_begin_with_one_keyword, lines_begin_with_their_keyword, lines_have_one_fault,

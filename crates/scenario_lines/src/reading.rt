@@ -2,7 +2,7 @@
 ghost use Rattle.std.specs.Prelude.{◌≡◌, ◌↔◌, [], IfOk, IfErr, IfSome, IfNone, IsOk, IsOkAnd, IsTrue};
 ghost use Rattle.text_fields.specs.Lines.{fields_of};
 ghost use Rattle.scenario_lines.specs.declared.line.Line.{Line};
-ghost use Rattle.scenario_lines.specs.declared.first_fields.Keyword.{Keyword};
+ghost use Rattle.scenario_lines.specs.declared.keywords.Keyword.{Keyword};
 ghost use Rattle.scenario_lines.specs.LineFaults.{BeginsWithKeyword, HasKnownKind, IsFaultyLine, IsFaultyBehind, SpellsLine, SpellsBehind};
 
 mod air;

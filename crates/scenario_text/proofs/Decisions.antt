@@ -5,8 +5,8 @@ use Rattle.scenario_lines.proofs.Decisions.{Decided, both, le_decided, number_de
 use Rattle.scenario_lines.specs.TagForm.{epc_length}
 use Rattle.scenario_lines.specs.declared.version.Version.{Version}
 use Rattle.scenario_lines.specs.declared.version.Version.TheVariants.{One, Two}
-use Rattle.scenario_lines.specs.declared.first_fields.Keyword.{Keyword}
-use Rattle.scenario_lines.specs.declared.first_fields.Keyword.TheVariants as keywords
+use Rattle.scenario_lines.specs.declared.keywords.Keyword.{Keyword}
+use Rattle.scenario_lines.specs.declared.keywords.Keyword.TheVariants as keywords
 use Rattle.scenario_lines.specs.declared.line.Happening.{Happening}
 use Rattle.scenario_lines.specs.declared.line.Happening.TheVariants as happenings
 use Rattle.scenario_lines.specs.declared.line.Line.{Line}

@@ -5,7 +5,7 @@ ghost use Rattle.scenario_text.specs.Faults.{DisagreesBy};
 ghost use Rattle.scenario_text.specs.Standing.{Agrees, MayStandNext, HasRoomForLine, IsOfVersion, MayStand, NamesTag, within};
 
 mod air;
-mod latest;
+mod latest_entry;
 mod steps;
 mod tags;
 

@@ -1,7 +1,7 @@
 //! What holds of the lines and the texts of scenarios. Each function here states one law by its contract,
 //! and does nothing but call the laws that it follows from.
 ghost use Rattle.std.specs.Prelude.{◌≡◌, ◌⊎◌, ◌↔◌, ℕ, ◌<◌, List};
-ghost use Rattle.scenario_lines.specs.declared.first_fields.Keyword.{Keyword};
+ghost use Rattle.scenario_lines.specs.declared.keywords.Keyword.{Keyword};
 ghost use Rattle.scenario_lines.specs.declared.line.Line.{Line};
 ghost use Rattle.scenario.specs.declared.values.Scenario.{Scenario};
 ghost use Rattle.scenario_text.specs.declared.fault.Fault.{Fault};

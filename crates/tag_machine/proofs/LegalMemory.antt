@@ -3,7 +3,7 @@ use Rattle.std.proofs.Common.{◌≡◌, ℕ, ◌+◌, ◌^◌, ◌<◌, ◌≤�
 use Rattle.std.proofs.lemmas.Bool.{ltb-false, leb-true}
 use Rattle.std.proofs.lemmas.List.{length-take-le, get_or-drop}
 use Rattle.std.proofs.lemmas.List.Elements.{All-cons, All-append, All-take, All-drop, All-replicate}
-use Rattle.bit_strings.specs.laws.Numbers.{value_of-within}
+use Rattle.bit_strings.specs.laws.NumbersInBits.{value_of-within}
 use Rattle.gen2_crc.specs.Crc.{crc16_of}
 use Rattle.gen2_crc.specs.laws.CheckNumbers.{length-crc16_of}
 use Rattle.command_fields.specs.declared.choices.Bank.{Bank}

@@ -8,7 +8,7 @@ pub mod Exchange
 pub mod Events
 pub mod States
 pub mod Names
-pub mod Numbers
+pub mod StateNumbers
 pub mod Hearing
 pub mod Slots
 pub mod Reach

@@ -12,7 +12,7 @@ mod in_place;
 mod inventory;
 mod laws;
 mod moves;
-mod numbers;
+mod state_numbers;
 mod states;
 mod steps;
 mod tag;
@@ -24,8 +24,8 @@ pub use laws::{
     absent_tags_stay, answers_are_expected, answers_are_replies, draw_laws, query_rep_laws,
     steps_keep_tags_legal,
 };
-pub use numbers::StateNumbers;
 pub use session_flags::DrawWords;
+pub use state_numbers::StateNumbers;
 pub use states::{
     Acknowledged, Arbitrate, Half, Held, InReply, Killed, Opened, Password, Ready, Secured, State,
     StateName, Unpowered,

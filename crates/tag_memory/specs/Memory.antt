@@ -1,7 +1,7 @@
 -- 6.3.2.1 Tag memory: what a tag's four banks hold. A bank is the list of its words, so that a memory is a finite map
 -- from a bank and a word's number to that word, with the sizes of the banks.
 use Rattle.std.specs.Prelude.{◌≡◌, ℕ, ◌+◌, ◌*◌, ◌/◌, ◌^◌, ◌≤◌, nat_le, Bool, List, ◌∷◌, length, take, drop, slice_index}
-use Rattle.bit_strings.specs.Numbers.{value_of}
+use Rattle.bit_strings.specs.NumbersInBits.{value_of}
 use Rattle.bit_strings.specs.Words.{bits_of_words}
 use Rattle.gen2_crc.specs.Crc.{crc16_of}
 use Rattle.reply_grammar.specs.Table.{AreWords}

@@ -1,6 +1,6 @@
 //! The banks of a tag.
 ghost use Rattle.std.specs.Prelude.{◌≡◌, ◌/◌, ◌%◌, ◌^◌, ◌<◌, ◌≤◌, ◌↔◌, ◌∷◌, length, true, false, Err, IsNone, IfOk, slice_get, slice_index};
-ghost use Rattle.bit_strings.specs.Numbers.{value_of};
+ghost use Rattle.bit_strings.specs.NumbersInBits.{value_of};
 ghost use Rattle.bit_strings.specs.Words.{bits_of_words};
 ghost use Rattle.gen2_crc.specs.Crc.{crc16_of};
 ghost use Rattle.reply_grammar.specs.Table.{AreWords};

@@ -8,6 +8,7 @@
 
 mod ascii;
 mod code_names;
+mod decimal_numbers;
 mod digits;
 mod exact;
 mod fault_lines;
@@ -19,7 +20,6 @@ mod laws;
 mod lines;
 mod more_fields;
 mod next_fields;
-mod numbers;
 mod ranges;
 mod short_text;
 mod single_bits;
@@ -27,6 +27,7 @@ mod word_lists;
 
 pub use ascii::push_ascii;
 pub use code_names::{code_named, name_of};
+pub use decimal_numbers::{number, push_long_number, push_number};
 pub use digits::{Digits, is_binary_digit, list_digits, push_bits};
 pub use exact::{are_filled, four_fields, is_at_end, one_field, three_fields, two_fields};
 pub use fault_lines::fault_line;
@@ -44,7 +45,6 @@ pub use next_fields::{
     push_named_number, push_named_word, push_next_bits, push_next_long_number, push_next_name,
     push_next_number, push_next_numbers, push_next_word, push_next_words,
 };
-pub use numbers::{number, push_long_number, push_number};
 pub use ranges::{action_of, count_of, number_from, pointer_of, q_of, session_of, words_from};
 pub use short_text::push_bytes;
 pub use single_bits::one_bit;

@@ -4,7 +4,7 @@ ghost use Rattle.std.specs.Fmt.{decimal};
 ghost use Rattle.text_fields.specs.Hexadecimal.{hex_words};
 ghost use Rattle.text_fields.specs.WordLists.{IsWordList};
 
-use crate::numbers::number;
+use crate::decimal_numbers::number;
 use crate::word_lists::Words;
 use bit_strings::{Action, Count1, Pointer, QValue, Session};
 

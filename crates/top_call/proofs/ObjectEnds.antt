@@ -2,8 +2,8 @@
 use Rattle.std.proofs.Common.{◌≡◌, ◌≢◌, ◌⊎◌, ℕ, Bool, true, false, List, [], ◌++◌, Option, Some, None, Result, Ok, Err, refl, sym, ap, ◌∙◌, subst, inl, inr}
 use Rattle.air_io.specs.Flow.{Adds}
 use Rattle.line_objects.specs.Objects.{AreObjectsOf}
-use Rattle.line_objects.specs.declared.rows.LineSet.{LineSet}
-use Rattle.line_objects.specs.declared.rows.LineSet.TheVariants as sets
+use Rattle.line_objects.specs.declared.line_members.LineSet.{LineSet}
+use Rattle.line_objects.specs.declared.line_members.LineSet.TheVariants as sets
 use Rattle.report_lines.specs.declared.mode.Mode.{Mode}
 use Rattle.report_lines.specs.declared.mode.Mode.TheVariants.{Exchanges}
 use Rattle.top_call.specs.Job.{Job, Defines, IsLawful}

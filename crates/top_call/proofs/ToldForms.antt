@@ -5,7 +5,7 @@ use Rattle.std.specs.Str.{bytes_eq}
 use Rattle.std.specs.Fmt.{decimal}
 use Rattle.std.specs.Str.Parse.{digits_value}
 use Rattle.std.proofs.lemmas.Str.Parse.{numerals_by_value, tells_digits}
-use Rattle.line_objects.specs.declared.rows.LineSet.TheVariants as sets
+use Rattle.line_objects.specs.declared.line_members.LineSet.TheVariants as sets
 use Rattle.report_lines.specs.declared.mode.Mode.TheVariants.{Plain, Trace, Json, Exchanges, Vcd}
 use Rattle.top_call.specs.Form.{words_of, IsForm, SpellForm}
 use Rattle.top_call.specs.declared.forms.Form.{Form}

@@ -6,8 +6,8 @@ use Rattle.std.proofs.lemmas.Nat.{mul-add-lt, same_from_place}
 use Rattle.std.proofs.lemmas.List.{take_at, take-append-le}
 use Rattle.std.proofs.lemmas.Bool.{cases_lt, cond-true, cond-false, lt-ltb, le-ltb}
 use Rattle.std.proofs.lemmas.List.Elements.{All-head, All-tail, All-cons, All-nil}
-use Rattle.bit_strings.specs.Numbers.{value_of, field_of}
-use Rattle.bit_strings.specs.laws.Numbers.{length-field_of, value_of-within, value_of-field_of, same_from_value}
+use Rattle.bit_strings.specs.NumbersInBits.{value_of, field_of}
+use Rattle.bit_strings.specs.laws.NumbersInBits.{length-field_of, value_of-within, value_of-field_of, same_from_value}
 use Rattle.bit_strings.specs.Ebv.{IsEbv, number_of_digits, blocks_of, IsShortest, BeginsWithNothing, IsTooLong, ebv_of}
 use Rattle.bit_strings.specs.laws.Lists.{slice_get-append_right, slice_get-front, slice_get-inside}
 

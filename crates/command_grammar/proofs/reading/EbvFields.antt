@@ -4,8 +4,8 @@ use Rattle.std.proofs.Math.Nat.{pow-suc}
 use Rattle.std.proofs.lemmas.Bool.Decides.{nat_tests}
 use Rattle.std.specs.Prelude.{Option, Some, None, ◌&&◌, ◌==◌}
 use Rattle.std.proofs.lemmas.List.Elements.{All-cons, All-nil}
-use Rattle.bit_strings.specs.Numbers.{value_of, field_of}
-use Rattle.bit_strings.specs.laws.Numbers.{length-field_of, value_of-within, value_of-field, field_of-value_of}
+use Rattle.bit_strings.specs.NumbersInBits.{value_of, field_of}
+use Rattle.bit_strings.specs.laws.NumbersInBits.{length-field_of, value_of-within, value_of-field, field_of-value_of}
 use Rattle.bit_strings.specs.Ebv.{IsEbv, number_of_digits, blocks_of, IsShortest, ebv_of}
 use Rattle.bit_strings.specs.laws.Ebv.{AreSevens, seven-head, seven-tail, IsEbv-ebv_of, same-ebv, below-ebv}
 use Rattle.command_grammar.specs.reading.Readers.{Block, ◌>>=◌, bit_at, reading_number, block_at, block_within_at, last_digit_at, blocks_at, ebv_at, exactly_at}

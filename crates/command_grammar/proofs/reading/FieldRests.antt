@@ -3,7 +3,7 @@ use Rattle.std.proofs.Common.{◌≡◌, ℕ, zero, suc, ◌+◌, ◌*◌, ◌^�
 use Rattle.std.proofs.Math.Nat.{pow-suc}
 use Rattle.std.proofs.lemmas.Bool.{cases_lt, le-ltb, lt-ltb}
 use Rattle.std.proofs.lemmas.List.{length-take}
-use Rattle.bit_strings.specs.Numbers.{digit_of, value_of}
+use Rattle.bit_strings.specs.NumbersInBits.{digit_of, value_of}
 use Rattle.command_grammar.specs.declared.refusal.Reason.{Reason}
 use Rattle.command_grammar.specs.reading.Readers.{Short, Reading, ◌>>=◌, Choice, pick, none, fork, reading_bits, reading_number, choice_at, words_at, next_at}
 use Rattle.command_grammar.specs.reading.FieldStages.{number_from, mask_from}

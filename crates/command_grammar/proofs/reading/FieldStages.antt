@@ -6,7 +6,7 @@ use Rattle.std.proofs.lemmas.Bool.Decides.{nat_tests}
 use Rattle.std.proofs.lemmas.List.{take_at}
 use Rattle.std.proofs.Math.Nat.{pow-suc}
 use Rattle.std.proofs.lemmas.Nat.{pow_below}
-use Rattle.bit_strings.specs.Numbers.{digit_of, value_of, field_of}
+use Rattle.bit_strings.specs.NumbersInBits.{digit_of, value_of, field_of}
 use Rattle.bit_strings.specs.Ebv.{IsEbv, IsCutEbv}
 use Rattle.gen2_crc.specs.Crc.{crc5_of, crc16_of}
 use Rattle.command_grammar.specs.declared.reader.fields.Fields.{Fields}

@@ -2,8 +2,8 @@
 use Rattle.std.proofs.Common.{◌≡◌, ℕ, suc, ◌+◌, ◌/◌, ◌%◌, ◌^◌, Bool, true, false, List, ◌∷◌, length, Ok, Err, refl, sym, arith}
 use Rattle.std.specs.Prelude.{◌==◌, not}
 use mathlib.Core.Bool.{beq}
-use Rattle.bit_strings.specs.Numbers.{field_of}
-use Rattle.bit_strings.specs.laws.Numbers.{field_of-more, field_of-none}
+use Rattle.bit_strings.specs.NumbersInBits.{field_of}
+use Rattle.bit_strings.specs.laws.NumbersInBits.{field_of-more, field_of-none}
 use Rattle.gen2_crc.specs.Crc.{differ}
 use Rattle.command_grammar.specs.declared.refusal.Reason.{Reason}
 use Rattle.command_grammar.specs.reading.Readers.{Bad, exactly_at}

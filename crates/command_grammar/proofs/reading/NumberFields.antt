@@ -4,8 +4,8 @@ use Rattle.std.specs.Prelude.{Option, Some, None, ◌==◌}
 use Rattle.std.proofs.lemmas.Bool.{cases_lt, le-ltb, lt-ltb}
 use Rattle.std.proofs.lemmas.List.{take_at, drop_at, take-append-drop, length-take}
 use Rattle.std.proofs.lemmas.Bool.Decides.{nat_tests}
-use Rattle.bit_strings.specs.Numbers.{value_of, field_of}
-use Rattle.bit_strings.specs.laws.Numbers.{length-field_of, value_of-field, field_of-value_of, value_of-within}
+use Rattle.bit_strings.specs.NumbersInBits.{value_of, field_of}
+use Rattle.bit_strings.specs.laws.NumbersInBits.{length-field_of, value_of-field, field_of-value_of, value_of-within}
 use Rattle.command_grammar.specs.declared.refusal.Reason.{Reason}
 use Rattle.command_grammar.specs.declared.refusal.Reason.TheVariants as reasons
 use Rattle.command_grammar.specs.reading.Readers.{Stop, Short, Bad, Reading, ◌>>=◌, bit_at, reading_bits, reading_number, count_at}

@@ -2,7 +2,7 @@
 use Rattle.std.proofs.Common.{◌≡◌, ℕ, zero, suc, ◌^◌, ◌<◌, Bool, List, [], ◌∷◌, ◌++◌, length, Ok, refl, sym, ap, subst, ◌∙◌, get_or, arith}
 use Rattle.std.specs.Prelude.{Option, None}
 use Rattle.std.specs.List.{AllByRecursion}
-use Rattle.bit_strings.specs.Numbers.{field_of}
+use Rattle.bit_strings.specs.NumbersInBits.{field_of}
 use Rattle.bit_strings.specs.Words.{bits_of_words}
 use Rattle.command_grammar.specs.Commands.{IsWord}
 use Rattle.command_grammar.specs.declared.refusal.Reason.{Reason}

@@ -1,6 +1,6 @@
 -- 6.3.1.5: which check number goes along with the bits of a command.
 use Rattle.std.specs.Prelude.{◌≡◌, Bool, List, [], ◌∷◌, Option, Some, None}
-use Rattle.bit_strings.specs.Numbers.{value_of}
+use Rattle.bit_strings.specs.NumbersInBits.{value_of}
 use Rattle.gen2_crc.specs.Crc.{crc5_of, RegisterStandsFor}
 use Rattle.command_grammar.specs.declared.reader.check.Check.{Check}
 use Rattle.command_grammar.specs.declared.reader.check.Check.TheVariants.{Short, Long, Over}

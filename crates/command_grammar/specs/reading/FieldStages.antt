@@ -1,6 +1,6 @@
 -- Profile: a field of which some bits were read, and what reading gives from there for the bits that are still to come.
 use Rattle.std.specs.Prelude.{ℕ, zero, suc, ◌+◌, ◌*◌, Bool, List, [], ◌∷◌, ◌++◌, length, Option, Some, None, Ok, Err, ◌==◌, if◌then◌else◌}
-use Rattle.bit_strings.specs.Numbers.{digit_of, field_of}
+use Rattle.bit_strings.specs.NumbersInBits.{digit_of, field_of}
 use Rattle.command_grammar.specs.declared.reader.fields.Fields.{Fields}
 use Rattle.command_grammar.specs.reading.Readers.{Reading, ◌>>=◌, bit_at, reading_bits, Choice, child, next_at, m_values, sel_values, query_target_values, updn_values, select_target_values, mask_bank_values, bank_values, exactly_at, words_at, ebv_at, Bad}
 use Rattle.command_grammar.specs.declared.reader.stage.BitField.{BitField}

@@ -1,6 +1,6 @@
 //! The field of a command that is being read.
 ghost use Rattle.std.specs.Prelude.{◌≡◌, ◌+◌, ◌*◌, ◌≤◌, ◌<◌, ◌^◌, ◌∷◌, ◌++◌, ℕ, List, Bool, IsTrue, IsFalse, length};
-ghost use Rattle.bit_strings.specs.Numbers.{digit_of};
+ghost use Rattle.bit_strings.specs.NumbersInBits.{digit_of};
 ghost use Rattle.command_grammar.specs.reading.CommandFields.{field_from};
 ghost use Rattle.command_grammar.specs.reading.FieldStages.{number_from, stage_from, next_from};
 ghost use Rattle.command_grammar.specs.reading.FieldRanges.{IsNumberFront, AreFieldsInRange, IsSoundNext, IsEdge, next_bit};

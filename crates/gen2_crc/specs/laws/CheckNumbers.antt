@@ -2,8 +2,8 @@
 use Rattle.std.specs.Prelude.{◌≡◌, ◌<◌, Bool, List, length, not}
 use Rattle.std.proofs.Common.{◌∙◌, ap, sym, arith}
 use Rattle.std.proofs.lemmas.List.{length-map}
-use Rattle.bit_strings.specs.Numbers.{value_of, field_of}
-use Rattle.bit_strings.specs.laws.Numbers.{field_of-value_of, value_of-within}
+use Rattle.bit_strings.specs.NumbersInBits.{value_of, field_of}
+use Rattle.bit_strings.specs.laws.NumbersInBits.{field_of-value_of, value_of-within}
 use Rattle.gen2_crc.specs.Crc.{crc5_of, crc16_of, register_of, preset5, others5, preset16, others16}
 use Rattle.gen2_crc.specs.laws.Division.{length-remainder_of}
 

@@ -2,7 +2,7 @@ use Rattle.std.proofs.Common.{◌≡◌, ◌⊎◌, ◌≤◌, ◌<◌, ℕ, Lis
 use Rattle.gen2_library.proofs.InRoom.{Call, Leaves, Says, kept, whole, no-room, no-memory, no-count, ends-so, longer-ends, behind, status-is, number-below, number-not-1}
 use Rattle.gen2_library.proofs.Over.{over-limit}
 use Rattle.gen2_library.proofs.Readable.{readable, read}
-use Rattle.gen2_library.specs.Called.{input_of}
+use Rattle.gen2_library.specs.LentRoom.{input_of}
 use Rattle.text_fields.specs.Lines.{fields_of}
 use Rattle.top_call.specs.Form.{SpellForm, texts}
 use Rattle.top_call.specs.Job.{Defines}

@@ -3,8 +3,8 @@ use Rattle.std.proofs.Common.{◌≡◌, ◌≢◌, ℕ, ◌+◌, ◌-◌, ◌*�
 use Rattle.std.proofs.lemmas.Nat.{div-mul-add}
 use Rattle.std.proofs.lemmas.Bool.{ne_eqb}
 use Rattle.std.proofs.lemmas.List.{take_at, drop_at, take-append-drop, take-append-le}
-use Rattle.bit_strings.specs.Numbers.{value_of, field_of, part_of}
-use Rattle.bit_strings.specs.laws.Numbers.{length-field_of, value_of-field, value_of-append, value_of-within}
+use Rattle.bit_strings.specs.NumbersInBits.{value_of, field_of, part_of}
+use Rattle.bit_strings.specs.laws.NumbersInBits.{length-field_of, value_of-field, value_of-append, value_of-within}
 use Rattle.bit_strings.specs.Words.{bits_of_words}
 use Rattle.bit_strings.specs.laws.Words.{length-bits_of_words}
 use Rattle.gen2_crc.specs.Crc.{crc16_of}

@@ -4,7 +4,7 @@ use Rattle.std.specs.Prelude.{slice_get}
 use Rattle.std.proofs.Math.Seq.{take-add}
 use Rattle.std.proofs.lemmas.Bool.{ne_eqb}
 use Rattle.std.proofs.lemmas.List.{take_all, take-take, take-append-le, drop-append-le}
-use Rattle.bit_strings.specs.Numbers.{value_of, field_of, part_of}
+use Rattle.bit_strings.specs.NumbersInBits.{value_of, field_of, part_of}
 use Rattle.bit_strings.specs.Words.{bits_of_words}
 use Rattle.gen2_crc.specs.Crc.{crc16_of}
 use Rattle.reply_grammar.specs.declared.expected.Expect.{Expect}

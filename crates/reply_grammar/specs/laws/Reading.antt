@@ -3,8 +3,8 @@ use Rattle.std.proofs.Common.{◌≡◌, ℕ, ◌+◌, ◌*◌, ◌^◌, ◌<◌
 use Rattle.std.proofs.Math.Seq.{take-add}
 use Rattle.std.proofs.lemmas.List.{drop-drop}
 use Rattle.std.proofs.lemmas.List.Elements.{All-push, All-nil}
-use Rattle.bit_strings.specs.Numbers.{value_of, field_of, part_of}
-use Rattle.bit_strings.specs.laws.Numbers.{field_of-value_of, value_of-within}
+use Rattle.bit_strings.specs.NumbersInBits.{value_of, field_of, part_of}
+use Rattle.bit_strings.specs.laws.NumbersInBits.{field_of-value_of, value_of-within}
 use Rattle.bit_strings.specs.Words.{bits_of_words}
 use Rattle.bit_strings.specs.laws.Words.{bits_of_words-push}
 use Rattle.reply_grammar.specs.Table.{AreWords}

@@ -3,8 +3,8 @@ use Rattle.std.proofs.Common.{◌≡◌, ℕ, zero, suc, ◌+◌, ◌-◌, ◌*�
 use Rattle.std.specs.Prelude.{◌⊎◌, slice_get, ◌==◌}
 use Rattle.std.proofs.lemmas.Bool.{cases_eq, cases_lt}
 use Rattle.std.proofs.lemmas.List.{take-append-drop}
-use Rattle.bit_strings.specs.Numbers.{value_of, part_of}
-use Rattle.bit_strings.specs.laws.Numbers.{same_from_value}
+use Rattle.bit_strings.specs.NumbersInBits.{value_of, part_of}
+use Rattle.bit_strings.specs.laws.NumbersInBits.{same_from_value}
 use Rattle.bit_strings.specs.laws.Ebv.{append_apart}
 use Rattle.gen2_crc.specs.Crc.{crc16_of}
 use Rattle.gen2_crc.specs.laws.CheckNumbers.{length-crc16_of}

@@ -3,7 +3,7 @@ ghost use Rattle.std.specs.Prelude.{◌≡◌, ◌<◌, ◌≤◌, ◌^◌, ◌�
 ghost use Rattle.scenario_text.specs.AirLines.{ChoosesOnce, KeepsOrder, at_exchange, entries_of, last_entry, no_air_lines, with_air_line, with_said};
 ghost use Rattle.scenario.specs.Limits.{most_air_lines};
 
-use crate::draft::latest::LatestEntry;
+use crate::draft::latest_entry::LatestEntry;
 use air_events::Entry;
 use bit_strings::{List, OutOfMemory};
 use scenario_lines::{Happening, Line};

@@ -1,8 +1,8 @@
 -- Profile: what a word with `json` behind it writes: for each line that the word itself writes its object.
 use Rattle.std.specs.Prelude.{ℕ, List}
 use Rattle.line_objects.specs.Objects.{AreObjectsOf}
-use Rattle.line_objects.specs.declared.rows.LineSet.{LineSet}
-use Rattle.line_objects.specs.declared.rows.LineSet.TheVariants as sets
+use Rattle.line_objects.specs.declared.line_members.LineSet.{LineSet}
+use Rattle.line_objects.specs.declared.line_members.LineSet.TheVariants as sets
 use Rattle.report_lines.specs.declared.mode.Mode.TheVariants.{Exchanges}
 use Rattle.top_call.specs.Job.{Job}
 use Rattle.top_call.specs.words.Audited.{audit_job}

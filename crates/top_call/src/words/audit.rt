@@ -24,7 +24,11 @@ use std::alloc::Global;
 
 /// Writes what is defined for the bytes of an input: the verdict on the trace behind the scenario, or the one line that reports
 /// the first faulty line of the scenario.
-pub fn write_audited<O: Sink>(alloc: Global, input: &[u8], output: &mut O) -> Result<Wrote, WriteEnd>
+pub fn write_audited<O: Sink>(
+    alloc: Global,
+    input: &[u8],
+    output: &mut O,
+) -> Result<Wrote, WriteEnd>
     requires { length input.now ≤ input_limit }
     ensures { EndsSo audit_job input.now
         (sink_change O.written O.faults output.old output.new) result }

@@ -22,7 +22,11 @@ use text_fields::split_line;
 
 /// Writes what is defined for the bytes of an input: a line for each of its lines, or the one line that reports the first
 /// faulty line.
-pub fn write_encoded<O: Sink>(alloc: Global, input: &[u8], output: &mut O) -> Result<Wrote, WriteEnd>
+pub fn write_encoded<O: Sink>(
+    alloc: Global,
+    input: &[u8],
+    output: &mut O,
+) -> Result<Wrote, WriteEnd>
     requires { length input.now ≤ input_limit }
     ensures { EndsSo encode_job input.now
         (sink_change O.written O.faults output.old output.new) result }

@@ -1,6 +1,6 @@
 //! A word with `json` behind it: the lines of the word, each as an object.
 ghost use Rattle.std.specs.Prelude.{◌≡◌, ◌⊎◌, ℕ, List};
-ghost use Rattle.line_objects.specs.declared.rows.LineSet.{LineSet};
+ghost use Rattle.line_objects.specs.declared.line_members.LineSet.{LineSet};
 ghost use Rattle.top_call.specs.Job.{Defines, IsLawful};
 ghost use Rattle.top_call.specs.Outcome.{EndsSo, Tells, source_change, sink_change};
 ghost use Rattle.top_call.specs.words.Objects.{objects_job, plain_job};

@@ -24,7 +24,11 @@ use text_fields::fault_line;
 
 /// Writes what is defined for the bytes of an input: the lines of the two portals of the scenario that they spell, or the
 /// one line that reports the first faulty line.
-pub fn write_portals<O: Sink>(alloc: Global, input: &[u8], output: &mut O) -> Result<Wrote, WriteEnd>
+pub fn write_portals<O: Sink>(
+    alloc: Global,
+    input: &[u8],
+    output: &mut O,
+) -> Result<Wrote, WriteEnd>
     ensures { EndsSo portals_job input.now
         (sink_change O.written O.faults output.old output.new) result }
 {

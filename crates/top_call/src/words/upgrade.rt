@@ -16,7 +16,11 @@ use std::alloc::Global;
 
 /// Writes what is defined for the bytes of an input: the text of version 2 of the scenario that they spell, or the one
 /// line that reports the first faulty line.
-pub fn write_upgraded<O: Sink>(alloc: Global, input: &[u8], output: &mut O) -> Result<Wrote, WriteEnd>
+pub fn write_upgraded<O: Sink>(
+    alloc: Global,
+    input: &[u8],
+    output: &mut O,
+) -> Result<Wrote, WriteEnd>
     ensures { EndsSo upgrade_job input.now
         (sink_change O.written O.faults output.old output.new) result }
 {

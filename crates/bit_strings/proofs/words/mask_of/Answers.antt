@@ -1,5 +1,5 @@
 use Rattle.std.proofs.Common.{arith}
-use Rattle.bit_strings.specs.laws.Numbers.{value_of-within}
+use Rattle.bit_strings.specs.laws.NumbersInBits.{value_of-within}
 use Rattle.bit_strings.proofs.Masks.{lane, value_of-sixteen}
 use Rattle.bit_strings.proofs.words.mask_of.Goals as goal
 

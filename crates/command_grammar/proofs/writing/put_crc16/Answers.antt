@@ -1,5 +1,5 @@
 use Rattle.std.proofs.Common.{◌++◌, ◌∙◌, ap, List, Bool}
-use Rattle.bit_strings.specs.Numbers.{value_of}
+use Rattle.bit_strings.specs.NumbersInBits.{value_of}
 use Rattle.gen2_crc.specs.Crc.{crc16_of}
 use Rattle.command_grammar.proofs.CheckNumbers.{crc16-field}
 use Rattle.command_grammar.proofs.writing.put_crc16.Goals as goal

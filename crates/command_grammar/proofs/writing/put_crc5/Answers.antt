@@ -1,5 +1,5 @@
 use Rattle.std.proofs.Common.{◌++◌, ◌∙◌, ap, List, Bool, arith}
-use Rattle.bit_strings.specs.Numbers.{value_of}
+use Rattle.bit_strings.specs.NumbersInBits.{value_of}
 use Rattle.gen2_crc.specs.Crc.{crc5_of}
 use Rattle.gen2_crc.specs.laws.CheckNumbers.{crc5_of-below}
 use Rattle.command_grammar.proofs.CheckNumbers.{crc5-field}

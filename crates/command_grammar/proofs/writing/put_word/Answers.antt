@@ -1,7 +1,7 @@
 use Rattle.std.proofs.Common.{ap, length, length-append, arith}
 use Rattle.bit_strings.specs.BitString.{BitString}
-use Rattle.bit_strings.specs.Numbers.{field_of}
-use Rattle.bit_strings.specs.laws.Numbers.{length-field_of}
+use Rattle.bit_strings.specs.NumbersInBits.{field_of}
+use Rattle.bit_strings.specs.laws.NumbersInBits.{length-field_of}
 use Rattle.command_grammar.proofs.writing.put_word.Goals as goal
 
 pub returns-clause-count : goal.returns-clause-count

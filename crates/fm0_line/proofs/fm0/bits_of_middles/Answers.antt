@@ -1,6 +1,6 @@
 use Rattle.std.proofs.Common.{ap, length, arith}
 use Rattle.std.proofs.lemmas.List.{length-map}
-use Rattle.bit_strings.specs.Numbers.{digit_of}
+use Rattle.bit_strings.specs.NumbersInBits.{digit_of}
 use Rattle.fm0_line.specs.Stays.{odds}
 use Rattle.fm0_line.proofs.Places.{told, length-odds}
 use Rattle.fm0_line.proofs.fm0.bits_of_middles.Goals as goal

@@ -2,7 +2,7 @@
 use Rattle.std.proofs.Common.{Bool, true, List, [], refl}
 use Rattle.line_code.specs.Stream.{blocks}
 use Rattle.line_code.proofs.Rows.{row_at}
-use Rattle.bit_strings.specs.Numbers.{field_of}
+use Rattle.bit_strings.specs.NumbersInBits.{field_of}
 use Rattle.fm0_line.specs.Fm0.{fm0}
 use Rattle.fm0_line.specs.declared.fm0.TheConstants.{FOUR_SYMBOLS}
 use Rattle.fm0_line.proofs.fm0.four_symbols.Goals as goal

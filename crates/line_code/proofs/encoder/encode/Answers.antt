@@ -6,8 +6,8 @@ use Rattle.line_code.specs.States.{context_after}
 use Rattle.line_code.specs.TableFacts.{CodeTable}
 use Rattle.line_code.specs.laws.Reading.{has_more}
 use Rattle.bit_strings.specs.BitString.{BitString}
-use Rattle.bit_strings.specs.Numbers.{value_of, field_of}
-use Rattle.bit_strings.specs.laws.Numbers.{field_of-value_of}
+use Rattle.bit_strings.specs.NumbersInBits.{value_of, field_of}
+use Rattle.bit_strings.specs.laws.NumbersInBits.{field_of-value_of}
 use Rattle.line_code.proofs.Writing.{capacity_of, one_block, written_size, writes_more}
 use Rattle.line_code.proofs.encoder.encode.Goals as goal
 

@@ -1,6 +1,6 @@
 -- The number is the sum of the bits' digits, each times its place value.
 use Rattle.std.proofs.Common.{◌≡◌, ◌+◌, ◌*◌, Bool, true, false, List, [], ◌∷◌, length, get_or, arith, refl}
-use Rattle.bit_strings.specs.Numbers.{digit_of, value_of}
+use Rattle.bit_strings.specs.NumbersInBits.{digit_of, value_of}
 use Rattle.line_code.proofs.encoder.number_of.Goals as goal
 use mir.Val.{bool_byte}
 

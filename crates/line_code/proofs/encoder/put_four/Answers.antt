@@ -1,7 +1,7 @@
 -- The blocks are those of four bits.
 use Rattle.std.proofs.Common.{◌∙◌, ◌*◌, ℕ, length, ap, arith}
-use Rattle.bit_strings.specs.Numbers.{field_of}
-use Rattle.bit_strings.specs.laws.Numbers.{length-field_of}
+use Rattle.bit_strings.specs.NumbersInBits.{field_of}
+use Rattle.bit_strings.specs.laws.NumbersInBits.{length-field_of}
 use Rattle.line_code.specs.laws.Streams.{length-blocks}
 use Rattle.line_code.proofs.encoder.put_four.Goals as goal
 

@@ -1,5 +1,5 @@
 use Rattle.std.proofs.Common.{◌≡◌, length, map, take}
-use Rattle.bit_strings.specs.Numbers.{digit_of}
+use Rattle.bit_strings.specs.NumbersInBits.{digit_of}
 use Rattle.line_code.proofs.masks.digits_of.Given as goal
 
 -- the digits so far are those of their levels

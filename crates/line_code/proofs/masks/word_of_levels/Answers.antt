@@ -3,7 +3,7 @@ use Rattle.std.proofs.Common.{◌≡◌, ◌∙◌, ◌<◌, ◌^◌, ℕ, Bool,
 use Rattle.std.specs.Simd.Lanes.{mask_l}
 use Rattle.std.proofs.lemmas.List.{length-map}
 use Rattle.std.proofs.lemmas.Simd.{bitmask_splat, mask_l-lt}
-use Rattle.bit_strings.specs.Numbers.{digit_of}
+use Rattle.bit_strings.specs.NumbersInBits.{digit_of}
 use Rattle.line_code.proofs.masks.word_of_levels.Goals as goal
 use mir.Syntax.{w8}
 use lib.Dec.{eqb}

@@ -2,7 +2,7 @@ use Rattle.std.proofs.Common.{◌++◌, ◌∙◌, List, ap}
 use Rattle.std.proofs.lemmas.Result.{on_ok_weaker}
 use Rattle.line_objects.specs.Members.{pairs_of}
 use Rattle.line_objects.specs.Objects.{Pair, fields_pairs}
-use Rattle.line_objects.specs.declared.keys.Key.{Key}
+use Rattle.line_objects.specs.declared.member_names.Key.{Key}
 use Rattle.line_objects.proofs.FieldPairs.{added_both, one_more}
 use Rattle.line_objects.proofs.reading.+push_fields.Goals as goal
 

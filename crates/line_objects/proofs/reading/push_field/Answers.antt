@@ -1,10 +1,10 @@
 use Rattle.std.proofs.Common.{◌≡◌, [], ◌∷◌, ◌++◌, ◌∙◌, List, ℕ, ap, sym}
 use Rattle.std.proofs.lemmas.Result.{on_ok_weaker}
-use Rattle.line_objects.specs.Keys.{key_shape}
+use Rattle.line_objects.specs.MemberNames.{key_shape}
 use Rattle.line_objects.specs.Members.{pairs_of}
 use Rattle.line_objects.specs.Objects.{Pair}
 use Rattle.line_objects.specs.Values.{text_value}
-use Rattle.line_objects.specs.declared.keys.Shape.TheVariants.{EpcText}
+use Rattle.line_objects.specs.declared.member_names.Shape.TheVariants.{EpcText}
 use Rattle.line_objects.proofs.FieldPairs.{added_both, epc_pairs}
 use Rattle.line_objects.proofs.reading.push_field.Goals as goal
 

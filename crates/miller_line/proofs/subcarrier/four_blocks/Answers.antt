@@ -1,7 +1,7 @@
 -- The row is that of the four blocks, and its last level tells the phase behind them.
 use Rattle.std.proofs.Common.{◌≡◌, ◌∙◌, ◌<◌, ℕ, ◌*◌, ◌-◌, ◌/◌, ◌%◌, ◌∷◌, [], Bool, true, false, not, length, nat_eq, get_or, inl, inr, ap, sym, refl, arith}
 use Rattle.std.proofs.Math.Nat.{div-one}
-use Rattle.bit_strings.specs.Numbers.{field_of}
+use Rattle.bit_strings.specs.NumbersInBits.{field_of}
 use Rattle.line_code.specs.Table.{Context}
 use Rattle.line_code.specs.Stream.{blocks}
 use Rattle.line_code.specs.States.{context_after}

@@ -2,7 +2,7 @@
 use Rattle.std.proofs.Common.{◌≡◌, ◌∙◌, List, Bool, [], ap, sym, refl, rules}
 use Rattle.std.specs.List.{flat_map}
 use Rattle.line_code.proofs.Rows.{row_at}
-use Rattle.bit_strings.specs.Numbers.{field_of}
+use Rattle.bit_strings.specs.NumbersInBits.{field_of}
 use Rattle.miller_line.specs.FourSymbols.{symbols}
 use Rattle.miller_line.specs.declared.subcarrier.TheConstants.{FOUR_SYMBOLS_2, FOUR_SYMBOLS_4, FOUR_SYMBOLS_8}
 use Rattle.miller_line.proofs.subcarrier.four_symbols.Goals as goal

@@ -1,6 +1,6 @@
 -- The phase at the start of the first symbol is all that the bit before changes.
 use Rattle.std.proofs.Common.{◌∙◌, ◌/◌, ◌%◌, nat_eq, ap}
-use Rattle.bit_strings.specs.Numbers.{field_of}
+use Rattle.bit_strings.specs.NumbersInBits.{field_of}
 use Rattle.miller_line.specs.SymbolContext.{context}
 use Rattle.miller_line.specs.FourSymbols.{symbols}
 use Rattle.miller_line.proofs.FourSymbols.{from_start}

@@ -1,6 +1,6 @@
 use Rattle.std.proofs.Common.{◌<◌, ◌^◌, take, arith, length-take, subst}
-use Rattle.bit_strings.specs.Numbers.{value_of}
-use Rattle.bit_strings.specs.laws.Numbers.{value_of-within}
+use Rattle.bit_strings.specs.NumbersInBits.{value_of}
+use Rattle.bit_strings.specs.laws.NumbersInBits.{value_of-within}
 use Rattle.reply_grammar.specs.laws.Reading.{ReadTo, read_none, read_more}
 use Rattle.reply_grammar.proofs.decode.epc_words.Goals as goal
 

@@ -1,6 +1,6 @@
 use Rattle.std.proofs.Common.{[], arith, length-append}
-use Rattle.bit_strings.specs.Numbers.{field_of}
-use Rattle.bit_strings.specs.laws.Numbers.{length-field_of}
+use Rattle.bit_strings.specs.NumbersInBits.{field_of}
+use Rattle.bit_strings.specs.laws.NumbersInBits.{length-field_of}
 use Rattle.bit_strings.specs.Words.{bits_of_words}
 use Rattle.bit_strings.specs.laws.Words.{length-bits_of_words}
 use Rattle.reply_grammar.specs.Table.{spelling}

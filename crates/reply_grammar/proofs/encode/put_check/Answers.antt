@@ -1,6 +1,6 @@
 use Rattle.std.proofs.Common.{◌∙◌, ap, List, Bool, arith}
 use Rattle.std.proofs.lemmas.List.{take_all}
-use Rattle.bit_strings.specs.Numbers.{value_of}
+use Rattle.bit_strings.specs.NumbersInBits.{value_of}
 use Rattle.gen2_crc.specs.Crc.{crc16_of}
 use Rattle.reply_grammar.proofs.Writing.{check_written}
 use Rattle.reply_grammar.proofs.encode.put_check.Goals as goal

@@ -1,5 +1,5 @@
 -- A name of an event is one of the names of air lines.
-use Rattle.scenario_lines.specs.declared.first_fields.AirKind.TheVariants.{Event}
+use Rattle.scenario_lines.specs.declared.keywords.AirKind.TheVariants.{Event}
 use Rattle.scenario_lines.proofs.names.event_kind_named.Goals as goal
 
 pub returns-in_err-kind-clause-only : goal.returns-in_err-kind-clause-only

@@ -3,7 +3,7 @@ use Rattle.std.specs.String.{string_bytes}
 use Rattle.air_model.specs.Past.{exchanged}
 use Rattle.runs.proofs.Answering.{TagLaws}
 use Rattle.air_audit.specs.Auditing.{AuditorValue, IsHearing}
-use Rattle.air_audit.specs.FirstWords.{word_of}
+use Rattle.air_audit.specs.TraceLineWords.{word_of}
 use Rattle.air_audit.specs.LineRefusals.{DiffersFirst}
 use Rattle.air_audit.specs.declared.auditor.Position.TheVariants as positions
 use Rattle.air_audit.proofs.Following.{heard-on, keeps-moved, levels-few, list-written, rx-alike, rx-not}

@@ -13,7 +13,7 @@ use Rattle.air_model.specs.Channel.{given_of, heard_levels}
 use Rattle.air_model.specs.Past.{exchanges_in}
 use Rattle.air_audit.specs.Auditing.{AuditorValue}
 use Rattle.air_audit.specs.LineRefusals.{IsNoTxLine}
-use Rattle.air_audit.specs.Rooms.{IsShortAnswer}
+use Rattle.air_audit.specs.HeardLevels.{IsShortAnswer}
 use Rattle.air_audit.specs.Standing.{Place}
 use Rattle.air_audit.specs.TraceLines.{Sends}
 use Rattle.air_audit.proofs.Exchanges.{Parts, parts-of, events-there, handed-on, hearing, left-before, missed-there, next-known, next-number, same-next}

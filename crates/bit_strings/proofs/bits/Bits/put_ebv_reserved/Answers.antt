@@ -1,5 +1,5 @@
 use Rattle.std.proofs.Common.{◌-◌, ◌++◌, ap, sym, refl, arith, length-append, List, Bool}
-use Rattle.bit_strings.specs.laws.Numbers.{length-field_of}
+use Rattle.bit_strings.specs.laws.NumbersInBits.{length-field_of}
 use Rattle.bit_strings.proofs.Digits.{same_string}
 use Rattle.bit_strings.proofs.EbvWriting.{ebv_of-blocks, block_more, blocks_all}
 use Rattle.bit_strings.proofs.bits.Bits.put_ebv_reserved.Goals as goal

@@ -1,5 +1,5 @@
 use Rattle.std.proofs.Common.{◌≡◌, ◌+◌, ◌≤◌, ◌++◌, length}
-use Rattle.bit_strings.specs.Numbers.{field_of}
+use Rattle.bit_strings.specs.NumbersInBits.{field_of}
 use Rattle.bit_strings.proofs.bits.Bits.put_field_reserved.Given as goal
 
 -- what stands there and the places still to come are what stood there and the whole field

@@ -1,5 +1,5 @@
 use Rattle.std.proofs.Common.{◌≡◌, ◌∙◌, ◌+◌, ◌-◌, ◌≤◌, ◌<◌, ◌++◌, ◌∷◌, [], ℕ, length, get_or, false, List, Bool, ap, sym, subst, arith}
-use Rattle.bit_strings.specs.Numbers.{part_of}
+use Rattle.bit_strings.specs.NumbersInBits.{part_of}
 use Rattle.bit_strings.specs.Ebv.{IsTooLong, BeginsWithNothing, IsCutEbv}
 use Rattle.bit_strings.proofs.EbvReading.{read_more, read_value, read_nothing, read_too_long}
 use Rattle.bit_strings.proofs.bits.Bits.read_vector.Goals as goal

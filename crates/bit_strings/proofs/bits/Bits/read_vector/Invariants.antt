@@ -1,5 +1,5 @@
 use Rattle.std.proofs.Common.{◌≡◌, ◌≤◌, ◌-◌}
-use Rattle.bit_strings.specs.Numbers.{part_of}
+use Rattle.bit_strings.specs.NumbersInBits.{part_of}
 use Rattle.bit_strings.specs.Ebv.{IsCutEbv}
 use Rattle.bit_strings.proofs.bits.Bits.read_vector.Given as goal
 

@@ -1,5 +1,5 @@
 use Rattle.std.proofs.Common.{refl, arith}
-use Rattle.bit_strings.specs.Numbers.{field_of}
+use Rattle.bit_strings.specs.NumbersInBits.{field_of}
 use Rattle.bit_strings.proofs.EbvReading.{no_front, cut_front}
 use Rattle.bit_strings.proofs.ebv_front.EbvFront.new.Goals as goal
 

@@ -3,7 +3,7 @@ use Rattle.std.proofs.Common.{◌∙◌, ℕ, ◌%◌, Bool, false, List, nat_eq
 use Rattle.std.proofs.Math.Nat.{div-one}
 use Rattle.line_code.specs.Table.{Context}
 use Rattle.line_code.specs.States.{context_after}
-use Rattle.bit_strings.specs.Numbers.{field_of}
+use Rattle.bit_strings.specs.NumbersInBits.{field_of}
 use Rattle.fm0_line.specs.Fm0.{fm0}
 use Rattle.fm0_line.proofs.fm0.Fm0LineCode.four_blocks.Goals as goal
 

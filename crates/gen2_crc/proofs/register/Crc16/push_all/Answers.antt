@@ -1,5 +1,5 @@
 use Rattle.std.proofs.Common.{◌*◌, List, Bool, take, ◌++◌, ◌∙◌, ap, subst, append_assoc, arith}
-use Rattle.bit_strings.specs.Numbers.{field_of}
+use Rattle.bit_strings.specs.NumbersInBits.{field_of}
 use Rattle.gen2_crc.specs.Crc.{RegisterStandsFor}
 use Rattle.gen2_crc.proofs.WholeWords.{word_more}
 use Rattle.gen2_crc.proofs.register.Crc16.push_all.Goals as goal

@@ -1,7 +1,7 @@
 use Rattle.std.proofs.Common.{◌≡◌, ◌++◌, ◌∙◌, List, Bool, take, ap, sym, subst, append_assoc}
 use Rattle.std.proofs.lemmas.List.{take-append-drop}
-use Rattle.bit_strings.specs.Numbers.{value_of, field_of}
-use Rattle.bit_strings.specs.laws.Numbers.{field_of-value_of}
+use Rattle.bit_strings.specs.NumbersInBits.{value_of, field_of}
+use Rattle.bit_strings.specs.laws.NumbersInBits.{field_of-value_of}
 use Rattle.gen2_crc.specs.Crc.{RegisterStandsFor}
 use Rattle.gen2_crc.proofs.register.Crc16.push_few.Goals as goal
 

@@ -1,6 +1,6 @@
 use Rattle.std.proofs.Common.{◌*◌, ◌∙◌, false, replicate, ap}
 use Rattle.std.specs.Prelude.{bit_xor}
-use Rattle.bit_strings.specs.Numbers.{field_of}
+use Rattle.bit_strings.specs.NumbersInBits.{field_of}
 use Rattle.gen2_crc.specs.Crc.{remainder_of, others16}
 use Rattle.gen2_crc.proofs.WholeWords.{stands_octet}
 use Rattle.gen2_crc.proofs.register.Crc16.push_octet.Goals as goal

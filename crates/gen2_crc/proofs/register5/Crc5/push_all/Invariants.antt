@@ -1,5 +1,5 @@
 use Rattle.std.proofs.Common.{◌≡◌, List, Bool, take, ◌++◌}
-use Rattle.bit_strings.specs.Numbers.{value_of}
+use Rattle.bit_strings.specs.NumbersInBits.{value_of}
 use Rattle.gen2_crc.specs.Crc.{crc5_of}
 use Rattle.gen2_crc.proofs.register5.Crc5.push_all.Given as goal
 

@@ -1,6 +1,6 @@
 use Rattle.std.proofs.Common.{◌≡◌, ℕ, ◌∷◌, List, [], true, false, is_some, Option, Some, None, sym, ◌∙◌, ap, rules, subst}
 use Rattle.tag_machine.specs.Hearing.{tag_value_of}
-use Rattle.tag_machine.specs.Numbers.{numbers_of}
+use Rattle.tag_machine.specs.StateNumbers.{numbers_of}
 use Rattle.tag_machine.specs.TagValue.{TagValue}
 use Rattle.log_verdicts.specs.Log.{Exchange, Seen}
 use Rattle.log_verdicts.specs.Explaining.{ByTables}

@@ -1,7 +1,7 @@
 -- What the next line says, or the first reason for which it may not stand there.
 use Rattle.std.proofs.Common.{inl, refl, rules, subst, sym}
 use Rattle.text_fields.specs.Lines.{fields_of}
-use Rattle.scenario_lines.specs.declared.first_fields.Keyword.{Keyword}
+use Rattle.scenario_lines.specs.declared.keywords.Keyword.{Keyword}
 use Rattle.scenario_lines.specs.LineBeginnings.{spelled_begins}
 use Rattle.scenario_lines.specs.LineFaults.{BeginsWithKeyword, IsFaultyLine, SpellsLine}
 use Rattle.scenario_lines.specs.Spelling.{keyword_of}
