@@ -42,14 +42,11 @@ abbrev pub IsForm : Form → Type 0
 IsForm (Gen seed tags) = (seed < 2 ^ 64) × (tags ≤ most_made_tags)
 IsForm form = Unit {0}
 
--- the form's word reads its whole input, and then writes what is defined for it
-abbrev pub ReadsWhole : Form → Type 0
-ReadsWhole Decode = ⊥
-ReadsWhole (Objects set) = ⊥
-ReadsWhole (Gen seed tags) = ⊥
-ReadsWhole Help = ⊥
-ReadsWhole Version = ⊥
-ReadsWhole form = Unit {0}
+-- the words of the form read their whole input, where they have one, before they look at it
+abbrev pub ReadsFirst : Form → Type 0
+ReadsFirst Decode = ⊥
+ReadsFirst (Objects set) = ⊥
+ReadsFirst form = Unit {0}
 
 -- the words are the one spelling of the form
 pub record SpellForm (words : List (List ℕ)) (form : Form) : Type 0 where

@@ -12,9 +12,8 @@ ghost use Rattle.report_lines.specs.declared.mode.Mode.{Mode};
 use crate::forms::{Form, form_of};
 use crate::laws::jobs_are_lawful;
 use crate::status::Status;
-use crate::words::{decode, generate, objects, own_texts, whole};
+use crate::words::{decode, objects, whole};
 use air_io::{Sink, Source, SureSink, SureSource};
-use program_texts::{help_text, version_text};
 use std::alloc::Global;
 
 /// Does what the words ask for: reads the input to its end, and writes the defined text.
@@ -190,9 +189,6 @@ fn write_answer<I: Source, O: Sink>(
     match form {
         Form::Decode => decode::answer(alloc, input, output),
         Form::Objects(set) => objects::answer(alloc, set, input, output),
-        Form::Gen { seed, tags } => generate::answer(alloc, seed, tags, input, output),
-        Form::Help => own_texts::answer(help_text().as_bytes(), input, output),
-        Form::Version => own_texts::answer(version_text().as_bytes(), input, output),
         _ => whole::answer(alloc, form, input, output),
     }
 }

@@ -1,15 +1,14 @@
 //! The words `gen SEED TAGS`: the summary of a generated scenario.
-ghost use Rattle.std.specs.Prelude.{◌≡◌, ◌+◌, ◌≤◌, ℕ, [], ◌∷◌, ◌++◌, length};
+ghost use Rattle.std.specs.Prelude.{◌≡◌, ◌+◌, ◌≤◌, ℕ, List, [], ◌∷◌, ◌++◌, length};
 ghost use Rattle.std.specs.Fmt.{decimal};
 ghost use Rattle.top_call.specs.Job.{IsLawful};
 ghost use Rattle.top_call.specs.words.Generated.{end_line, summary_text, gen_job};
-ghost use Rattle.top_call.specs.Outcome.{EndsSo, SpeaksOfNoInput, Tells, source_change, sink_change};
+ghost use Rattle.top_call.specs.Outcome.{EndsSo, sink_change};
 ghost use Rattle.made_scenario.specs.Made.{most_made_tags};
 ghost use Rattle.text_fields.specs.Lines.{line_feed};
 
-use crate::ending::{WriteEnd, Wrote, status_of, write_text};
-use crate::status::Status;
-use air_io::{Sink, Source};
+use crate::ending::{WriteEnd, Wrote, write_text};
+use air_io::Sink;
 use air_world::{Summary, summarise};
 use arrayvec::ArrayVec;
 use itoa::Buffer;
@@ -18,31 +17,15 @@ use made_scenario::made_scenario;
 use std::alloc::Global;
 use text_fields::push_bytes;
 
-/// Makes the scenario of a seed with so many tags, runs it, and writes its summary. Nothing is read.
-pub fn answer<I: Source, O: Sink>(
-    alloc: Global,
-    seed: u64,
-    tags: u32,
-    _input: &mut I,
-    output: &mut O,
-) -> Status
-    requires { tags ≤ most_made_tags }
-    ensures tells { Tells (gen_job seed tags) (source_change I.left I.faults _input.old _input.new)
-        (sink_change O.written O.faults output.old output.new) (output.new ≡ output.old) result }
-    ensures unread { (_input.new ≡ _input.old) × SpeaksOfNoInput result }
-{
-    status_of(write_summary(alloc, seed, tags, output))
-}
-
-/// Writes the summary of the run of the scenario of a seed.
-fn write_summary<O: Sink>(
+/// Makes the scenario of a seed with so many tags, runs it, and writes its summary, whatever the bytes of an input.
+pub fn write_summary<O: Sink>(
     alloc: Global,
     seed: u64,
     tags: u32,
     output: &mut O,
 ) -> Result<Wrote, WriteEnd>
     requires { tags ≤ most_made_tags }
-    ensures { EndsSo (gen_job seed tags) []
+    ensures { (bytes : List ℕ) → EndsSo (gen_job seed tags) bytes
         (sink_change O.written O.faults output.old output.new) result }
 {
     let scenario = made_scenario(alloc, seed, tags)?;

@@ -1,30 +1,40 @@
-//! The words that read their whole input, and then write what is defined for it.
-ghost use Rattle.std.specs.Prelude.{◌≡◌, ◌≢◌, ◌≤◌, Err, length};
+//! The words that write what is defined for their whole input, which is read first.
+ghost use Rattle.std.specs.Prelude.{◌≡◌, ◌≢◌, ◌≤◌, false, Err, length};
 ghost use Rattle.top_call.specs.declared.forms.Form.{Form};
-ghost use Rattle.top_call.specs.Form.{ReadsWhole};
+ghost use Rattle.top_call.specs.Form.{IsForm, ReadsFirst};
 ghost use Rattle.top_call.specs.Jobs.{job_of};
-ghost use Rattle.top_call.specs.Outcome.{EndsSo, Tells, input_limit, source_change, sink_change};
+ghost use Rattle.top_call.specs.Outcome.{EndsSo, SpeaksOfNoInput, Tells, input_limit, source_change, sink_change};
 
 use crate::ending::{MOST_INPUT_BYTES, WriteEnd, Wrote, status_of, unread_status};
-use crate::forms::Form;
+use crate::forms::{Form, reads_input};
 use crate::status::Status;
-use crate::words::{audit, encode, judge, names, portals, probe, run, upgrade};
+use crate::words::{
+    audit, encode, generate, judge, names, own_texts, portals, probe, run, upgrade,
+};
 use air_io::{Sink, Source, read_to_end};
+use program_texts::{help_text, version_text};
 use std::alloc::Global;
 
-/// Reads the input to its end, and writes what is defined for it. The whole input is checked before anything is written.
+/// Reads the input to its end, where the words of the form have one, and writes what is defined for it. The whole input is
+/// checked before anything is written.
 pub fn answer<I: Source, O: Sink>(
     alloc: Global,
     form: Form,
     input: &mut I,
     output: &mut O,
 ) -> Status
-    requires { ReadsWhole form }
+    requires form { IsForm form }
+    requires first { ReadsFirst form }
     ensures tells { Tells (job_of form) (source_change I.left I.faults input.old input.new)
         (sink_change O.written O.faults output.old output.new) (output.new ≡ output.old) result }
+    ensures unread { (job_of form).input ≡ false → (input.new ≡ input.old)
+        × SpeaksOfNoInput result }
     ensures names_memory { form ≡ Form.Names → result ≡ Status.OutOfMemory
         → output.new ≡ output.old }
 {
+    if !reads_input(form) {
+        return status_of(write_defined(alloc, form, b"", output));
+    }
     match read_to_end(alloc, input, MOST_INPUT_BYTES) {
         Ok(bytes) => status_of(write_defined(alloc, form, bytes.as_slice(), output)),
         Err(end) => unread_status(end),
@@ -38,7 +48,8 @@ fn write_defined<O: Sink>(
     input: &[u8],
     output: &mut O,
 ) -> Result<Wrote, WriteEnd>
-    requires whole { ReadsWhole form }
+    requires form { IsForm form }
+    requires first { ReadsFirst form }
     requires limit { length input.now ≤ input_limit }
     ensures ends { EndsSo (job_of form) input.now
         (sink_change O.written O.faults output.old output.new) result }
@@ -53,6 +64,9 @@ fn write_defined<O: Sink>(
         Form::Probe => probe::write_probed(alloc, input, output),
         Form::Judge => judge::write_judged(alloc, input, output),
         Form::Audit => audit::write_audited(alloc, input, output),
-        _ => unreachable!(),
+        Form::Gen { seed, tags } => generate::write_summary(alloc, seed, tags, output),
+        Form::Help => own_texts::write_own_text(help_text().as_bytes(), output),
+        Form::Version => own_texts::write_own_text(version_text().as_bytes(), output),
+        Form::Decode | Form::Objects(_) => unreachable!(),
     }
 }
