@@ -26,11 +26,7 @@ use Rattle.scenario_lines.specs.LineForm.{IsChoice}
 use Rattle.tag_machine.specs.TagValue.{TagValue}
 use Rattle.top_call.specs.words.Audited.{Audits, SaysEvent, SaysVerdict}
 use Rattle.scenario.specs.ScenarioText.{scenario_text}
-use Rattle.scenario_text.specs.FaultWords.{fault_word}
-use Rattle.scenario_text.specs.Faults.{IsFirstScenarioFault}
-use Rattle.scenario_text.specs.declared.fault.Fault.{Fault}
-use Rattle.text_fields.specs.FaultLine.{fault_line}
-use Rattle.top_call.specs.words.Reported.{IsOwnTrace, RefusesScenario, Reports}
+use Rattle.top_call.specs.words.Reported.{IsOwnTrace, Reports}
 use Rattle.top_call.proofs.RunEnds.{AreToldApart}
 
 -- what the law of verdicts says: no two verdicts on a trace are right
@@ -104,14 +100,4 @@ audits-so bytes text trace line scenario read part behind says = record {
   legal = read.0;
   spelled = sym part ∙ read.1;
   says = subst (λ (t : List ℕ). SaysEvent scenario line ⊎ SaysVerdict scenario t line) behind says;
-}
-
--- ... and for others
-pub refuses-so : (bytes text line : List ℕ) (number : ℕ) (fault : Fault) → IsFirstScenarioFault text number fault → text ≡ scenario_part bytes → line ≡ fault_line number (fault_word fault)
-    → RefusesScenario (scenario_part bytes) line
-refuses-so bytes text line number fault first part written = record {
-  number = number;
-  fault = fault;
-  first = subst (λ (t : List ℕ). IsFirstScenarioFault t number fault) part first;
-  line = written;
 }

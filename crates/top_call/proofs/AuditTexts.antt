@@ -17,14 +17,9 @@ use Rattle.scenario.specs.ScenarioText.{IsScenarioText, scenario_text}
 use Rattle.scenario.specs.declared.values.Scenario.{Scenario}
 use Rattle.scenario.specs.declared.values.Step.{Step}
 use Rattle.scenario.specs.declared.values.Step.TheVariants as steps
-use Rattle.scenario_text.specs.FaultWords.{fault_word}
-use Rattle.scenario_text.specs.Faults.{IsFirstScenarioFault}
-use Rattle.scenario_text.specs.declared.fault.Fault.{Fault}
 use Rattle.tag_machine.specs.Exchange.{AreLegalTags}
 use Rattle.tag_machine.specs.TagValue.{TagValue}
-use Rattle.text_fields.specs.FaultLine.{fault_line}
-use Rattle.top_call.specs.Job.{Defines}
-use Rattle.top_call.specs.words.Audited.{Audits, SaysReceived, audit_job}
+use Rattle.top_call.specs.words.Audited.{Audits, SaysReceived}
 use Rattle.top_call.proofs.RunEnds.{AreToldApart}
 
 -- the laws of traces and of scenarios that the promise goes by
@@ -78,20 +73,13 @@ told-or (steps.Select command ∷ more) = told-behind (steps.Select command) mor
 told-or (steps.Nak ∷ more) = told-behind steps.Nak more tt (told-or more)
 told-or (steps.Round spec operations ∷ more) = told-behind (steps.Round spec operations) more tt (told-or more)
 
--- what an input has for a text
-abbrev pub HasText : List ℕ → Type 0
-HasText bytes = (text : List ℕ) × Defines audit_job bytes text
-
+-- bytes that begin with a scenario have a text
 text-of : (bytes : List ℕ) (scenario : Scenario) → IsScenario scenario → scenario_part bytes ≡ scenario_text scenario → HasNoEventStep scenario.steps ⊎ (¬ HasNoEventStep scenario.steps)
-    → ((verdict : Verdict) × IsAuditVerdict (start_of scenario) (trace_part bytes) verdict) → HasText bytes
-text-of bytes scenario legal spelled (inl told) verdict = (
-  verdict_line verdict.0,
-  inl (record { scenario = scenario; legal = legal; spelled = spelled; says = inr (record { told = told; verdict = verdict.0; right = verdict.1; line = refl }) }),
-)
+    → ((verdict : Verdict) × IsAuditVerdict (start_of scenario) (trace_part bytes) verdict) → (text : List ℕ) × Audits bytes text
+text-of bytes scenario legal spelled (inl told) verdict =
+    (verdict_line verdict.0, record { scenario = scenario; legal = legal; spelled = spelled; says = inr (record { told = told; verdict = verdict.0; right = verdict.1; line = refl }) })
 text-of bytes scenario legal spelled (inr untold) verdict =
-    (event_line, inl (record { scenario = scenario; legal = legal; spelled = spelled; says = inl (record { untold = untold; line = refl }) }))
+    (event_line, record { scenario = scenario; legal = legal; spelled = spelled; says = inl (record { untold = untold; line = refl }) })
 
-pub some-text : (bytes : List ℕ) → IsScenarioText (scenario_part bytes) ⊎ ((number : ℕ) × (fault : Fault) × IsFirstScenarioFault (scenario_part bytes) number fault)
-    → ((start : Start) (trace : List ℕ) → (verdict : Verdict) × IsAuditVerdict start trace verdict) → HasText bytes
-some-text bytes (inl text) verdicts = text-of bytes text.0 text.1 text.2 (told-or text.0.steps) (verdicts (start_of text.0) (trace_part bytes))
-some-text bytes (inr faulty) verdicts = (fault_line faulty.0 (fault_word faulty.1), inr (record { number = faulty.0; fault = faulty.1; first = faulty.2; line = refl }))
+pub audited-text : ((start : Start) (trace : List ℕ) → (verdict : Verdict) × IsAuditVerdict start trace verdict) → (bytes : List ℕ) → IsScenarioText (scenario_part bytes) → (text : List ℕ) × Audits bytes text
+audited-text verdicts bytes text = text-of bytes text.0 text.1 text.2 (told-or text.0.steps) (verdicts (start_of text.0) (trace_part bytes))

@@ -1,7 +1,5 @@
 -- The lines that are written for those before a place of the input.
-use Rattle.std.proofs.Common.{◌≡◌, ℕ, ◌+◌, List, [], ◌∷◌, ◌++◌, Option, Result, Err, refl, sym, ◌∙◌, ap, subst, append_assoc, inl, inr}
-use Rattle.std.specs.Prelude.{IsErrOf}
-use Rattle.air_io.specs.Flow.{FaultsRose}
+use Rattle.std.proofs.Common.{◌≡◌, ℕ, ◌+◌, List, [], ◌∷◌, ◌++◌, Option, refl, sym, ◌∙◌, ap, subst, append_assoc}
 use Rattle.air_io.specs.laws.Flow.{Adds-nothing}
 use Rattle.text_fields.specs.Lines.{lines_of}
 use Rattle.checked_lines.specs.Answered.{AddsLineFor, AnswersTo}
@@ -11,13 +9,8 @@ use Rattle.encode_lines.specs.EncodeLines.{Encodes, EncodesLine, AskForEncoding,
 use Rattle.encode_lines.specs.Request.{AsksToEncode}
 use Rattle.encode_lines.specs.Written.{AreWritten}
 use Rattle.encode_lines.specs.declared.request.Request.{Request}
-use Rattle.top_call.specs.Job.{Defines}
-use Rattle.top_call.specs.Outcome.{AddsFront, EndsSo, SinkChange}
+use Rattle.top_call.specs.Outcome.{AddsFront}
 use Rattle.top_call.specs.UnwrittenBytes.{Loses}
-use Rattle.top_call.specs.declared.ending.Wrote.{Wrote}
-use Rattle.top_call.specs.declared.ending.WriteEnd.{WriteEnd}
-use Rattle.top_call.specs.declared.ending.WriteEnd.TheVariants.{Fault, OutOfMemory}
-use Rattle.top_call.specs.words.Encoded.{encode_job}
 
 -- what the law of requests says
 abbrev pub HaveLines : Type 0
@@ -95,15 +88,3 @@ front_of_lines have input rest text written written' so_far loses =
 pub unstarted : HaveLines → (input : List ℕ) (written : Option (List ℕ)) → AskForEncoding input → AddsFront (Encodes input) written written
 unstarted have input written asks =
     front_of_lines have input input [] written written (encodes_none input asks) (record { sent = []; lost = []; all = refl; added = Adds-nothing written })
-
-defined_front : (input : List ℕ) (written written' : Option (List ℕ)) → AddsFront (Encodes input) written written' → AddsFront (Defines encode_job input) written written'
-defined_front input written written' front = record { front = front.front; rest = front.rest; named = inl front.named; added = front.added }
-
--- the writing ended where a write failed, or for want of memory
-pub encode_failed : (input : List ℕ) (sink : SinkChange) (why : WriteEnd) (end : Result Wrote WriteEnd) → end ≡ Err why
-    → (IsErrOf {T = Unit {0}} (Err why) Fault → FaultsRose sink.writes sink.writes') → (IsErrOf {T = Unit {0}} (Err why) OutOfMemory → sink.writes' ≡ sink.writes)
-    → AddsFront (Encodes input) sink.written sink.written' → EndsSo encode_job input sink end
-encode_failed input sink Fault end is rose steady front =
-    subst (EndsSo encode_job input sink) (sym is) (rose refl, defined_front input sink.written sink.written' front)
-encode_failed input sink OutOfMemory end is rose steady front =
-    subst (EndsSo encode_job input sink) (sym is) (steady refl, inr (defined_front input sink.written sink.written' front))

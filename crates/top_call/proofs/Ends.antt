@@ -47,6 +47,15 @@ ends_so job bytes wrote sink text (Err ends.Fault) so named =
     (so.0, record { front = so.1.front; rest = so.1.rest; named = subst (Defines job bytes) (sym so.1.named) (defined_as job wrote bytes text named); added = so.1.added })
 ends_so job bytes wrote sink text (Err ends.OutOfMemory) so named = absurd so
 
+-- the writing of what a word has to write ended behind a front of it: a write failed, or there was no memory
+pub ends_early : (job : Job) (bytes : List ℕ) (sink : SinkChange) (why : WriteEnd) (end : Result Wrote WriteEnd) → end ≡ Err why
+    → (why ≡ ends.Fault → FaultsRose sink.writes sink.writes') → (why ≡ ends.OutOfMemory → sink.writes' ≡ sink.writes)
+    → AddsFront (job.writes bytes) sink.written sink.written' → EndsSo job bytes sink end
+ends_early job bytes sink ends.Fault end is rose steady front =
+    subst (EndsSo job bytes sink) (sym is) (rose refl, record { front = front.front; rest = front.rest; named = inl front.named; added = front.added })
+ends_early job bytes sink ends.OutOfMemory end is rose steady front =
+    subst (EndsSo job bytes sink) (sym is) (steady refl, inr (record { front = front.front; rest = front.rest; named = inl front.named; added = front.added }))
+
 -- what was read of a source that tells what it has left is a front of that
 front_read : (told : List ℕ) (left' : Option (List ℕ)) (bytes : List ℕ) → TakesBytes (Some told) left' bytes → (rest : List ℕ) × (told ≡ bytes ++ rest) × (left' ≡ Some rest)
 front_read told None bytes reads = cc

@@ -1,21 +1,16 @@
 -- The lines before a place of the input, with their names.
-use Rattle.std.proofs.Common.{◌≡◌, ℕ, ◌+◌, ◌≤◌, List, [], ◌∷◌, ◌++◌, length, refl, sym, ◌∙◌, ap, subst, arith, append_assoc, length-append, Option, Result, Err, inl, inr}
+use Rattle.std.proofs.Common.{◌≡◌, ℕ, ◌+◌, ◌≤◌, List, [], ◌∷◌, ◌++◌, length, refl, sym, ◌∙◌, ap, subst, arith, append_assoc, length-append, Option, inl, inr}
 use Rattle.std.specs.List.{AllZip, flat_map}
 use Rattle.std.proofs.lemmas.List.{append_cancel_right, append-nil}
 use Rattle.text_fields.specs.Lines.{lines_of, line_feed, text_with}
-use Rattle.air_io.specs.Flow.{FaultsRose}
 use Rattle.epc_sgtin.specs.SgtinValue.{SgtinValue}
 use Rattle.sgtin_text.specs.SgtinText.{name_line}
 use Rattle.report_lines.specs.Names.{IsNamed, HasName, BecomesLines, AreWithNames}
-use Rattle.top_call.specs.Job.{Defines}
-use Rattle.top_call.specs.Outcome.{AddsFront, EndsSo, SinkChange}
+use Rattle.top_call.specs.Outcome.{AddsFront}
 use Rattle.top_call.specs.UnwrittenBytes.{WritesWaiting, Loses}
-use Rattle.top_call.specs.declared.ending.Wrote.{Wrote}
-use Rattle.top_call.specs.declared.ending.WriteEnd.{WriteEnd}
-use Rattle.top_call.specs.declared.ending.WriteEnd.TheVariants.{Fault}
 use Rattle.text_fields.specs.FaultLine.{fault_line}
 use Rattle.checked_lines.specs.FaultWords.{reason_word}
-use Rattle.top_call.specs.words.Named.{IsOfLines, AddsNames, IsCutAt, RefusesCutLine, names_job}
+use Rattle.top_call.specs.words.Named.{IsOfLines, AddsNames, IsCutAt, RefusesCutLine}
 use Rattle.checked_lines.specs.declared.fault.FaultReason.TheVariants.{End}
 use Rattle.text_fields.proofs.LineLaws.{some_line}
 use Rattle.text_fields.proofs.ListLaws.{flat_map_push, zip_push}
@@ -187,10 +182,3 @@ pub becomes_lost : (line bytes page : List ℕ) (written written' : Option (List
     → (lines : List (List ℕ)) × BecomesLines line lines × Loses (page ++ text_with lines) written written'
 becomes_lost line bytes page written written' becomes loses =
     (becomes.lines, becomes.becomes, subst (λ (t : List ℕ). Loses (page ++ t) written written') becomes.is loses)
-
--- the writing of names ended where a write failed
-pub names_failed : (bytes : List ℕ) (sink : SinkChange) (end : Result Wrote WriteEnd) → end ≡ Err Fault → FaultsRose sink.writes sink.writes'
-    → AddsFront (AddsNames bytes) sink.written sink.written' → EndsSo names_job bytes sink end
-names_failed bytes sink end is rose front =
-    let part : AddsFront (Defines names_job bytes) sink.written sink.written' = record { front = front.front; rest = front.rest; named = inl front.named; added = front.added } in
-    subst (EndsSo names_job bytes sink) (sym is) (rose, part)

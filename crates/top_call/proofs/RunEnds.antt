@@ -1,5 +1,5 @@
 -- The texts of `run`, by the laws of scenarios: what holds of reports and fault lines, and how a run ends.
-use Rattle.std.proofs.Common.{◌≡◌, ℕ, List, ◌++◌, Option, Result, Err, refl, sym, ◌∙◌, ap, subst, inl, inr}
+use Rattle.std.proofs.Common.{◌≡◌, ◌⊎◌, ℕ, List, ◌++◌, Option, Result, Err, refl, sym, ◌∙◌, ap, subst, inl, inr}
 use Rattle.std.specs.Prelude.{IsErrOf}
 use Rattle.air_io.specs.Flow.{Adds, FaultsRose}
 use Rattle.scenario.specs.declared.values.Scenario.{Scenario}
@@ -48,6 +48,12 @@ pub same_refusal : HasOneFault → (bytes one other : List ℕ) → RefusesScena
 same_refusal one_fault bytes one other left right =
     let faults = one_fault bytes left.number right.number left.fault right.fault left.first right.first in
     left.line ∙ ap (λ number. fault_line number (fault_word left.fault)) faults.0 ∙ ap (λ fault. fault_line right.number (fault_word fault)) faults.1 ∙ sym right.line
+
+-- bytes have a text where it is so of those that spell a scenario, since the others have a fault line
+pub some_text : (T : List ℕ → Type 0) (bytes : List ℕ) → (IsScenarioText bytes → (text : List ℕ) × T text)
+    → IsScenarioText bytes ⊎ ((number : ℕ) × (fault : Fault) × IsFirstScenarioFault bytes number fault) → (text : List ℕ) × (T text ⊎ RefusesScenario bytes text)
+some_text T bytes texts (inl spelled) = let found = texts spelled in (found.0, inl found.1)
+some_text T bytes texts (inr faulty) = (fault_line faulty.0 (fault_word faulty.1), inr (record { number = faulty.0; fault = faulty.1; first = faulty.2; line = refl }))
 
 -- a front of the report was added
 abbrev pub AddsPart : Mode → Scenario → (written written' : Option (List ℕ)) → Type 0

@@ -11,6 +11,7 @@ pub mod own_texts;
 mod page;
 pub mod portals;
 pub mod probe;
+mod refusal;
 pub mod run;
 pub mod upgrade;
 pub mod whole;

@@ -6,6 +6,7 @@ ghost use Rattle.top_call.specs.Outcome.{EndsSo, input_limit, sink_change};
 ghost use Rattle.top_call.specs.words.Audited.{SaysEvent, SaysVerdict, audit_job};
 
 use crate::ending::{WriteEnd, Wrote, write_text};
+use crate::words::refusal::write_refusal;
 use air_audit::{
     audit, event_text, has_event_step, list_lines_are_received, split_scenario,
     traces_have_a_verdict, traces_have_at_most_one_verdict, verdict_text,
@@ -17,8 +18,8 @@ use bit_strings::OutOfMemory;
 use runs::histories_keep_tags_legal;
 use scenario::Scenario;
 use scenario_text::{
-    ScenarioFault, fault_text, read_scenario, scenario_texts_are_not_faulty,
-    scenarios_are_told_apart, texts_are_scenarios_or_faulty, texts_have_one_fault,
+    read_scenario, scenario_texts_are_not_faulty, scenarios_are_told_apart,
+    texts_are_scenarios_or_faulty, texts_have_one_fault,
 };
 use std::alloc::Global;
 
@@ -39,11 +40,7 @@ pub fn write_audited<O: Sink>(
             let line = audited_line(alloc, scenario, trace)?;
             write_text(Wrote::Text, line.as_slice(), output)
         }
-        Err(ScenarioFault::Line(number, fault)) => {
-            let line = fault_text(number, fault);
-            write_text(Wrote::FaultLine, line.as_slice(), output)
-        }
-        Err(ScenarioFault::OutOfMemory) => Err(WriteEnd::OutOfMemory),
+        Err(fault) => write_refusal(fault, output),
     }
 }
 

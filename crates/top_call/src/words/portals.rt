@@ -10,14 +10,15 @@ ghost use Rattle.top_call.specs.Outcome.{EndsSo, sink_change};
 ghost use Rattle.top_call.specs.words.Compared.{portals_job};
 
 use crate::ending::{WriteEnd, Wrote, write_text};
+use crate::words::refusal::write_refusal;
 use air_io::Sink;
 use air_world::compare_portals;
 use portal_text::{portal_fault, portal_scenarios, portals_text, round_specs};
 use runs::portals_are_independent;
 use scenario::Scenario;
 use scenario_text::{
-    ScenarioFault, fault_text, read_scenario, scenario_texts_are_not_faulty,
-    scenarios_are_told_apart, texts_are_scenarios_or_faulty, texts_have_one_fault,
+    read_scenario, scenario_texts_are_not_faulty, scenarios_are_told_apart,
+    texts_are_scenarios_or_faulty, texts_have_one_fault,
 };
 use std::alloc::{AllocError, Global};
 use text_fields::fault_line;
@@ -43,11 +44,7 @@ pub fn write_portals<O: Sink>(
                 write_text(Wrote::FaultLine, line.as_slice(), output)
             }
         },
-        Err(ScenarioFault::Line(number, fault)) => {
-            let line = fault_text(number, fault);
-            write_text(Wrote::FaultLine, line.as_slice(), output)
-        }
-        Err(ScenarioFault::OutOfMemory) => Err(WriteEnd::OutOfMemory),
+        Err(fault) => write_refusal(fault, output),
     }
 }
 

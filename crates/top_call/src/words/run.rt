@@ -5,14 +5,15 @@ ghost use Rattle.top_call.specs.Job.{Defines, IsLawful};
 ghost use Rattle.top_call.specs.Outcome.{EndsSo, sink_change};
 ghost use Rattle.top_call.specs.words.Reported.{run_job};
 
-use crate::ending::{WriteEnd, Wrote, write_text};
+use crate::ending::{WriteEnd, Wrote};
+use crate::words::refusal::write_refusal;
 use air_audit::own_traces_are_audited;
 use air_io::Sink;
 use air_world::{Mode, play, set_up};
 use runs::{headline, rounds_are_complete};
 use scenario_text::{
-    ScenarioFault, fault_text, read_scenario, scenario_texts_are_not_faulty,
-    scenarios_are_told_apart, texts_are_scenarios_or_faulty, texts_have_one_fault,
+    read_scenario, scenario_texts_are_not_faulty, scenarios_are_told_apart,
+    texts_are_scenarios_or_faulty, texts_have_one_fault,
 };
 use std::alloc::Global;
 
@@ -33,11 +34,7 @@ pub fn write_report<O: Sink>(
             play(alloc, &scenario, &mut air, mode, output)?;
             Ok(Wrote::Text)
         }
-        Err(ScenarioFault::Line(number, fault)) => {
-            let line = fault_text(number, fault);
-            write_text(Wrote::FaultLine, line.as_slice(), output)
-        }
-        Err(ScenarioFault::OutOfMemory) => Err(WriteEnd::OutOfMemory),
+        Err(fault) => write_refusal(fault, output),
     }
 }
 

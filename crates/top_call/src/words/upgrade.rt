@@ -5,12 +5,13 @@ ghost use Rattle.top_call.specs.Outcome.{EndsSo, sink_change};
 ghost use Rattle.top_call.specs.words.Upgraded.{upgrade_job};
 
 use crate::ending::{WriteEnd, Wrote, write_text};
+use crate::words::refusal::write_refusal;
 use air_io::Sink;
 use runs::upgraded_scenarios_run_the_same;
 use scenario::{upgrade, upgraded_scenarios_are_legal};
 use scenario_text::{
-    ScenarioFault, fault_text, print_scenario, read_scenario, scenario_texts_are_not_faulty,
-    scenarios_are_told_apart, texts_are_scenarios_or_faulty, texts_have_one_fault,
+    print_scenario, read_scenario, scenario_texts_are_not_faulty, scenarios_are_told_apart,
+    texts_are_scenarios_or_faulty, texts_have_one_fault,
 };
 use std::alloc::Global;
 
@@ -30,11 +31,7 @@ pub fn write_upgraded<O: Sink>(
             let text = print_scenario(alloc, &upgraded)?;
             write_text(Wrote::Text, text.as_slice(), output)
         }
-        Err(ScenarioFault::Line(number, fault)) => {
-            let line = fault_text(number, fault);
-            write_text(Wrote::FaultLine, line.as_slice(), output)
-        }
-        Err(ScenarioFault::OutOfMemory) => Err(WriteEnd::OutOfMemory),
+        Err(fault) => write_refusal(fault, output),
     }
 }
 

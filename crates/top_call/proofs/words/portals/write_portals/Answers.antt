@@ -1,5 +1,6 @@
 -- The lines of two portals, or the line of the first fault.
 use Rattle.std.proofs.Common.{◌∙◌, inl, sym}
+use Rattle.top_call.specs.declared.forms.Form.TheVariants.{Portals}
 use Rattle.top_call.specs.words.Compared.{portals_job}
 use Rattle.top_call.proofs.PortalEnds.{portal_refused, portals_written}
 use Rattle.top_call.proofs.Ends.{ends_so}
@@ -17,9 +18,5 @@ returns-in-Ok g c =
     (rw c.as_slice.ensures.value (portal_refused c.args.input.now c.fault_line-line.result.items
     c.in-Ok.scenario c.in-Some.number c.in-Ok.ensures.ok (sym c.portal_fault.ensures ∙ c.in-Some.is) c.fault_line-line.ensures))
 
-pub returns-in-Err-Line : goal.returns-in-Err-Line
-returns-in-Err-Line g c =
-    let here = c.in-Err-Line in
-    let line = rw here.field-0-is at c.fault_text-line.ensures in
-    ends_so portals_job c.args.input.now _ _ _ _ c.write_text-in-Err-Line.ensures.ends
-    (rw c.as_slice-in-Err-Line.ensures.value (inl (record { number = here.number; fault = here.fault; first = rw here.field-0-is at here.ensures.refused; line = line })))
+pub returns : goal.returns
+returns g c = c.write_refusal.ensures Portals c.args.input.now _ c.in-Err.ensures.refused (λ line refuses. inl refuses)

@@ -1,8 +1,8 @@
 use Rattle.std.proofs.Common.{◌∙◌, Err, ap}
 use Rattle.std.proofs.lemmas.Result.{err_from_is_err_and}
+use Rattle.top_call.specs.declared.forms.Form.TheVariants.{Run}
 use Rattle.top_call.specs.words.Reported.{run_job}
 use Rattle.top_call.proofs.RunEnds.{play_failed}
-use Rattle.top_call.proofs.Ends.{ends_so}
 use Rattle.top_call.proofs.words.run.write_report.Goals as goal
 
 pub returns-in_err-play-in-Ok : goal.returns-in_err-play-in-Ok
@@ -13,9 +13,5 @@ returns-in_err-play-in-Ok g c =
     play_failed c.args.mode _ (c.in-Ok.scenario, read.0, read.1) (record { written = _; written' = _; writes = _; writes' = _ }) c.in_err-play-in-Ok.field-0.0 _ (end.1 ∙ ap Err end.2)
     (record { rose = cut.write; steady = cut.memory; part = cut.part })
 
-pub returns-in-Err-Line : goal.returns-in-Err-Line
-returns-in-Err-Line g c =
-    let here = c.in-Err-Line in
-    let line = rw here.field-0-is at c.fault_text-line.ensures in
-    ends_so (run_job c.args.mode) c.args.input.now _ _ _ _ c.write_text.ensures.ends
-    (rw c.as_slice.ensures.value (record { number = here.number; fault = here.fault; first = rw here.field-0-is at here.ensures.refused; line = line }))
+pub returns-in-Err : goal.returns-in-Err
+returns-in-Err g c = c.write_refusal.ensures (Run c.args.mode) c.args.input.now _ c.in-Err.ensures.refused (λ line refuses. refuses)

@@ -1,6 +1,7 @@
 -- The text of version 2, or the line of the first fault.
 use Rattle.std.proofs.Common.{◌≡◌}
 use Rattle.scenario_text.specs.ScenarioText.{scenario_text}
+use Rattle.top_call.specs.declared.forms.Form.TheVariants.{Upgrade}
 use Rattle.top_call.specs.words.Upgraded.{upgrade_job}
 use Rattle.top_call.proofs.UpgradeEnds.{upgraded_text}
 use Rattle.top_call.proofs.Ends.{ends_so}
@@ -12,9 +13,5 @@ returns-in_ok-text-in-Ok g c =
     ends_so upgrade_job c.args.input.now _ _ _ _ c.write_text.ensures.ends
     (upgraded_text c.args.input.now c.in-Ok.scenario c.upgrade-upgraded.result c.as_slice.result.now c.in-Ok.ensures.ok c.upgrade-upgraded.ensures.same printed)
 
-pub returns-in-Err-Line : goal.returns-in-Err-Line
-returns-in-Err-Line g c =
-    let here = c.in-Err-Line in
-    let line = rw here.field-0-is at c.fault_text-line.ensures in
-    ends_so upgrade_job c.args.input.now _ _ _ _ c.write_text-in-Err-Line.ensures.ends
-    (rw c.as_slice-in-Err-Line.ensures.value (record { number = here.number; fault = here.fault; first = rw here.field-0-is at here.ensures.refused; line = line }))
+pub returns-in-Err : goal.returns-in-Err
+returns-in-Err g c = c.write_refusal.ensures Upgrade c.args.input.now _ c.in-Err.ensures.refused (λ line refuses. refuses)
