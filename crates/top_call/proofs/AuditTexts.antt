@@ -7,7 +7,6 @@ use Rattle.air_audit.specs.OwnTraces.{HasNoEventStep, IsToldByLines}
 use Rattle.air_audit.specs.ReceivedLists.{ListsWhatIsReceived}
 use Rattle.air_audit.specs.TraceBehind.{scenario_part, trace_part}
 use Rattle.air_audit.specs.VerdictText.{event_line, verdict_line}
-use Rattle.air_audit.specs.declared.verdict.AuditReason.{AuditReason}
 use Rattle.air_audit.specs.declared.verdict.Verdict.{Verdict}
 use Rattle.air_audit.specs.declared.verdict.Verdict.TheVariants.{Yes, No}
 use Rattle.air_model.specs.Past.{Start, Item, tags_behind, tags_behind_from}

@@ -1,5 +1,5 @@
 -- A word with `json` behind it, by the word itself: its law, and how it ends.
-use Rattle.std.proofs.Common.{◌≡◌, ◌≢◌, ◌⊎◌, ℕ, Bool, true, false, List, [], ◌++◌, Option, Some, None, Result, Ok, Err, refl, sym, ap, ◌∙◌, subst, inl, inr}
+use Rattle.std.proofs.Common.{◌≡◌, ◌≢◌, ℕ, Bool, true, false, List, [], ◌++◌, Option, Some, Result, Ok, Err, refl, sym, ap, ◌∙◌, subst, inl, inr}
 use Rattle.air_io.specs.Flow.{Adds}
 use Rattle.line_objects.specs.Objects.{AreObjectsOf}
 use Rattle.line_objects.specs.declared.line_members.LineSet.{LineSet}
