@@ -7,7 +7,7 @@ use Rattle.air_audit.specs.AuditedTrace.{IsAudited}
 use Rattle.air_audit.specs.Auditing.{AreAsGiven, GivesStream}
 use Rattle.air_audit.specs.FirstRefusal.{IsAuditVerdict}
 use Rattle.air_audit.specs.OwnTraces.{HasNoEventStep}
-use Rattle.air_audit.specs.TraceBehind.{scenario_part, trace_part}
+use Rattle.air_audit.specs.TraceBehind.{trace_part}
 use Rattle.air_audit.specs.VerdictText.{verdict_line}
 use Rattle.air_audit.specs.declared.verdict.Verdict.{Verdict}
 use Rattle.air_events.specs.Entries.{entry_at}
@@ -25,7 +25,6 @@ use Rattle.scenario.specs.declared.values.Scenario.{Scenario}
 use Rattle.scenario_lines.specs.LineForm.{IsChoice}
 use Rattle.tag_machine.specs.TagValue.{TagValue}
 use Rattle.top_call.specs.words.Audited.{Audits, SaysEvent, SaysVerdict}
-use Rattle.scenario.specs.ScenarioText.{scenario_text}
 use Rattle.top_call.specs.words.Reported.{IsOwnTrace, Reports}
 use Rattle.top_call.proofs.RunEnds.{AreToldApart}
 
@@ -90,14 +89,4 @@ pub own_trace : AreAudited → (bytes text : List ℕ) → Reports Trace bytes t
 own_trace law bytes text reports = record {
   reports = reports;
   audited = λ told. subst (λ (t : List ℕ). IsAudited (start_of reports.scenario) t) (sym reports.report) (law reports.scenario reports.legal told);
-}
-
--- what is written for bytes that begin with a scenario
-pub audits-so : (bytes text trace line : List ℕ) (scenario : Scenario) → IsScenario scenario × (text ≡ scenario_text scenario) → text ≡ scenario_part bytes → trace ≡ trace_part bytes
-    → SaysEvent scenario line ⊎ SaysVerdict scenario trace line → Audits bytes line
-audits-so bytes text trace line scenario read part behind says = record {
-  scenario = scenario;
-  legal = read.0;
-  spelled = sym part ∙ read.1;
-  says = subst (λ (t : List ℕ). SaysEvent scenario line ⊎ SaysVerdict scenario t line) behind says;
 }

@@ -2,6 +2,10 @@
 use Rattle.std.proofs.Common.{◌≡◌, ◌≢◌, ◌⊎◌, ℕ, ◌+◌, ◌≤◌, ◌<◌, Bool, List, ◌++◌, length, take, drop, Option, Some, None, Result, Ok, Err, true, false, [], refl, sym, ◌∙◌, ap, subst, arith, inl, inr, length-append}
 use Rattle.std.proofs.lemmas.List.{take-append-drop, append-nil}
 use Rattle.air_io.specs.Flow.{TakesBytes, Adds, AtEnd, FaultsRose}
+use Rattle.checked_lines.specs.FaultWords.{reason_word}
+use Rattle.checked_lines.specs.TextRules.{IsFaultText, IsFirstFault, TextRules}
+use Rattle.checked_lines.specs.declared.fault.FaultReason.{FaultReason}
+use Rattle.text_fields.specs.FaultLine.{fault_line}
 use Rattle.top_call.specs.Job.{Job, Defines, IsLawful}
 use Rattle.top_call.specs.Outcome.{input_limit, ReadsWithin, TakesInput, AddsFront, EndsSo, IsTextOf, WritesAs, SinkChange, SourceChange, Tells, WritesWhole, NothingFailed, WritesFront}
 use Rattle.top_call.specs.declared.ending.Wrote.{Wrote}
@@ -55,6 +59,14 @@ ends_early job bytes sink ends.Fault end is rose steady front =
     subst (EndsSo job bytes sink) (sym is) (rose refl, record { front = front.front; rest = front.rest; named = inl front.named; added = front.added })
 ends_early job bytes sink ends.OutOfMemory end is rose steady front =
     subst (EndsSo job bytes sink) (sym is) (steady refl, inr (record { front = front.front; rest = front.rest; named = inl front.named; added = front.added }))
+
+-- bytes of which two lines with two reasons are not both the first faulty one have one fault line
+pub same_fault_text : {S : Type 0} (rules : TextRules S FaultReason) → ((bytes : List ℕ) (one other : ℕ) (fault reason : FaultReason)
+    → IsFirstFault rules bytes one fault → IsFirstFault rules bytes other reason → (one ≡ other) × (fault ≡ reason))
+    → (bytes one other : List ℕ) → IsFaultText rules bytes one → IsFaultText rules bytes other → one ≡ other
+same_fault_text rules one_fault bytes one other left right =
+    let faults = one_fault bytes left.number right.number left.reason right.reason left.first right.first in
+    left.line ∙ ap (λ number. fault_line number (reason_word left.reason)) faults.0 ∙ ap (λ reason. fault_line right.number (reason_word reason)) faults.1 ∙ sym right.line
 
 -- what was read of a source that tells what it has left is a front of that
 front_read : (told : List ℕ) (left' : Option (List ℕ)) (bytes : List ℕ) → TakesBytes (Some told) left' bytes → (rest : List ℕ) × (told ≡ bytes ++ rest) × (left' ≡ Some rest)

@@ -1,6 +1,5 @@
 -- The texts of `judge`, by the laws of logs and of verdicts.
 use Rattle.std.proofs.Common.{◌≡◌, ℕ, List, sym, ◌∙◌, ap}
-use Rattle.checked_lines.specs.FaultWords.{reason_word}
 use Rattle.checked_lines.specs.TextRules.{IsFaultText}
 use Rattle.checked_lines.specs.declared.fault.FaultReason.{FaultReason}
 use Rattle.judge_lines.specs.Judged.{IsJudged}
@@ -9,7 +8,6 @@ use Rattle.judge_lines.specs.VerdictLine.{line_of_verdict}
 use Rattle.log_verdicts.specs.Log.{AreDrawn, LogEntry, LoggedTag, tag_with}
 use Rattle.log_verdicts.specs.Verdicts.{IsVerdict, Verdict, Yes}
 use Rattle.log_verdicts.specs.laws.Logs.{Deed, log_made}
-use Rattle.text_fields.specs.FaultLine.{fault_line}
 use Rattle.top_call.specs.words.Judged.{IsSomeLog, TellsVerdict, SaysYesOfTags}
 
 -- what the laws of logs say: a log that bytes say has one verdict,
@@ -20,10 +18,6 @@ HasOneVerdict = (bytes : List ℕ) (one other : Verdict) → IsJudged bytes one 
 abbrev pub AreNotFaulty : Type 0
 AreNotFaulty = (bytes : List ℕ) (tag : LoggedTag) (log : List LogEntry) (number : ℕ) (fault : FaultReason) → IsLogText bytes tag log → IsFirstLogFault bytes number fault → ⊥
 
--- bytes have one first fault,
-abbrev pub HaveOneFault : Type 0
-HaveOneFault = (bytes : List ℕ) (one other : ℕ) (fault reason : FaultReason) → IsFirstLogFault bytes one fault → IsFirstLogFault bytes other reason → (one ≡ other) × (fault ≡ reason)
-
 -- and a log that a tag makes is judged yes
 abbrev pub AreExplained : Type 0
 AreExplained = (tag : LoggedTag) (words : List ℕ) (deeds : List Deed) → AreDrawn words → IsVerdict tag (log_made deeds (tag_with tag words)) Yes
@@ -31,11 +25,6 @@ AreExplained = (tag : LoggedTag) (words : List ℕ) (deeds : List Deed) → AreD
 pub same_text : HasOneVerdict → (bytes one other : List ℕ) → TellsVerdict bytes one → TellsVerdict bytes other → one ≡ other
 same_text once bytes one other left right =
     left.line ∙ ap (λ (verdict : Verdict). line_of_verdict verdict) (once bytes left.verdict right.verdict left.judged right.judged) ∙ sym right.line
-
-pub same_refusal : HaveOneFault → (bytes one other : List ℕ) → IsFaultText log_rules bytes one → IsFaultText log_rules bytes other → one ≡ other
-same_refusal one_fault bytes one other left right =
-    let faults = one_fault bytes left.number right.number left.reason right.reason left.first right.first in
-    left.line ∙ ap (λ number. fault_line number (reason_word left.reason)) faults.0 ∙ ap (λ reason. fault_line right.number (reason_word reason)) faults.1 ∙ sym right.line
 
 pub text_not_refused : AreNotFaulty → (bytes text : List ℕ) → IsSomeLog bytes → IsFaultText log_rules bytes text → ⊥
 text_not_refused not_faulty bytes text allowed refused =

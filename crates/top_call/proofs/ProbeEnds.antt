@@ -1,11 +1,9 @@
 -- The texts of `probe`, by the laws of probes: what holds of them and of fault lines, and how playing one ends.
-use Rattle.std.proofs.Common.{◌≡◌, ℕ, List, Option, Result, Ok, Err, sym, ◌∙◌, ap, subst, inl, inr}
+use Rattle.std.proofs.Common.{◌≡◌, ℕ, List, Option, Result, Ok, Err, sym, subst, inl, inr}
 use Rattle.scenario_lines.specs.declared.tag.TagSpec.{TagSpec}
 use Rattle.report_lines.specs.declared.mode.PlayFault.{PlayFault}
 use Rattle.report_lines.specs.declared.mode.PlayFault.TheVariants as plays
 use Rattle.tag_machine.specs.TagValue.{TagValue}
-use Rattle.text_fields.specs.FaultLine.{fault_line}
-use Rattle.checked_lines.specs.FaultWords.{reason_word}
 use Rattle.checked_lines.specs.declared.fault.FaultReason.{FaultReason}
 use Rattle.probe_lines.specs.Said.{Stimulus}
 use Rattle.probe_lines.specs.Answers.{TellsEffects, probed_tag}
@@ -28,13 +26,9 @@ AreToldApart = (bytes : List ℕ) (tag other_tag : TagSpec) (said other_said : L
 abbrev pub HasOneText : Type 0
 HasOneText = (tag : TagValue) (said : List Stimulus) (one other : List ℕ) → TellsEffects tag said one → TellsEffects tag said other → one ≡ other
 
--- and which has no fault,
+-- and which has no fault
 abbrev pub AreNotFaulty : Type 0
 AreNotFaulty = (bytes : List ℕ) (tag : TagSpec) (said : List Stimulus) (number : ℕ) (fault : FaultReason) → IsProbe bytes tag said → IsFirstProbeFault bytes number fault → ⊥
-
--- and bytes have one first fault
-abbrev pub HaveOneFault : Type 0
-HaveOneFault = (bytes : List ℕ) (one other : ℕ) (fault reason : FaultReason) → IsFirstProbeFault bytes one fault → IsFirstProbeFault bytes other reason → (one ≡ other) × (fault ≡ reason)
 
 pub same_text : AreToldApart → HasOneText → (bytes one other : List ℕ) → TellsProbe bytes one → TellsProbe bytes other → one ≡ other
 same_text told once bytes one other left right =
@@ -42,11 +36,6 @@ same_text told once bytes one other left right =
     once (probed_tag right.tag) right.said one other
     (subst (λ (said : List Stimulus). TellsEffects (probed_tag right.tag) said one) same.1 (subst (λ (tag : TagSpec). TellsEffects (probed_tag tag) left.said one) same.0 left.tells))
     right.tells
-
-pub same_refusal : HaveOneFault → (bytes one other : List ℕ) → RefusesProbe bytes one → RefusesProbe bytes other → one ≡ other
-same_refusal one_fault bytes one other left right =
-    let faults = one_fault bytes left.number right.number left.reason right.reason left.first right.first in
-    left.line ∙ ap (λ number. fault_line number (reason_word left.reason)) faults.0 ∙ ap (λ reason. fault_line right.number (reason_word reason)) faults.1 ∙ sym right.line
 
 pub text_not_refused : AreNotFaulty → (bytes text : List ℕ) → IsProbeText bytes → RefusesProbe bytes text → ⊥
 text_not_refused not_faulty bytes text allowed refused =

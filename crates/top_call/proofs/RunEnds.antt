@@ -69,16 +69,11 @@ front_of_report mode bytes scenario written written' legal spelled part = record
   added = part.3;
 }
 
--- what a run that was cut off with this fault left in the sink
-pub record LeavesPart (mode : Mode) (scenario : Scenario) (sink : SinkChange) (fault : PlayFault) : Type 0 where
-  pub rose : IsErrOf {T = Unit {0}} (Err fault) plays.Write → FaultsRose sink.writes sink.writes'
-  pub steady : IsErrOf {T = Unit {0}} (Err fault) plays.OutOfMemory → sink.writes' ≡ sink.writes
-  pub part : AddsPart mode scenario sink.written sink.written'
-
 -- the writing of a report ended where its run was cut off
 pub play_failed : (mode : Mode) (bytes : List ℕ) (text : IsScenarioText bytes) (sink : SinkChange) (fault : PlayFault) (end : Result Wrote WriteEnd) → end ≡ Err (end_of_play fault)
-    → LeavesPart mode text.0 sink fault → EndsSo (run_job mode) bytes sink end
-play_failed mode bytes text sink plays.Write end is left =
-    subst (EndsSo (run_job mode) bytes sink) (sym is) (left.rose refl, front_of_report mode bytes text.0 sink.written sink.written' text.1 text.2 left.part)
-play_failed mode bytes text sink plays.OutOfMemory end is left =
-    subst (EndsSo (run_job mode) bytes sink) (sym is) (left.steady refl, inr (front_of_report mode bytes text.0 sink.written sink.written' text.1 text.2 left.part))
+    → (IsErrOf {T = Unit {0}} (Err fault) plays.Write → FaultsRose sink.writes sink.writes') → (IsErrOf {T = Unit {0}} (Err fault) plays.OutOfMemory → sink.writes' ≡ sink.writes)
+    → AddsPart mode text.0 sink.written sink.written' → EndsSo (run_job mode) bytes sink end
+play_failed mode bytes text sink plays.Write end is rose steady part =
+    subst (EndsSo (run_job mode) bytes sink) (sym is) (rose refl, front_of_report mode bytes text.0 sink.written sink.written' text.1 text.2 part)
+play_failed mode bytes text sink plays.OutOfMemory end is rose steady part =
+    subst (EndsSo (run_job mode) bytes sink) (sym is) (steady refl, inr (front_of_report mode bytes text.0 sink.written sink.written' text.1 text.2 part))

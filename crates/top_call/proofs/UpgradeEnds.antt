@@ -18,16 +18,6 @@ AreLegal = (scenario : Scenario) → IsScenario scenario → IsScenario (upgrade
 abbrev pub ReportTheSame : Type 0
 ReportTheSame = (mode : Mode) (scenario : Scenario) → report_text_of mode (upgraded scenario) ≡ report_text_of mode scenario
 
--- what is written is the text of version 2
-pub upgraded_text : (bytes : List ℕ) (scenario result : Scenario) (text : List ℕ) → IsScenario scenario × (bytes ≡ scenario_text scenario) → result ≡ upgraded scenario
-    → text ≡ scenario_text result → Upgrades bytes text
-upgraded_text bytes scenario result text read same printed = record {
-  scenario = scenario;
-  legal = read.0;
-  spelled = read.1;
-  upgrade = printed ∙ ap scenario_text same;
-}
-
 -- an input has one text of version 2
 pub same_upgrade : AreToldApart → (bytes one other : List ℕ) → Upgrades bytes one → Upgrades bytes other → one ≡ other
 same_upgrade told_apart bytes one other left right =

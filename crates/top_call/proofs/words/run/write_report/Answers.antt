@@ -10,7 +10,7 @@ returns-in_err-play-in-Ok g c =
     let cut = c.in_err-play-in-Ok.ensures in
     let end = err_from_is_err_and c.from_residual-in_err-play-in-Ok.result c.from_residual-in_err-play-in-Ok.ensures.1 in
     play_failed c.args.mode _ (c.in-Ok.scenario, read.0, read.1) (record { written = _; written' = _; writes = _; writes' = _ }) c.in_err-play-in-Ok.field-0.0 _ (end.1 ∙ ap Err end.2)
-    (record { rose = cut.write; steady = cut.memory; part = cut.part })
+    cut.write cut.memory cut.part
 
 pub returns-in-Err : goal.returns-in-Err
 returns-in-Err g c = c.write_refusal.ensures (Run c.args.mode) c.args.input.now _ c.in-Err.ensures.refused (λ line refuses. refuses)
