@@ -10,7 +10,7 @@ pub trait Named: Copy + 'static {
     /// All the values, in the order in which they are looked through.
     ghost values: { List Self };
 
-    /// All values of this kind that have a name in the texts.
+    /// All values of this kind that have a name in the texts, in the order in which they are looked through.
     fn all() -> &'static [Self]
         ensures { result.now ≡ values };
 
