@@ -1,4 +1,5 @@
 pub mod CheckNumbers
+pub mod FieldLengths
 pub mod OneField
 pub mod SpellingLaws
 pub mod SpellingLengths

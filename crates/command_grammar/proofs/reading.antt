@@ -1,7 +1,7 @@
 -- What reading does, field by field and bit by bit, and that it is what the spellings of commands say.
 pub mod ChoiceTables
-pub mod CommandFields
-pub mod CommandsReadAgain
+pub mod EachCommand
+pub mod EachField
 pub mod EbvFields
 pub mod EbvFronts
 pub mod ExactFields

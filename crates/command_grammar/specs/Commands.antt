@@ -1,4 +1,5 @@
--- 6.3.2.11 Interrogator commands and tag replies: which bits spell which command. Bits go most significant first.
+-- 6.3.2.11 Interrogator commands and tag replies: which bits spell which command. Bits go most significant first. Whatever is said of
+-- one command alone stands here: its code, its fields, the command that has their values, its spelling and the ranges of its numbers.
 use Rattle.std.specs.Prelude.{◌≡◌, ℕ, ◌+◌, ◌^◌, ◌<◌, ◌≤◌, ◌==◌, Bool, true, false, List, [], ◌∷◌, ◌++◌, length, map, take, codes, Option, Some, None, Result, Ok, Err, ◌⊎◌}
 use Rattle.std.specs.List.{flat_map, AllByRecursion}
 use Rattle.bit_strings.specs.NumbersInBits.{field_of}
@@ -10,6 +11,9 @@ use Rattle.bit_strings.specs.declared.code.Code.TheVariants.{Fm0, M2, M4, M8}
 use Rattle.gen2_crc.specs.Crc.{crc5_of, crc16_of}
 use Rattle.command_grammar.specs.declared.kinds.CommandKind.{CommandKind}
 use Rattle.command_grammar.specs.declared.kinds.CommandKind.TheVariants as kinds
+use Rattle.command_grammar.specs.declared.fields.Field.{Field}
+use Rattle.command_grammar.specs.declared.fields.Field.TheVariants as fields
+use Rattle.command_grammar.specs.declared.reader.fields.Fields.{Fields}
 use Rattle.command_fields.specs.declared.choices.Sel.{Sel}
 use Rattle.command_fields.specs.declared.choices.Sel.TheVariants as sels
 use Rattle.command_fields.specs.declared.choices.Side.{Side}
@@ -106,12 +110,19 @@ bits_of_bank banks.Epc = false ∷ true ∷ []
 bits_of_bank banks.Tid = true ∷ false ∷ []
 bits_of_bank banks.User = true ∷ true ∷ []
 
--- Annex F: the check number stands last and is computed over the bits before it
+-- Annex F: the check number stands last and is computed over the bits before it: by the CRC-5
 abbrev pub with_crc5 : List Part → List Part
 with_crc5 parts = parts ++ named_field reasons.Crc5 (crc5_of (bits_of parts))
 
+-- ... by the CRC-16
 abbrev pub with_crc16 : List Part → List Part
 with_crc16 parts = parts ++ named_field reasons.Crc16 (crc16_of (bits_of parts))
+
+-- all kinds of commands, in the order of their codes
+abbrev pub all_kinds : List CommandKind
+all_kinds =
+    kinds.QueryRep ∷ kinds.Ack ∷ kinds.Query ∷ kinds.QueryAdjust ∷ kinds.Select ∷ kinds.Nak ∷ kinds.ReqRn ∷ kinds.Read ∷ kinds.Write
+    ∷ kinds.Kill ∷ kinds.Lock ∷ kinds.Access ∷ kinds.BlockWrite ∷ kinds.BlockErase ∷ []
 
 -- 6.3.2.11 Table 6.18: the code of each command, written as its digits
 abbrev pub code_of : CommandKind → List Bool
@@ -129,6 +140,40 @@ code_of kinds.Lock = bits_of_text (codes "11000101")
 code_of kinds.Access = bits_of_text (codes "11000110")
 code_of kinds.BlockWrite = bits_of_text (codes "11000111")
 code_of kinds.BlockErase = bits_of_text (codes "11001000")
+
+-- the fields of each kind of command behind its code, in their order
+abbrev pub command_fields_of : CommandKind → List Field
+command_fields_of kinds.QueryRep = fields.Session ∷ []
+command_fields_of kinds.Ack = fields.Rn ∷ []
+command_fields_of kinds.Query = fields.Dr ∷ fields.M ∷ fields.TRext ∷ fields.Sel ∷ fields.Session ∷ fields.QueryTarget ∷ fields.Q ∷ fields.Crc5 ∷ []
+command_fields_of kinds.QueryAdjust = fields.Session ∷ fields.UpDn ∷ []
+command_fields_of kinds.Select = fields.SelectTarget ∷ fields.Action ∷ fields.MaskBank ∷ fields.Pointer ∷ fields.Mask ∷ fields.Truncate ∷ fields.Crc16 ∷ []
+command_fields_of kinds.Nak = []
+command_fields_of kinds.ReqRn = fields.Rn ∷ fields.Crc16 ∷ []
+command_fields_of kinds.Read = fields.Bank ∷ fields.Pointer ∷ fields.Count ∷ fields.Rn ∷ fields.Crc16 ∷ []
+command_fields_of kinds.Write = fields.Bank ∷ fields.Pointer ∷ fields.Covered ∷ fields.Rn ∷ fields.Crc16 ∷ []
+command_fields_of kinds.Kill = fields.Covered ∷ fields.KillBits ∷ fields.Rn ∷ fields.Crc16 ∷ []
+command_fields_of kinds.Lock = fields.Payload ∷ fields.Rn ∷ fields.Crc16 ∷ []
+command_fields_of kinds.Access = fields.Covered ∷ fields.Rn ∷ fields.Crc16 ∷ []
+command_fields_of kinds.BlockWrite = fields.Bank ∷ fields.Pointer ∷ fields.Words ∷ fields.Rn ∷ fields.Crc16 ∷ []
+command_fields_of kinds.BlockErase = fields.Bank ∷ fields.Pointer ∷ fields.WordCount ∷ fields.Rn ∷ fields.Crc16 ∷ []
+
+-- the command of this kind whose fields have these values
+abbrev pub command_of : CommandKind → Fields → Command
+command_of kinds.QueryRep v = QueryRep v.session
+command_of kinds.Ack v = Ack v.rn
+command_of kinds.Query v = Query v.dr v.m v.trext v.sel v.session v.query_target v.q
+command_of kinds.QueryAdjust v = QueryAdjust v.session v.updn
+command_of kinds.Select v = Select v.select_target v.action v.mask_bank v.pointer v.mask
+command_of kinds.Nak v = Nak
+command_of kinds.ReqRn v = ReqRn v.rn
+command_of kinds.Read v = Read v.bank v.pointer v.count v.rn
+command_of kinds.Write v = Write v.bank v.pointer v.covered v.rn
+command_of kinds.Kill v = Kill v.covered v.rn
+command_of kinds.Lock v = Lock v.payload v.rn
+command_of kinds.Access v = Access v.covered v.rn
+command_of kinds.BlockWrite v = BlockWrite v.bank v.pointer v.words v.rn
+command_of kinds.BlockErase v = BlockErase v.bank v.pointer v.word_count v.rn
 
 -- the code of a command as the first field of the command
 abbrev pub code_field : CommandKind → List Part

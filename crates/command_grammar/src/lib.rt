@@ -4,6 +4,7 @@
 
 mod choices;
 mod commands;
+mod fields;
 mod kinds;
 mod laws;
 mod reader;

@@ -1,7 +1,6 @@
 //! Reading a command, bit by bit: its code, then its fields in their order, one stage after another.
 
 mod check;
-mod codes;
 mod decoding;
 mod field_steps;
 mod fields;

@@ -3,15 +3,15 @@ ghost use Rattle.std.specs.Prelude.{◌≡◌, ◌≤◌, length};
 ghost use Rattle.command_grammar.specs.Commands.{IsLegalCommand, spelling_of, command_room};
 ghost use Rattle.command_grammar.specs.Writing.{Writes};
 
-use crate::choices::{
-    bank_bits, m_bits, mask_bank_bits, query_target_bits, sel_bits, select_target_bits, updn_bits,
-};
+use crate::choices::{mask_bank_bits, select_target_bits, updn_bits};
 use crate::commands::Command;
 use crate::kinds::CommandKind;
 use crate::writing::{
-    begin, put, put_bits, put_crc5, put_crc16, put_handle, put_pointer, put_word, put_words,
+    begin, begin_at, put, put_bits, put_crc5, put_crc16, put_handle, put_participants, put_pointer,
+    put_reply_form, put_word, put_words,
 };
-use bit_strings::Bits;
+use bit_strings::{Action, Bits, Pointer};
+use command_fields::{FlagName, Mask, MaskBank};
 
 /// Writes the one spelling of a command, in place of what stood in `out` (6.3.2.11). No spelling has
 /// more than 4,162 bits.
@@ -25,7 +25,7 @@ pub fn encode_command(command: &Command, out: &mut Bits)
 }
 
 /// Writes the code of a command and its fields in their order.
-// It has an arm a command and doesn't go by `CommandKind::fields`: of the twenty fields with a value fifteen stand in one command
+// It has an arm a command and doesn't go by the fields of `CommandKind::layout`: of the twenty fields with a value fifteen stand in one command
 // alone, so a table by field and command is longer.
 fn write_command(command: &Command, out: &mut Bits)
     requires { command_room ≤ out.old.capacity }
@@ -50,12 +50,8 @@ fn write_command(command: &Command, out: &mut Bits)
             q,
         } => {
             begin(out, CommandKind::Query);
-            put_bits(out, &[*dr]);
-            put_bits(out, &m_bits(*code));
-            put_bits(out, &[*trext]);
-            put_bits(out, &sel_bits(*sel));
-            put(out, u32::from(session.get()), 2);
-            put_bits(out, &query_target_bits(*target));
+            put_reply_form(out, *dr, *code, *trext);
+            put_participants(out, *sel, *session, *target);
             put(out, u32::from(q.get()), 4);
             put_crc5(out);
         }
@@ -70,16 +66,7 @@ fn write_command(command: &Command, out: &mut Bits)
             bank,
             pointer,
             mask,
-        } => {
-            begin(out, CommandKind::Select);
-            put_bits(out, &select_target_bits(*target));
-            put(out, u32::from(action.get()), 3);
-            put_pointer(out, mask_bank_bits(*bank), *pointer);
-            put(out, mask.len(), 8);
-            put_bits(out, mask.as_slice());
-            put_bits(out, &[false]);
-            put_crc16(out);
-        }
+        } => write_select(*target, *action, *bank, *pointer, mask, out),
         Command::Nak => begin(out, CommandKind::Nak),
         Command::ReqRn { rn } => {
             begin(out, CommandKind::ReqRn);
@@ -91,8 +78,7 @@ fn write_command(command: &Command, out: &mut Bits)
             count,
             rn,
         } => {
-            begin(out, CommandKind::Read);
-            put_pointer(out, bank_bits(*bank), *pointer);
+            begin_at(out, CommandKind::Read, *bank, *pointer);
             put(out, u32::from(*count), 8);
             put_handle(out, *rn);
         }
@@ -102,8 +88,7 @@ fn write_command(command: &Command, out: &mut Bits)
             covered,
             rn,
         } => {
-            begin(out, CommandKind::Write);
-            put_pointer(out, bank_bits(*bank), *pointer);
+            begin_at(out, CommandKind::Write, *bank, *pointer);
             put_word(out, *covered);
             put_handle(out, *rn);
         }
@@ -129,8 +114,7 @@ fn write_command(command: &Command, out: &mut Bits)
             words,
             rn,
         } => {
-            begin(out, CommandKind::BlockWrite);
-            put_pointer(out, bank_bits(*bank), *pointer);
+            begin_at(out, CommandKind::BlockWrite, *bank, *pointer);
             put(out, words.len(), 8);
             put_words(out, words.as_slice());
             put_handle(out, *rn);
@@ -141,10 +125,31 @@ fn write_command(command: &Command, out: &mut Bits)
             count,
             rn,
         } => {
-            begin(out, CommandKind::BlockErase);
-            put_pointer(out, bank_bits(*bank), *pointer);
+            begin_at(out, CommandKind::BlockErase, *bank, *pointer);
             put(out, u32::from(count.get()), 8);
             put_handle(out, *rn);
         }
     }
+}
+
+/// Writes a Select (6.3.2.11.1.1), in place of what stood in `out`.
+fn write_select(
+    target: FlagName,
+    action: Action,
+    bank: MaskBank,
+    pointer: Pointer,
+    mask: &Mask,
+    out: &mut Bits,
+)
+    requires { command_room ≤ out.old.capacity }
+    ensures { Writes (Command.Select target action bank pointer mask.now) out.old out.new }
+{
+    begin(out, CommandKind::Select);
+    put_bits(out, &select_target_bits(target));
+    put(out, u32::from(action.get()), 3);
+    put_pointer(out, mask_bank_bits(bank), pointer);
+    put(out, mask.len(), 8);
+    put_bits(out, mask.as_slice());
+    put_bits(out, &[false]);
+    put_crc16(out);
 }

@@ -1,14 +1,16 @@
 //! Values to bits, most significant bit first, behind those that stand there.
-ghost use Rattle.std.specs.Prelude.{◌≡◌, ◌+◌, ◌*◌, ◌≤◌, ◌^◌, ◌<◌, ◌++◌, length};
+ghost use Rattle.std.specs.Prelude.{◌≡◌, ◌+◌, ◌*◌, ◌≤◌, ◌^◌, ◌<◌, ◌++◌, ◌∷◌, [], length};
 ghost use Rattle.std.specs.List.{AllByRecursion};
 ghost use Rattle.bit_strings.specs.NumbersInBits.{field_of};
 ghost use Rattle.bit_strings.specs.Ebv.{ebv_of};
 ghost use Rattle.bit_strings.specs.Words.{bits_of_words};
 ghost use Rattle.gen2_crc.specs.Crc.{crc5_of, crc16_of};
-ghost use Rattle.command_grammar.specs.Commands.{IsWord, code_of};
+ghost use Rattle.command_grammar.specs.Commands.{IsWord, bits_of_bank, bits_of_m, bits_of_query_target, bits_of_sel, code_of};
 
+use crate::choices::{bank_bits, m_bits, query_target_bits, sel_bits};
 use crate::kinds::CommandKind;
-use bit_strings::{Bits, Pointer};
+use bit_strings::{Bits, Code, Pointer, Session};
+use command_fields::{Bank, Sel, Side};
 use gen2_crc::{crc5_of_bits, crc16_of_bits};
 
 /// Adds the `width` bits of `value`.
@@ -30,7 +32,20 @@ pub(crate) fn begin(out: &mut Bits, kind: CommandKind)
     ensures { out.new ≡ record out.old { items = code_of kind } }
 {
     out.clear();
-    put_bits(out, kind.code());
+    put_bits(out, kind.layout().code);
+}
+
+/// Writes the code of a command of this kind and where it goes in the tag's memory, in place of what stood in `out`: a bank,
+/// and a pointer into it.
+pub(crate) fn begin_at(out: &mut Bits, kind: CommandKind, bank: Bank, pointer: Pointer)
+    requires { length (code_of kind) + 34 ≤ out.old.capacity }
+    ensures items { out.new.items ≡ (code_of kind ++ bits_of_bank bank) ++ ebv_of pointer }
+    ensures count { length out.new.items ≤ length (code_of kind) + 34 }
+    ensures capacity { out.new.capacity ≡ out.old.capacity }
+    ensures range { pointer < 2 ^ 28 }
+{
+    begin(out, kind);
+    put_pointer(out, bank_bits(bank), pointer);
 }
 
 /// Adds these bits to the bits of a command, which have room for them.
@@ -105,4 +120,29 @@ pub(crate) fn put_handle(out: &mut Bits, rn: u16)
 {
     put_word(out, rn);
     put_crc16(out);
+}
+
+/// Adds how the tags are to reply to a Query: DR, M and TRext (6.3.2.11.2.1).
+pub(crate) fn put_reply_form(out: &mut Bits, dr: bool, code: Code, trext: bool)
+    requires { length out.old.items + 4 ≤ out.old.capacity }
+    ensures items { out.new.items ≡ out.old.items ++ (dr ∷ (bits_of_m code ++ trext ∷ [])) }
+    ensures count { length out.new.items ≡ length out.old.items + 4 }
+    ensures capacity { out.new.capacity ≡ out.old.capacity }
+{
+    let [first, second] = m_bits(code);
+    put_bits(out, &[dr, first, second, trext]);
+}
+
+/// Adds which tags take part in the round that a Query begins: Sel, Session and Target (6.3.2.11.2.1).
+pub(crate) fn put_participants(out: &mut Bits, sel: Sel, session: Session, target: Side)
+    requires { length out.old.items + 5 ≤ out.old.capacity }
+    ensures items { out.new.items ≡ out.old.items
+        ++ (bits_of_sel sel ++ (field_of session 2 ++ bits_of_query_target target)) }
+    ensures count { length out.new.items ≡ length out.old.items + 5 }
+    ensures capacity { out.new.capacity ≡ out.old.capacity }
+    ensures range { session ≤ 3 }
+{
+    put_bits(out, &sel_bits(sel));
+    put(out, u32::from(session.get()), 2);
+    put_bits(out, &query_target_bits(target));
 }

@@ -1,12 +1,13 @@
 -- A field of a few bits is read as its table says.
 use Rattle.std.proofs.Common.{◌≡◌, ℕ, ◌+◌, Bool, true, false, List, [], ◌∷◌, ◌++◌, length, Ok, Err, refl, sym, ap, ◌∙◌, append_assoc, append-nil}
-use Rattle.std.specs.Prelude.{Option, Some, ◌||◌, ◌&&◌}
+use Rattle.std.specs.Prelude.{Option, Some, None, ◌||◌, ◌&&◌, if◌then◌else◌}
 use Rattle.command_grammar.specs.declared.refusal.Reason.{Reason}
+use Rattle.gen2_crc.specs.Crc.{differ}
 use Rattle.command_grammar.specs.reading.Readers.{Short, Bad, Choice, pick, none, fork, choice_at}
-use Rattle.command_grammar.proofs.reading.Readers.{Reads, Stuck}
+use Rattle.command_grammar.proofs.reading.Readers.{Reads, SpelledField, Stuck}
 
 -- some value is below
-abbrev is_live : {A : Type 0} → Choice A → Bool
+abbrev pub is_live : {A : Type 0} → Choice A → Bool
 is_live (pick a) = true
 is_live none = false
 is_live (fork zeros ones) = is_live zeros || is_live ones
@@ -29,6 +30,28 @@ IsTable s before (pick a) = s a ≡ before
 IsTable s before none = Unit {0}
 IsTable s before (fork zeros ones) = IsTable s (before ++ false ∷ []) zeros × IsTable s (before ++ true ∷ []) ones
 
+-- the same bits
+abbrev are_same : List Bool → List Bool → Bool
+are_same [] [] = true
+are_same [] (y ∷ ys) = false
+are_same (x ∷ xs) [] = false
+are_same (x ∷ xs) (y ∷ ys) = if differ x y then false else are_same xs ys
+
+same_bits : (xs ys : List Bool) → are_same xs ys ≡ true → xs ≡ ys
+same_bits [] [] e = refl
+same_bits [] (y ∷ ys) e = absurd cc
+same_bits (x ∷ xs) [] e = absurd cc
+same_bits (true ∷ xs) (true ∷ ys) e = ap (λ (l : List Bool). true ∷ l) (same_bits xs ys e)
+same_bits (true ∷ xs) (false ∷ ys) e = absurd cc
+same_bits (false ∷ xs) (true ∷ ys) e = absurd cc
+same_bits (false ∷ xs) (false ∷ ys) e = ap (λ (l : List Bool). false ∷ l) (same_bits xs ys e)
+
+-- ... as a test
+abbrev pub is_table : {A : Type 0} → (A → List Bool) → List Bool → Choice A → Bool
+is_table s before (pick a) = are_same (s a) before
+is_table s before none = true
+is_table s before (fork zeros ones) = is_table s (before ++ false ∷ []) zeros && is_table s (before ++ true ∷ []) ones
+
 and_left : (a b : Bool) → (a && b) ≡ true → a ≡ true
 and_left true b e = refl
 and_left false b e = absurd cc
@@ -36,6 +59,17 @@ and_left false b e = absurd cc
 and_right : (a b : Bool) → (a && b) ≡ true → b ≡ true
 and_right true b e = e
 and_right false b e = absurd cc
+
+and_three : (a b c : Bool) → (a && (b && c)) ≡ true → (a ≡ true) × (b ≡ true) × (c ≡ true)
+and_three a b c e = (and_left a (b && c) e, and_left b c (and_right a (b && c) e), and_right b c (and_right a (b && c) e))
+
+table_is : {A : Type 0} (s : A → List Bool) (before : List Bool) (t : Choice A) → is_table s before t ≡ true → IsTable s before t
+table_is s before (pick a) e = same_bits (s a) before e
+table_is s before none e = tt
+table_is s before (fork zeros ones) e =
+    let left = is_table s (before ++ false ∷ []) zeros in
+    let right = is_table s (before ++ true ∷ []) ones in
+    (table_is s (before ++ false ∷ []) zeros (and_left left right e), table_is s (before ++ true ∷ []) ones (and_right left right e))
 
 module _ {A : Type 0} (s : A → List Bool) (reason : Reason) where
   one_more : (before front : List Bool) (bit : Bool) (value : A) → s value ≡ (before ++ bit ∷ []) ++ front → s value ≡ before ++ bit ∷ front
@@ -139,23 +173,42 @@ module _ {A : Type 0} (s : A → List Bool) (reason : Reason) where
   again : (t : Choice A) → ((value : A) (rest : List Bool) → choice_at t reason (s value ++ rest) ≡ Ok (value, rest)) → (value : A) (bits rest : List Bool) → bits ≡ s value → choice_at t reason (bits ++ rest) ≡ Ok (value, rest)
   again t whole value bits rest e = rw e (whole value rest)
 
-  -- a field in which some bits may not stand
-  pub reads_choice : (t : Choice A) → IsTable s [] t → is_live t ≡ true → is_proper t ≡ true → ((value : A) (rest : List Bool) → choice_at t reason (s value ++ rest) ≡ Ok (value, rest)) → Reads (λ value bits. bits ≡ s value) (Some reason) (choice_at t reason)
-  reads_choice t table live proper whole = record {
+  -- the reader by the table reads each value from its bits
+  abbrev pub ReadsEach : Choice A → Type 0
+  ReadsEach t = (value : A) (rest : List Bool) → choice_at t reason (s value ++ rest) ≡ Ok (value, rest)
+
+  -- a refusal has the name, and the reader is stuck there
+  abbrev IsNamed : Choice A → Option Reason → Type 0
+  IsNamed t name = (bits : List Bool) (left : ℕ) (other : Reason) → choice_at t reason bits ≡ Err (Bad left other) → (name ≡ Some other) × Stuck (λ value l. l ≡ s value) (choice_at t reason) bits left other
+
+  reads_table : (t : Choice A) (name : Option Reason) → IsTable s [] t → is_proper t ≡ true → ReadsEach t → IsNamed t name → Reads (λ value bits. bits ≡ s value) name (choice_at t reason)
+  reads_table t name table proper whole bad = record {
     again = again t whole;
     found = λ bits value rest e. let f = choice_found t [] bits value rest table e in (f.0, sym f.1, f.2);
     short = λ bits e. let f = choice_short t [] bits table proper e in (f.0, f.1, sym f.2);
-    bad = λ bits left other e.
-        let f = choice_bad t [] bits left other table live proper e in
-        let w = f.1 in
-        (ap (λ (r : Reason). Some r) f.0, record { front = w.front; bit = w.bit; back = w.back; split = w.split; left_is = w.left_is; value = w.value; next = w.next; more = w.more; spelled = sym w.spelled; stays = w.stays });
+    bad = bad;
   }
 
+  -- some bits may not stand in it
+  pub reads_choice : (t : Choice A) → (is_table s [] t && (is_live t && is_proper t)) ≡ true → ReadsEach t → Reads (λ value bits. bits ≡ s value) (Some reason) (choice_at t reason)
+  reads_choice t tests whole =
+      let is = and_three (is_table s [] t) (is_live t) (is_proper t) tests in
+      let table = table_is s [] t is.0 in
+      reads_table t (Some reason) table is.2 whole (λ bits left other e.
+      let f = choice_bad t [] bits left other table is.1 is.2 e in
+      let w = f.1 in
+      (ap (λ (r : Reason). Some r) f.0, record { front = w.front; bit = w.bit; back = w.back; split = w.split; left_is = w.left_is; value = w.value; next = w.next; more = w.more; spelled = sym w.spelled; stays = w.stays }))
+
+  -- all may
+  pub reads_full : (t : Choice A) → (is_table s [] t && (is_full t && is_proper t)) ≡ true → ReadsEach t → Reads (λ value bits. bits ≡ s value) None (choice_at t reason)
+  reads_full t tests whole =
+      let is = and_three (is_table s [] t) (is_full t) (is_proper t) tests in
+      reads_table t None (table_is s [] t is.0) is.2 whole (λ bits left other e. absurd (full_good t bits left other is.1 e))
+
+  -- a field in which some bits may not stand
+  abbrev pub choice_field : (t : Choice A) → (is_table s [] t && (is_live t && is_proper t)) ≡ true → ReadsEach t → SpelledField A
+  choice_field t tests whole = record { spell = s; name = Some reason; read = choice_at t reason; reads = reads_choice t tests whole }
+
   -- a field in which all may
-  pub reads_full : (t : Choice A) (name : Option Reason) → IsTable s [] t → is_full t ≡ true → is_proper t ≡ true → ((value : A) (rest : List Bool) → choice_at t reason (s value ++ rest) ≡ Ok (value, rest)) → Reads (λ value bits. bits ≡ s value) name (choice_at t reason)
-  reads_full t name table full proper whole = record {
-    again = again t whole;
-    found = λ bits value rest e. let f = choice_found t [] bits value rest table e in (f.0, sym f.1, f.2);
-    short = λ bits e. let f = choice_short t [] bits table proper e in (f.0, f.1, sym f.2);
-    bad = λ bits left other e. absurd (full_good t bits left other full e);
-  }
+  abbrev pub full_field : (t : Choice A) → (is_table s [] t && (is_full t && is_proper t)) ≡ true → ReadsEach t → SpelledField A
+  full_field t tests whole = record { spell = s; name = None; read = choice_at t reason; reads = reads_full t tests whole }

@@ -7,9 +7,9 @@ use Rattle.bit_strings.specs.Family.{IsShortAt}
 use Rattle.command_grammar.specs.declared.commands.Command.{Command}
 use Rattle.command_grammar.specs.declared.kinds.CommandKind.{CommandKind}
 use Rattle.command_grammar.specs.declared.kinds.CommandKind.TheVariants as kinds
-use Rattle.command_grammar.specs.declared.reader.codes.CodeFront.{CodeFront}
-use Rattle.command_grammar.specs.declared.reader.codes.CodeFront.TheVariants as fronts
-use Rattle.command_grammar.specs.declared.reader.fields.Field.{Field}
+use Rattle.command_grammar.specs.declared.kinds.CodeFront.{CodeFront}
+use Rattle.command_grammar.specs.declared.kinds.CodeFront.TheVariants as fronts
+use Rattle.command_grammar.specs.declared.fields.Field.{Field}
 use Rattle.command_grammar.specs.declared.reader.fields.Fields.{Fields}
 use Rattle.command_grammar.specs.declared.reader.stage.BitField.TheVariants as bit_fields
 use Rattle.command_grammar.specs.declared.reader.stage.PairField.TheVariants as pair_fields
@@ -21,10 +21,10 @@ use Rattle.command_grammar.specs.declared.reader.state.Position.TheVariants as p
 use Rattle.command_grammar.specs.declared.reader.state.State.{State}
 use Rattle.command_grammar.specs.declared.refusal.Reason.{Reason}
 use Rattle.command_grammar.specs.declared.refusal.Reason.TheVariants as reasons
-use Rattle.command_grammar.specs.Commands.{Spellings, SpellsCommand, IsCommandRefusedAt}
+use Rattle.command_grammar.specs.Commands.{command_fields_of, command_of, Spellings, SpellsCommand, IsCommandRefusedAt}
 use Rattle.command_grammar.specs.reading.Readers.{Stop, Short, Bad, Reading, ◌>>=◌, Choice, child, kind_values, choice_at, next_at}
 use Rattle.command_grammar.specs.reading.Codes.{behind_code}
-use Rattle.command_grammar.specs.reading.CommandFields.{command_fields_of, command_of, FieldReader, alone, counted, reader_of, field_then, field_from, command_from, fields_at, command_at, all_of, only_whole, run}
+use Rattle.command_grammar.specs.reading.CommandFields.{FieldReader, alone, counted, reader_of, field_then, field_from, command_from, fields_at, command_at, all_of, only_whole, run}
 use Rattle.command_grammar.specs.reading.FieldStages.{number_then, stage_from}
 use Rattle.command_grammar.specs.reading.Framing.{resume, StateStandsFor}
 use Rattle.command_grammar.proofs.reading.FieldRests.{is_fork, fork-at, number-short, mask-short}
@@ -59,19 +59,7 @@ runs (field ∷ behind) kind v whole bits = field_whole (reader_of field) v whol
 -- a command has each of its fields read, so it doesn't matter what they were
 from_any : (kind : CommandKind) (v : Fields) (whole bits : List Bool) → fields_at kind whole bits ≡ command_from (command_fields_of kind) kind v whole bits
 from_any kinds.QueryRep v whole bits = refl
-from_any kinds.Ack v whole bits = refl
-from_any kinds.Query v whole bits = refl
-from_any kinds.QueryAdjust v whole bits = refl
-from_any kinds.Select v whole bits = refl
-from_any kinds.Nak v whole bits = refl
-from_any kinds.ReqRn v whole bits = refl
-from_any kinds.Read v whole bits = refl
-from_any kinds.Write v whole bits = refl
-from_any kinds.Kill v whole bits = refl
-from_any kinds.Lock v whole bits = refl
-from_any kinds.Access v whole bits = refl
-from_any kinds.BlockWrite v whole bits = refl
-from_any kinds.BlockErase v whole bits = refl
+from_any kind v whole bits = refl
 
 fields_run : (kind : CommandKind) (v : Fields) (whole bits : List Bool) → (fields_at kind whole bits >>= whole_of) ≡ run (command_fields_of kind) kind v whole bits
 fields_run kind v whole bits = ap (λ (r : Reading Command). r >>= whole_of) (from_any kind v whole bits) ∙ runs (command_fields_of kind) kind v whole bits
@@ -80,24 +68,15 @@ fields_run kind v whole bits = ap (λ (r : Reading Command). r >>= whole_of) (fr
 
 pub code-forks : (front : CodeFront) → is_fork (behind_code front) ≡ true
 code-forks fronts.Nothing = refl
-code-forks (fronts.First true) = refl
-code-forks (fronts.First false) = refl
-code-forks fronts.Bits10 = refl
 code-forks (fronts.Third true) = refl
 code-forks (fronts.Third false) = refl
-code-forks fronts.Bits11 = refl
-code-forks fronts.Bits110 = refl
-code-forks fronts.Bits1100 = refl
-code-forks fronts.Bits11000 = refl
 code-forks (fronts.Sixth true) = refl
 code-forks (fronts.Sixth false) = refl
 code-forks (fronts.Seventh true true) = refl
 code-forks (fronts.Seventh true false) = refl
 code-forks (fronts.Seventh false true) = refl
 code-forks (fronts.Seventh false false) = refl
-code-forks fronts.Bits11001 = refl
-code-forks fronts.Bits110010 = refl
-code-forks fronts.Bits1100100 = refl
+code-forks front = refl
 
 pub code-more : (front more : CodeFront) (bit : Bool) (rest : List Bool) → child (behind_code front) bit ≡ behind_code more → next_at (behind_code front) reasons.Code (bit ∷ rest) ≡ next_at (behind_code more) reasons.Code rest
 code-more front more bit rest e = ap (λ (t : Choice CommandKind). choice_at t reasons.Code rest) e ∙ fork-at (behind_code more) reasons.Code rest (code-forks more)

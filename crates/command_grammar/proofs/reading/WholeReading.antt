@@ -13,8 +13,7 @@ use Rattle.command_grammar.specs.Commands.{parts_of, spelling_of, IsLegalCommand
 use Rattle.command_grammar.proofs.reading.Readers.{bind_ok, bind_err, bind_to, at_first, at_second}
 use Rattle.command_grammar.proofs.reading.FieldsInOrder.{longer_front}
 use Rattle.command_grammar.proofs.OneField.{one_name, stands_inside}
-use Rattle.command_grammar.proofs.reading.CommandFields.{reads_command}
-use Rattle.command_grammar.proofs.reading.CommandsReadAgain.{goes_command}
+use Rattle.command_grammar.proofs.reading.EachCommand.{reads_command, goes_command}
 
 -- a command is read again from its spelling, whatever follows
 pub command_again : (command : Command) (rest : List Bool) → IsLegalCommand command → command_at (spelling_of command ++ rest) ≡ Ok (command, rest)

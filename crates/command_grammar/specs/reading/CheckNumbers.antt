@@ -4,8 +4,10 @@ use Rattle.bit_strings.specs.NumbersInBits.{value_of}
 use Rattle.gen2_crc.specs.Crc.{crc5_of, RegisterStandsFor}
 use Rattle.command_grammar.specs.declared.reader.check.Check.{Check}
 use Rattle.command_grammar.specs.declared.reader.check.Check.TheVariants.{Short, Long, Over}
-use Rattle.command_grammar.specs.declared.reader.fields.Field.{Field}
-use Rattle.command_grammar.specs.declared.reader.fields.Field.TheVariants as fields
+use Rattle.command_grammar.specs.declared.kinds.CheckNumber.{CheckNumber}
+use Rattle.command_grammar.specs.declared.kinds.CheckNumber.TheVariants as checks
+use Rattle.command_grammar.specs.declared.fields.Field.{Field}
+use Rattle.command_grammar.specs.declared.fields.Field.TheVariants as fields
 use Rattle.command_grammar.specs.declared.refusal.Reason.{Reason}
 use Rattle.command_grammar.specs.declared.refusal.Reason.TheVariants as reasons
 
@@ -20,6 +22,12 @@ abbrev pub check_kept : Check → Option Reason
 check_kept (Short crc) = Some reasons.Crc5
 check_kept (Long crc) = Some reasons.Crc16
 check_kept Over = None
+
+-- the one that a command has
+abbrev pub check_asked : CheckNumber → Option Reason
+check_asked checks.Absent = None
+check_asked checks.Crc5 = Some reasons.Crc5
+check_asked checks.Crc16 = Some reasons.Crc16
 
 -- the field asks for no other
 abbrev pub IsAsked : Option Reason → Field → Type 0

@@ -3,15 +3,16 @@ use Rattle.std.specs.Prelude.{◌≡◌, Bool, true, false, List, [], ◌∷◌,
 use Rattle.command_grammar.specs.Commands.{code_of}
 use Rattle.command_grammar.specs.reading.Readers.{Choice, child, kind_values, pick, none}
 use Rattle.command_grammar.specs.declared.kinds.CommandKind.{CommandKind}
-use Rattle.command_grammar.specs.declared.reader.codes.CodeFront.{CodeFront}
-use Rattle.command_grammar.specs.declared.reader.codes.CodeFront.TheVariants as fronts
-use Rattle.command_grammar.specs.declared.reader.codes.CodeStep.{CodeStep}
-use Rattle.command_grammar.specs.declared.reader.codes.CodeStep.TheVariants as steps
+use Rattle.command_grammar.specs.declared.kinds.CodeFront.{CodeFront}
+use Rattle.command_grammar.specs.declared.kinds.CodeFront.TheVariants as fronts
+use Rattle.command_grammar.specs.declared.kinds.CodeStep.{CodeStep}
+use Rattle.command_grammar.specs.declared.kinds.CodeStep.TheVariants as steps
 
 -- the bits of a code that were read
 abbrev pub bits_of_front : CodeFront → List Bool
 bits_of_front fronts.Nothing = []
-bits_of_front (fronts.First first) = first ∷ []
+bits_of_front fronts.Bits0 = false ∷ []
+bits_of_front fronts.Bits1 = true ∷ []
 bits_of_front fronts.Bits10 = true ∷ false ∷ []
 bits_of_front (fronts.Third third) = true ∷ false ∷ third ∷ []
 bits_of_front fronts.Bits11 = true ∷ true ∷ []

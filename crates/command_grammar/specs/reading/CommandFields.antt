@@ -1,7 +1,7 @@
--- 6.3.2.11: the fields behind the code of each command in their order, each read into its value, and the command whose fields
--- have these values.
+-- 6.3.2.11: how each field of a command is read into its value, and with them the commands, whose fields Commands.antt has.
 use Rattle.std.specs.Prelude.{ℕ, Bool, false, List, [], ◌∷◌, length, Result, Ok, Err, ◌==◌, if◌then◌else◌}
 use Rattle.command_grammar.specs.declared.commands.Command.{Command}
+use Rattle.command_grammar.specs.Commands.{command_fields_of, command_of}
 use Rattle.command_grammar.specs.reading.Readers.{Stop, Reading, ◌>>=◌, bit_at, reading_bits, reading_number, choice_at, m_values, sel_values, query_target_values, updn_values, select_target_values, mask_bank_values, bank_values, kind_values, exactly_at, count_at, words_at, ebv_at, crc5_at, crc16_at, Bad}
 use Rattle.bit_strings.specs.declared.code.Code.TheVariants.{Fm0}
 use Rattle.command_fields.specs.declared.choices.Sel.TheVariants as sels
@@ -10,47 +10,11 @@ use Rattle.command_fields.specs.declared.choices.UpDn.TheVariants.{Same}
 use Rattle.command_fields.specs.declared.choices.Bank.TheVariants as banks
 use Rattle.command_fields.specs.declared.choices.MaskBank.TheVariants as mask_banks
 use Rattle.command_fields.specs.declared.choices.FlagName.TheVariants as flags
-use Rattle.command_grammar.specs.declared.commands.Command.TheVariants as commands
 use Rattle.command_grammar.specs.declared.kinds.CommandKind.{CommandKind}
-use Rattle.command_grammar.specs.declared.kinds.CommandKind.TheVariants as kinds
-use Rattle.command_grammar.specs.declared.reader.fields.Field.{Field}
-use Rattle.command_grammar.specs.declared.reader.fields.Field.TheVariants as fields
+use Rattle.command_grammar.specs.declared.fields.Field.{Field}
+use Rattle.command_grammar.specs.declared.fields.Field.TheVariants as fields
 use Rattle.command_grammar.specs.declared.reader.fields.Fields.{Fields}
 use Rattle.command_grammar.specs.declared.refusal.Reason.TheVariants as reasons
-
--- the fields of each kind of command behind its code, in their order
-abbrev pub command_fields_of : CommandKind → List Field
-command_fields_of kinds.QueryRep = fields.Session ∷ []
-command_fields_of kinds.Ack = fields.Rn ∷ []
-command_fields_of kinds.Query = fields.Dr ∷ fields.M ∷ fields.TRext ∷ fields.Sel ∷ fields.Session ∷ fields.QueryTarget ∷ fields.Q ∷ fields.Crc5 ∷ []
-command_fields_of kinds.QueryAdjust = fields.Session ∷ fields.UpDn ∷ []
-command_fields_of kinds.Select = fields.SelectTarget ∷ fields.Action ∷ fields.MaskBank ∷ fields.Pointer ∷ fields.Mask ∷ fields.Truncate ∷ fields.Crc16 ∷ []
-command_fields_of kinds.Nak = []
-command_fields_of kinds.ReqRn = fields.Rn ∷ fields.Crc16 ∷ []
-command_fields_of kinds.Read = fields.Bank ∷ fields.Pointer ∷ fields.Count ∷ fields.Rn ∷ fields.Crc16 ∷ []
-command_fields_of kinds.Write = fields.Bank ∷ fields.Pointer ∷ fields.Covered ∷ fields.Rn ∷ fields.Crc16 ∷ []
-command_fields_of kinds.Kill = fields.Covered ∷ fields.KillBits ∷ fields.Rn ∷ fields.Crc16 ∷ []
-command_fields_of kinds.Lock = fields.Payload ∷ fields.Rn ∷ fields.Crc16 ∷ []
-command_fields_of kinds.Access = fields.Covered ∷ fields.Rn ∷ fields.Crc16 ∷ []
-command_fields_of kinds.BlockWrite = fields.Bank ∷ fields.Pointer ∷ fields.Words ∷ fields.Rn ∷ fields.Crc16 ∷ []
-command_fields_of kinds.BlockErase = fields.Bank ∷ fields.Pointer ∷ fields.WordCount ∷ fields.Rn ∷ fields.Crc16 ∷ []
-
--- the command of this kind whose fields have these values
-abbrev pub command_of : CommandKind → Fields → Command
-command_of kinds.QueryRep v = commands.QueryRep v.session
-command_of kinds.Ack v = commands.Ack v.rn
-command_of kinds.Query v = commands.Query v.dr v.m v.trext v.sel v.session v.query_target v.q
-command_of kinds.QueryAdjust v = commands.QueryAdjust v.session v.updn
-command_of kinds.Select v = commands.Select v.select_target v.action v.mask_bank v.pointer v.mask
-command_of kinds.Nak v = commands.Nak
-command_of kinds.ReqRn v = commands.ReqRn v.rn
-command_of kinds.Read v = commands.Read v.bank v.pointer v.count v.rn
-command_of kinds.Write v = commands.Write v.bank v.pointer v.covered v.rn
-command_of kinds.Kill v = commands.Kill v.covered v.rn
-command_of kinds.Lock v = commands.Lock v.payload v.rn
-command_of kinds.Access v = commands.Access v.covered v.rn
-command_of kinds.BlockWrite v = commands.BlockWrite v.bank v.pointer v.words v.rn
-command_of kinds.BlockErase v = commands.BlockErase v.bank v.pointer v.word_count v.rn
 
 -- A field: how it is read, and which value it sets. Of a counted one the number is read first, and then so many. Here and below
 -- `whole` are all bits from the code on, over which a check number is computed, and `bits` those that are still to come.
@@ -58,6 +22,7 @@ pub data FieldReader : Type 1 where
   alone : {A : Type 0} → (List Bool → List Bool → Reading A) → (Fields → A → Fields) → FieldReader
   counted : {A : Type 0} → (List Bool → Reading ℕ) → (ℕ → List Bool → Reading A) → (Fields → A → Fields) → FieldReader
 
+-- how each field is read, and which value it sets
 abbrev pub reader_of : Field → FieldReader
 reader_of fields.Dr = alone (λ whole. bit_at) (λ v x. record v { dr = x })
 reader_of fields.M = alone (λ whole. choice_at m_values reasons.Code) (λ v x. record v { m = x })
@@ -127,6 +92,7 @@ no_fields = record {
 abbrev pub fields_at : CommandKind → List Bool → List Bool → Reading Command
 fields_at kind whole bits = command_from (command_fields_of kind) kind no_fields whole bits
 
+-- a command: its code, and the fields of its kind
 unfoldable pub command_at : List Bool → Reading Command
 command_at bits = choice_at kind_values reasons.Code bits >>= λ kind. fields_at kind.0 bits kind.1
 

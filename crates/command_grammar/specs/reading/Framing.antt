@@ -1,17 +1,17 @@
 -- Profile: what a contract sees of a Framer, and what reading gives from each of its states for the bits that are still to
 -- come. It keeps no bits but those of a mask and of words; what is pushed behind the first place of refusal changes nothing.
 use Rattle.std.specs.Prelude.{◌≡◌, ℕ, ◌+◌, Bool, List, [], ◌∷◌, ◌++◌, length, Option, Some, None, Result, Err}
-use Rattle.command_grammar.specs.Commands.{IsCommandRefusedAt}
+use Rattle.command_grammar.specs.Commands.{command_fields_of, command_of, IsCommandRefusedAt}
 use Rattle.command_grammar.specs.reading.Readers.{Stop, ◌>>=◌, child, none, next_at, Bad}
 use Rattle.command_grammar.specs.reading.Codes.{bits_of_front, behind_code}
-use Rattle.command_grammar.specs.reading.CommandFields.{command_fields_of, command_of, all_of, only_whole, run}
+use Rattle.command_grammar.specs.reading.CommandFields.{all_of, only_whole, run}
 use Rattle.command_grammar.specs.reading.FieldStages.{stage_from}
 use Rattle.command_grammar.specs.reading.FieldRanges.{AreFieldsInRange, IsEdge}
 use Rattle.command_grammar.specs.reading.CheckNumbers.{IsRegisterOf, check_kept, AreServed}
 use Rattle.command_grammar.specs.declared.commands.Command.{Command}
 use Rattle.command_grammar.specs.declared.reader.check.Check.{Check}
 use Rattle.command_grammar.specs.declared.kinds.CommandKind.{CommandKind}
-use Rattle.command_grammar.specs.declared.reader.fields.Field.{Field}
+use Rattle.command_grammar.specs.declared.fields.Field.{Field}
 use Rattle.command_grammar.specs.declared.reader.fields.Fields.{Fields}
 use Rattle.command_grammar.specs.declared.reader.state.Position.{Position}
 use Rattle.command_grammar.specs.declared.reader.state.Position.TheVariants as positions

@@ -18,8 +18,8 @@ use Rattle.command_fields.specs.declared.choices.MaskBank.{MaskBank}
 use Rattle.command_fields.specs.declared.choices.MaskBank.TheVariants as mask_banks
 use Rattle.command_fields.specs.declared.choices.FlagName.{FlagName}
 use Rattle.command_fields.specs.declared.choices.FlagName.TheVariants as flags
+use Rattle.command_grammar.specs.Commands.{all_kinds, code_of}
 use Rattle.command_grammar.specs.declared.kinds.CommandKind.{CommandKind}
-use Rattle.command_grammar.specs.declared.kinds.CommandKind.TheVariants as kinds
 use Rattle.command_grammar.specs.declared.refusal.Reason.{Reason}
 use Rattle.command_grammar.specs.declared.refusal.Reason.TheVariants as reasons
 
@@ -33,6 +33,7 @@ pub data Stop : Type 0 where
 abbrev pub Reading : Type 0 → Type 0
 Reading A = Result (A × List Bool) Stop
 
+-- reads on with what was read, where no bit was refused
 infixl 10 ◌>>=◌
 abbrev pub ◌>>=◌ : {A B : Type 0} → Result A Stop → (A → Result B Stop) → Result B Stop
 (Ok x) >>= f = f x
@@ -106,24 +107,20 @@ mask_bank_values = fork (fork none (pick mask_banks.Epc)) (fork (pick mask_banks
 abbrev pub bank_values : Choice Bank
 bank_values = fork (fork (pick banks.Reserved) (pick banks.Epc)) (fork (pick banks.Tid) (pick banks.User))
 
--- the kinds whose codes begin with 10, 11000, 11001 and 11
-abbrev kinds_10 : Choice CommandKind
-kinds_10 = fork (fork (pick kinds.Query) (pick kinds.QueryAdjust)) (fork (pick kinds.Select) none)
+-- the choice with one value more, which has these bits
+abbrev pub with_value : {A : Type 0} → List Bool → A → Choice A → Choice A
+with_value [] value t = pick value
+with_value (bit ∷ bits) value (fork zeros ones) = if bit then fork zeros (with_value bits value ones) else fork (with_value bits value zeros) ones
+with_value (bit ∷ bits) value t = if bit then fork none (with_value bits value none) else fork (with_value bits value none) none
 
-abbrev kinds_11000 : Choice CommandKind
-kinds_11000 = fork
-    (fork (fork (pick kinds.Nak) (pick kinds.ReqRn)) (fork (pick kinds.Read) (pick kinds.Write)))
-    (fork (fork (pick kinds.Kill) (pick kinds.Lock)) (fork (pick kinds.Access) (pick kinds.BlockWrite)))
-
-abbrev kinds_11001 : Choice CommandKind
-kinds_11001 = fork (fork (fork (pick kinds.BlockErase) none) none) none
-
-abbrev kinds_11 : Choice CommandKind
-kinds_11 = fork (fork (fork kinds_11000 kinds_11001) none) none
+-- these kinds, each by its code
+abbrev pub kinds_by_code : List CommandKind → Choice CommandKind
+kinds_by_code [] = none
+kinds_by_code (kind ∷ others) = with_value (code_of kind) kind (kinds_by_code others)
 
 -- 6.3.2.11, Table 6.18: the codes
 abbrev pub kind_values : Choice CommandKind
-kind_values = fork (fork (pick kinds.QueryRep) (pick kinds.Ack)) (fork kinds_10 kinds_11)
+kind_values = kinds_by_code all_kinds
 
 -- reads bits of a command that are known beforehand, as those of a check number are; another bit is refused for the reason
 abbrev pub exactly_at : List Bool → Reason → List Bool → Reading (Unit {0})
@@ -171,15 +168,18 @@ blocks_at zero value bits = last_digit_at bits >>= λ digit. Ok (value * 128 + d
 blocks_at (suc others) value bits = block_within_at value bits >>= λ block.
     (if block.0.more then blocks_at others block.0.number block.1 else Ok (block.0.number, block.1))
 
+-- Annex A: reads an extensible bit vector of at most four blocks, as a number
 unfoldable pub ebv_at : List Bool → Reading ℕ
 ebv_at bits = blocks_at 3 0 bits
 
--- the check numbers of the bits of `whole` before `bits`
+-- the bits of `whole` before `bits`
 abbrev pub before : List Bool → List Bool → List Bool
 before whole bits = take (length whole - length bits) whole
 
+-- Annex F: reads the CRC-5 of the bits before
 unfoldable pub crc5_at : List Bool → List Bool → Reading (Unit {0})
 crc5_at whole bits = exactly_at (crc5_of (before whole bits)) reasons.Crc5 bits
 
+-- Annex F: reads the CRC-16 of the bits before
 unfoldable pub crc16_at : List Bool → List Bool → Reading (Unit {0})
 crc16_at whole bits = exactly_at (crc16_of (before whole bits)) reasons.Crc16 bits

@@ -1,11 +1,9 @@
 //! The check number that goes along with the bits of a command (6.3.1.5).
 ghost use Rattle.std.specs.Prelude.{◌≡◌, List, Bool, [], ◌∷◌, ◌++◌};
-ghost use Rattle.command_grammar.specs.Commands.{code_of};
-ghost use Rattle.command_grammar.specs.reading.CommandFields.{command_fields_of};
-ghost use Rattle.command_grammar.specs.reading.CheckNumbers.{IsRegisterOf, check_kept, kept_behind, AreServed};
+ghost use Rattle.command_grammar.specs.reading.CheckNumbers.{IsRegisterOf, check_asked, check_kept, kept_behind};
 
-use crate::kinds::CommandKind;
-use crate::reader::fields::Field;
+use crate::fields::Field;
+use crate::kinds::CheckNumber;
 use gen2_crc::{Crc5, Crc16};
 
 /// The check number of the bits so far, where one is still to come.
@@ -20,32 +18,21 @@ pub(crate) enum Check {
 }
 
 impl Check {
-    /// The one that comes in a command of this kind, behind its code.
-    pub(crate) fn of(kind: CommandKind) -> Check
-        ensures counts { IsRegisterOf result (code_of kind) }
-        ensures serves { AreServed (check_kept result) (command_fields_of kind) }
+    /// The one of a command that has this check number, behind its code.
+    pub(crate) fn of(number: CheckNumber, code: &[bool]) -> Check
+        ensures counts { IsRegisterOf result code.now }
+        ensures kept { check_kept result ≡ check_asked number }
     {
-        match kind {
-            CommandKind::Query => {
+        match number {
+            CheckNumber::Absent => Check::Over,
+            CheckNumber::Crc5 => {
                 let mut crc = Crc5::new();
-                crc.push_all(kind.code());
+                crc.push_all(code);
                 Check::Short(crc)
             }
-            CommandKind::QueryRep
-            | CommandKind::Ack
-            | CommandKind::QueryAdjust
-            | CommandKind::Nak => Check::Over,
-            CommandKind::Select
-            | CommandKind::ReqRn
-            | CommandKind::Read
-            | CommandKind::Write
-            | CommandKind::Kill
-            | CommandKind::Lock
-            | CommandKind::Access
-            | CommandKind::BlockWrite
-            | CommandKind::BlockErase => {
+            CheckNumber::Crc16 => {
                 let mut crc = Crc16::new();
-                crc.push_all(kind.code());
+                crc.push_all(code);
                 Check::Long(crc)
             }
         }

@@ -1,7 +1,7 @@
-//! The fields that stand behind the codes of commands (6.3.2.11), and what was read of them.
+//! What was read of the fields of a command, and the command that has them.
 ghost use Rattle.std.specs.Prelude.{◌≡◌, ◌≢◌, ◌^◌, ◌<◌, ◌≤◌, Ok};
 ghost use Rattle.command_grammar.specs.declared.kinds.CommandKind.TheVariants as kinds;
-ghost use Rattle.command_grammar.specs.reading.CommandFields.{command_of, command_fields_of};
+ghost use Rattle.command_grammar.specs.Commands.{command_of};
 
 use crate::commands::Command;
 use crate::kinds::CommandKind;
@@ -9,124 +9,6 @@ use crate::refusal::CommandRefusal;
 use bit_strings::{Action, Code, Count1, Payload, Pointer, QValue, Session};
 use command_fields::{Bank, BlockWords, FlagName, Mask, MaskBank, Sel, Side, UpDn};
 use std::mem;
-
-/// A field behind the code of a command.
-#[derive(Clone, Copy)]
-pub(crate) enum Field {
-    /// DR of a Query.
-    Dr,
-    /// M of a Query.
-    M,
-    /// TRext of a Query.
-    TRext,
-    /// Sel of a Query.
-    Sel,
-    /// Session of a QueryRep, Query or QueryAdjust.
-    Session,
-    /// Target of a Query.
-    QueryTarget,
-    /// Q of a Query.
-    Q,
-    /// CRC-5.
-    Crc5,
-    /// UpDn of a QueryAdjust.
-    UpDn,
-    /// Target of a Select.
-    SelectTarget,
-    /// Action of a Select.
-    Action,
-    /// MemBank of a Select.
-    MaskBank,
-    /// Pointer or WordPtr.
-    Pointer,
-    /// Length and Mask of a Select.
-    Mask,
-    /// Truncate of a Select.
-    Truncate,
-    /// MemBank of the other commands.
-    Bank,
-    /// WordCount of a Read.
-    Count,
-    /// WordCount and Data of a BlockWrite.
-    Words,
-    /// WordCount of a BlockErase.
-    WordCount,
-    /// Data of a Write, or half of a password.
-    Covered,
-    /// The three bits of a Kill behind the covered half.
-    KillBits,
-    /// Payload of a Lock.
-    Payload,
-    /// The tag's RN16 or handle.
-    Rn,
-    /// CRC-16.
-    Crc16,
-}
-
-impl CommandKind {
-    /// The fields that follow the code in a command of this kind, in their order.
-    pub(crate) fn fields(self) -> &'static [Field]
-        ensures { result.now ≡ command_fields_of self }
-    {
-        match self {
-            CommandKind::QueryRep => &[Field::Session],
-            CommandKind::Ack => &[Field::Rn],
-            CommandKind::Query => &[
-                Field::Dr,
-                Field::M,
-                Field::TRext,
-                Field::Sel,
-                Field::Session,
-                Field::QueryTarget,
-                Field::Q,
-                Field::Crc5,
-            ],
-            CommandKind::QueryAdjust => &[Field::Session, Field::UpDn],
-            CommandKind::Select => &[
-                Field::SelectTarget,
-                Field::Action,
-                Field::MaskBank,
-                Field::Pointer,
-                Field::Mask,
-                Field::Truncate,
-                Field::Crc16,
-            ],
-            CommandKind::Nak => &[],
-            CommandKind::ReqRn => &[Field::Rn, Field::Crc16],
-            CommandKind::Read => &[
-                Field::Bank,
-                Field::Pointer,
-                Field::Count,
-                Field::Rn,
-                Field::Crc16,
-            ],
-            CommandKind::Write => &[
-                Field::Bank,
-                Field::Pointer,
-                Field::Covered,
-                Field::Rn,
-                Field::Crc16,
-            ],
-            CommandKind::Kill => &[Field::Covered, Field::KillBits, Field::Rn, Field::Crc16],
-            CommandKind::Lock => &[Field::Payload, Field::Rn, Field::Crc16],
-            CommandKind::Access => &[Field::Covered, Field::Rn, Field::Crc16],
-            CommandKind::BlockWrite => &[
-                Field::Bank,
-                Field::Pointer,
-                Field::Words,
-                Field::Rn,
-                Field::Crc16,
-            ],
-            CommandKind::BlockErase => &[
-                Field::Bank,
-                Field::Pointer,
-                Field::WordCount,
-                Field::Rn,
-                Field::Crc16,
-            ],
-        }
-    }
-}
 
 /// The values of the fields that were read; the others hold some value.
 #[derive(Drop)]
@@ -292,6 +174,7 @@ impl Fields {
     }
 }
 
+/// The session of this number.
 pub(crate) fn session_of(number: u32) -> Session
     requires { number ≤ 3 }
     ensures { result ≡ number }
@@ -302,6 +185,7 @@ pub(crate) fn session_of(number: u32) -> Session
     }
 }
 
+/// Q of this number.
 pub(crate) fn q_of(number: u32) -> QValue
     requires { number ≤ 15 }
     ensures { result ≡ number }
@@ -312,6 +196,7 @@ pub(crate) fn q_of(number: u32) -> QValue
     }
 }
 
+/// The action of this number.
 pub(crate) fn action_of(number: u32) -> Action
     requires { number ≤ 7 }
     ensures { result ≡ number }
@@ -322,6 +207,7 @@ pub(crate) fn action_of(number: u32) -> Action
     }
 }
 
+/// The pointer to this place.
 pub(crate) fn pointer_of(number: u32) -> Pointer
     requires { number < 2 ^ 28 }
     ensures { result ≡ number }
@@ -332,6 +218,7 @@ pub(crate) fn pointer_of(number: u32) -> Pointer
     }
 }
 
+/// The payload of a Lock whose 20 bits are this number.
 pub(crate) fn payload_of(number: u32) -> Payload
     requires { number < 2 ^ 20 }
     ensures { result ≡ number }
@@ -342,6 +229,7 @@ pub(crate) fn payload_of(number: u32) -> Payload
     }
 }
 
+/// The number of words of a BlockErase.
 pub(crate) fn count_of(number: u32) -> Count1
     requires some { number ≢ 0 }
     requires few { number ≤ 255 }

@@ -9,11 +9,12 @@ ghost use Rattle.command_grammar.specs.declared.reader.fields.Fields.{Fields};
 ghost use Rattle.command_grammar.specs.declared.reader.stage.Stage.TheVariants as stages;
 ghost use Rattle.command_grammar.specs.declared.refusal.Reason.{Reason};
 
+use crate::fields::Field;
 use crate::reader::check::Check;
 use crate::reader::field_steps::{
     take_bit, take_ebv, take_number, take_pair, take_second, take_third,
 };
-use crate::reader::fields::{Field, Fields};
+use crate::reader::fields::Fields;
 use crate::refusal::Reason;
 use bit_strings::EbvFront;
 

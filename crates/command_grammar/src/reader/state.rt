@@ -1,16 +1,16 @@
 //! What was read of a command.
 ghost use Rattle.std.specs.Prelude.{◌≡◌, ◌++◌, ◌∷◌, [], List, Bool, IsTrue, IsFalse, Ok, None};
-ghost use Rattle.command_grammar.specs.Commands.{Judges, IsFinishAnswer, SpellsCommand, code_of};
-ghost use Rattle.command_grammar.specs.reading.CommandFields.{command_fields_of, run};
+ghost use Rattle.command_grammar.specs.Commands.{Judges, IsFinishAnswer, SpellsCommand, code_of, command_fields_of};
+ghost use Rattle.command_grammar.specs.reading.CommandFields.{run};
 ghost use Rattle.command_grammar.specs.reading.CheckNumbers.{IsRegisterOf, AreServed, check_kept};
 ghost use Rattle.command_grammar.specs.reading.Framing.{StateStandsFor, Keeps, CheckGoesAlong, IsServed, IsAtEdge, IsSoundPosition, IsOpen, TakesBit, refusal_in, resume};
 ghost use Rattle.command_grammar.specs.declared.commands.Command.{Command};
 
 use crate::commands::Command;
-use crate::kinds::CommandKind;
+use crate::fields::Field;
+use crate::kinds::{CodeFront, CodeStep, CommandKind, code_step};
 use crate::reader::check::Check;
-use crate::reader::codes::{CodeFront, CodeStep, code_step};
-use crate::reader::fields::{Field, Fields};
+use crate::reader::fields::Fields;
 use crate::reader::stage::{Next, Stage};
 use crate::refusal::{CommandRefusal, Pushed, Reason};
 
@@ -129,9 +129,10 @@ impl State {
         ensures sound { IsSoundPosition self.new.position self.new.fields }
         ensures pushed { self.new.pushed ≡ self.old.pushed }
     {
+        let layout = kind.layout();
         self.kind = kind;
-        self.check = Check::of(kind);
-        self.behind = kind.fields();
+        self.check = Check::of(layout.check, layout.code);
+        self.behind = layout.fields;
         self.begin();
     }
 

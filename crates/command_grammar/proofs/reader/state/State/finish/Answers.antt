@@ -4,8 +4,7 @@ use Rattle.bit_strings.specs.Family.{IsShortAt}
 use Rattle.command_grammar.specs.declared.commands.Command.{Command}
 use Rattle.command_grammar.specs.declared.refusal.CommandRefusal.{CommandRefusal}
 use Rattle.command_grammar.specs.declared.refusal.Reason.{Reason}
-use Rattle.command_grammar.specs.Commands.{Spellings, IsFinishAnswer, IsCommandRefusedAt}
-use Rattle.command_grammar.specs.reading.CommandFields.{command_of}
+use Rattle.command_grammar.specs.Commands.{command_of, Spellings, IsFinishAnswer, IsCommandRefusedAt}
 use Rattle.command_grammar.specs.reading.Framing.{Keeps, StateStandsFor}
 use Rattle.command_grammar.proofs.reading.Resuming.{resumes_none, whole_spells, open_short}
 use Rattle.command_grammar.proofs.SpellingLaws.{one_command, not_spelled}

@@ -1,5 +1,5 @@
 use Rattle.std.proofs.Common.{refl}
-use Rattle.command_grammar.specs.reading.CommandFields.{command_of}
+use Rattle.command_grammar.specs.Commands.{command_of}
 use Rattle.command_grammar.proofs.reading.Resuming.{whole_spells, open_short}
 use Rattle.command_grammar.proofs.reader.state.State.judge.Goals as goal
 
