@@ -1,6 +1,8 @@
 -- Fields spell one command, or are faulty for one reason.
 use Rattle.std.proofs.Common.{◌≡◌, ℕ, List, length, refl, sym, ◌∙◌}
-use Rattle.text_fields.specs.Lines.{fields_of}
+use Rattle.std.specs.Prelude.{All}
+use Rattle.std.proofs.lemmas.List.Elements.{All-cons}
+use Rattle.text_fields.specs.Lines.{IsFieldText, fields_of}
 use Rattle.text_fields.specs.NamedFields.{AreFilled}
 use Rattle.text_fields.proofs.NamedFieldLaws.{IsVocabulary, one_fault, same_behind, spelling_is_not_faulty, texts_come_back, texts_filled}
 use Rattle.text_fields.specs.declared.fields_fault.FieldsFault.{FieldsFault}
@@ -8,8 +10,13 @@ use Rattle.command_grammar.specs.Commands.{IsLegalCommand}
 use Rattle.command_grammar.specs.declared.commands.Command.{Command}
 use Rattle.command_grammar.specs.declared.commands.Command.TheVariants.{QueryRep}
 use Rattle.command_text.specs.CommandText.{IsCommandText, IsFaultyCommand, command_field_count, command_fields, command_kind, command_line, command_name, commands, other_command_fields}
-use Rattle.command_text.proofs.FieldTexts.{command_texts, other_texts}
-use Rattle.command_text.proofs.ToldApart.{command_name_told, others_told}
+use Rattle.command_text.proofs.EachCommand.{command_name_is, other_texts, others_told}
+use Rattle.command_text.proofs.ToldApart.{command_name_told}
+
+pub command_texts : (command : Command) → IsLegalCommand command → All IsFieldText (command_fields command)
+command_texts command is =
+    All-cons IsFieldText (command_name (command_kind command)) (other_command_fields command) (command_name_is (command_kind command))
+    (other_texts command is).are
 
 -- a command has as many fields as its name says
 counted : (command : Command) → command_field_count (command_kind command) ≡ length (other_command_fields command)

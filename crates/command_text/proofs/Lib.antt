@@ -5,5 +5,6 @@ pub mod NameLists
 mod PayloadDigits
 mod Pieces
 pub mod CommandTexts
+pub mod EachCommand
 pub mod FieldTexts
 pub mod ToldApart

@@ -1,6 +1,5 @@
 -- Two values of a command's field are not spelled alike, nor are two commands.
-use Rattle.std.proofs.Common.{◌≡◌, ◌<◌, ◌≤◌, ◌/◌, ◌%◌, ℕ, Bool, true, false, List, [], ◌∷◌, length, get_or, ap, arith, refl}
-use Rattle.std.specs.Fmt.{decimal}
+use Rattle.std.proofs.Common.{◌≡◌, ◌<◌, ◌≤◌, ◌/◌, ◌%◌, ℕ, Bool, true, false, List, [], ◌∷◌, length, arith, refl}
 use Rattle.std.specs.List.{AllByRecursion}
 use Rattle.std.proofs.lemmas.Bool.Decides.{nat_tests}
 use Rattle.std.proofs.lemmas.List.Elements.{All-from_recursion, recursion_from_All}
@@ -10,8 +9,7 @@ use Rattle.text_fields.specs.Binary.{binary_digit}
 use Rattle.text_fields.specs.Hexadecimal.{hex_digit, hex_word}
 use Rattle.text_fields.specs.CodeNames.{code_word}
 use Rattle.text_fields.specs.WordLists.{IsWordList}
-use Rattle.text_fields.proofs.ToldApart.{binary_told, decimal_told, hex_word_told, hex_words_told}
-use Rattle.text_fields.proofs.NamedFieldLaws.{same_behind}
+use Rattle.text_fields.proofs.ToldApart.{hex_word_told}
 use Rattle.command_fields.specs.declared.choices.Sel.{Sel}
 use Rattle.command_fields.specs.declared.choices.Sel.TheVariants as sels
 use Rattle.command_fields.specs.declared.choices.Side.{Side}
@@ -24,13 +22,12 @@ use Rattle.command_fields.specs.declared.choices.MaskBank.{MaskBank}
 use Rattle.command_fields.specs.declared.choices.MaskBank.TheVariants as mask_banks
 use Rattle.command_fields.specs.declared.choices.FlagName.{FlagName}
 use Rattle.command_fields.specs.declared.choices.FlagName.TheVariants as flags
-use Rattle.command_grammar.specs.Commands.{IsLegalCommand, IsWord}
+use Rattle.command_grammar.specs.Commands.{IsWord, all_kinds}
 use Rattle.command_grammar.specs.declared.kinds.CommandKind.{CommandKind}
-use Rattle.command_grammar.specs.declared.commands.Command.{Command}
-use Rattle.command_grammar.specs.declared.commands.Command.TheVariants.{QueryRep, Ack, Query, QueryAdjust, Select, Nak, ReqRn, Read, Write, Kill, Lock, Access, BlockWrite, BlockErase}
-use Rattle.command_text.specs.NameLists.{EachFound, command_found, all_command_kinds}
+use Rattle.command_grammar.specs.declared.commands.Command.TheVariants.{BlockWrite}
+use Rattle.command_text.specs.NameLists.{EachFound, command_found}
 use Rattle.command_text.proofs.NameLists.{told}
-use Rattle.command_text.specs.CommandText.{bank_word, command_kind, command_name, flag_word, mask_bank_word, other_command_fields, payload_digits, sel_word, side_word, updn_word}
+use Rattle.command_text.specs.CommandText.{bank_word, command_name, flag_word, mask_bank_word, payload_digits, sel_word, side_word, updn_word}
 
 -- the words of a field, of which no two are alike
 abbrev pub all_flags : List FlagName
@@ -136,75 +133,4 @@ pub list_of_block : (words : List ℕ) → AreBlock words → IsWordList 1 255 w
 list_of_block words is = record { some = is.0; room = is.1; small = All-from_recursion IsWord words is.2 }
 
 pub command_name_told : (one other : CommandKind) → command_name one ≡ command_name other → one ≡ other
-command_name_told = told command_name all_command_kinds command_found
-
--- the field at a place of two equal lists of fields
-field : (place : ℕ) (one other : List (List ℕ)) → one ≡ other → get_or one place [] ≡ get_or other place []
-field place one other same = ap (λ (fields : List (List ℕ)). get_or fields place []) same
-
--- two commands of one name with the same fields
-pub others_told : (one other : Command) → IsLegalCommand one → IsLegalCommand other → command_kind one ≡ command_kind other
-    → other_command_fields one ≡ other_command_fields other → one ≡ other
-others_told (QueryRep session) (QueryRep session') is is' kind same =
-    ap QueryRep (decimal_told session session' (omega arith) (omega arith) (same_behind (decimal session) (decimal session') [] [] same).0)
-others_told (Ack rn) (Ack rn') is is' kind same = ap Ack (hex_word_told rn rn' is is' (same_behind (hex_word rn) (hex_word rn') [] [] same).0)
-others_told (Query dr code trext sel session target q) (Query dr' code' trext' sel' session' target' q') is is' kind same =
-    let drs = bit_told dr dr' (field 0 _ _ same) in
-    let codes_same = code_told code code' (field 1 _ _ same) in
-    let trexts = bit_told trext trext' (field 2 _ _ same) in
-    let sels_same = sel_told sel sel' (field 3 _ _ same) in
-    let sessions = decimal_told session session' (omega (arith, is.0)) (omega (arith, is'.0)) (field 4 _ _ same) in
-    let targets = side_told target target' (field 5 _ _ same) in
-    let qs = decimal_told q q' (omega (arith, is.1)) (omega (arith, is'.1)) (field 6 _ _ same) in
-    cc
-others_told (QueryAdjust session updn) (QueryAdjust session' updn') is is' kind same =
-    let sessions = decimal_told session session' (omega arith) (omega arith) (field 0 _ _ same) in
-    let updns_same = updn_told updn updn' (field 1 _ _ same) in
-    cc
-others_told (Select target action bank pointer mask) (Select target' action' bank' pointer' mask') is is' kind same =
-    let targets = flag_told target target' (field 0 _ _ same) in
-    let actions = decimal_told action action' (omega (arith, is.0)) (omega (arith, is'.0)) (field 1 _ _ same) in
-    let banks_same = mask_bank_told bank bank' (field 2 _ _ same) in
-    let pointers = decimal_told pointer pointer' (omega (arith, is.1)) (omega (arith, is'.1)) (field 3 _ _ same) in
-    let masks = binary_told mask mask' (field 4 _ _ same) in
-    cc
-others_told Nak Nak is is' kind same = refl
-others_told (ReqRn rn) (ReqRn rn') is is' kind same =
-    ap ReqRn (hex_word_told rn rn' is is' (same_behind (hex_word rn) (hex_word rn') [] [] same).0)
-others_told (Read bank pointer count rn) (Read bank' pointer' count' rn') is is' kind same =
-    let banks_same = bank_told bank bank' (field 0 _ _ same) in
-    let pointers = decimal_told pointer pointer' (omega (arith, is.0)) (omega (arith, is'.0)) (field 1 _ _ same) in
-    let counts = decimal_told count count' (omega (arith, is.1)) (omega (arith, is'.1)) (field 2 _ _ same) in
-    let rns = hex_word_told rn rn' is.2 is'.2 (field 3 _ _ same) in
-    cc
-others_told (Write bank pointer covered rn) (Write bank' pointer' covered' rn') is is' kind same =
-    let banks_same = bank_told bank bank' (field 0 _ _ same) in
-    let pointers = decimal_told pointer pointer' (omega (arith, is.0)) (omega (arith, is'.0)) (field 1 _ _ same) in
-    let words_same = hex_word_told covered covered' is.1 is'.1 (field 2 _ _ same) in
-    let rns = hex_word_told rn rn' is.2 is'.2 (field 3 _ _ same) in
-    cc
-others_told (Kill covered rn) (Kill covered' rn') is is' kind same =
-    let halves = hex_word_told covered covered' is.0 is'.0 (field 0 _ _ same) in
-    let rns = hex_word_told rn rn' is.1 is'.1 (field 1 _ _ same) in
-    cc
-others_told (Lock payload rn) (Lock payload' rn') is is' kind same =
-    let payloads = payload_told payload payload' (omega (arith, is.0)) (omega (arith, is'.0)) (field 0 _ _ same) in
-    let rns = hex_word_told rn rn' is.1 is'.1 (field 1 _ _ same) in
-    cc
-others_told (Access covered rn) (Access covered' rn') is is' kind same =
-    let halves = hex_word_told covered covered' is.0 is'.0 (field 0 _ _ same) in
-    let rns = hex_word_told rn rn' is.1 is'.1 (field 1 _ _ same) in
-    cc
-others_told (BlockWrite bank pointer words rn) (BlockWrite bank' pointer' words' rn') is is' kind same =
-    let banks_same = bank_told bank bank' (field 0 _ _ same) in
-    let pointers = decimal_told pointer pointer' (omega (arith, is.0)) (omega (arith, is'.0)) (field 1 _ _ same) in
-    let blocks = hex_words_told words words' (list_of_block words (is.1, is.2, is.3)).small (list_of_block words' (is'.1, is'.2, is'.3)).small (field 2 _ _ same) in
-    let rns = hex_word_told rn rn' is.4 is'.4 (field 3 _ _ same) in
-    cc
-others_told (BlockErase bank pointer count rn) (BlockErase bank' pointer' count' rn') is is' kind same =
-    let banks_same = bank_told bank bank' (field 0 _ _ same) in
-    let pointers = decimal_told pointer pointer' (omega (arith, is.0)) (omega (arith, is'.0)) (field 1 _ _ same) in
-    let counts = decimal_told count count' (omega (arith, is.2)) (omega (arith, is'.2)) (field 2 _ _ same) in
-    let rns = hex_word_told rn rn' is.3 is'.3 (field 3 _ _ same) in
-    cc
-others_told one other is is' kind same = cc
+command_name_told = told command_name all_kinds command_found

@@ -1,8 +1,8 @@
 -- Values that have names in a text, and the value of a name.
 use Rattle.std.specs.Prelude.{◌≡◌, ℕ, List, [], ◌∷◌, Option, Some, None, cond, refl}
 use Rattle.std.specs.Str.{bytes_eq}
-use Rattle.command_grammar.specs.declared.kinds.CommandKind.{CommandKind}
 use Rattle.command_grammar.specs.declared.kinds.CommandKind.TheVariants as kinds
+use Rattle.command_grammar.specs.Commands.{all_kinds}
 use Rattle.command_text.specs.CommandText.{command_name}
 
 -- the first of these values that has the name
@@ -14,12 +14,7 @@ first_named word name (value ∷ others) = cond (bytes_eq (word value) name) (So
 abbrev pub EachFound : {V : Type 0} → (V → List ℕ) → List V → Type 0
 EachFound word values = (value : _) → first_named word (word value) values ≡ Some value
 
--- all kinds of commands, in the order of their codes
-abbrev pub all_command_kinds : List CommandKind
-all_command_kinds =
-    kinds.QueryRep ∷ kinds.Ack ∷ kinds.Query ∷ kinds.QueryAdjust ∷ kinds.Select ∷ kinds.Nak ∷ kinds.ReqRn ∷ kinds.Read ∷ kinds.Write
-    ∷ kinds.Kill ∷ kinds.Lock ∷ kinds.Access ∷ kinds.BlockWrite ∷ kinds.BlockErase ∷ []
-
-pub command_found : EachFound command_name all_command_kinds
+-- each command is found by its name
+pub command_found : EachFound command_name all_kinds
 command_found kinds.QueryRep = refl
 command_found kind = refl

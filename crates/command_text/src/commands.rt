@@ -1,16 +1,19 @@
 //! Commands as lines of a text.
-ghost use Rattle.std.specs.Prelude.{◌≡◌, ◌++◌, ◌∷◌, [], OnOk};
+ghost use Rattle.std.specs.Prelude.{◌≡◌, ◌++◌, ◌∷◌, [], OnOk, codes};
 ghost use Rattle.std.specs.String.{string_bytes};
 ghost use Rattle.std.specs.Fmt.{decimal};
 ghost use Rattle.text_fields.specs.Lines.{line_with};
-ghost use Rattle.command_text.specs.CommandText.{bank_word, command_line};
+ghost use Rattle.text_fields.specs.Binary.{binary_digit};
+ghost use Rattle.text_fields.specs.Hexadecimal.{hex_word};
+ghost use Rattle.text_fields.specs.CodeNames.{code_word};
+ghost use Rattle.command_text.specs.CommandText.{bank_word, command_line, flag_word, mask_bank_word, sel_word};
 
 use crate::names::{
     bank_name, bit_name, flag_name, mask_bank_name, sel_name, side_name, updn_name,
 };
 use crate::payloads::push_next_payload;
-use bit_strings::{OutOfMemory, Pointer};
-use command_grammar::{Bank, Command};
+use bit_strings::{Action, Code, OutOfMemory, Pointer};
+use command_grammar::{Bank, Command, FlagName, MaskBank, Sel};
 use text_fields::{
     name_of, push_named_number, push_named_word, push_next_bits, push_next_name, push_next_number,
     push_next_word, push_next_words,
@@ -43,11 +46,7 @@ pub fn push_command(text: &mut String, command: &Command) -> Result<(), OutOfMem
             target,
             q,
         } => {
-            text.push_str("query")?;
-            push_next_name(text, bit_name(*dr))?;
-            push_next_name(text, name_of(*code))?;
-            push_next_name(text, bit_name(*trext))?;
-            push_next_name(text, sel_name(*sel))?;
+            push_query_front(text, *dr, *code, *trext, *sel)?;
             push_next_number(text, u32::from(session.get()))?;
             push_next_name(text, side_name(*target))?;
             push_next_number(text, u32::from(q.get()))
@@ -63,10 +62,7 @@ pub fn push_command(text: &mut String, command: &Command) -> Result<(), OutOfMem
             pointer,
             mask,
         } => {
-            text.push_str("select")?;
-            push_next_name(text, flag_name(*target))?;
-            push_next_number(text, u32::from(action.get()))?;
-            push_next_name(text, mask_bank_name(*bank))?;
+            push_select_front(text, *target, action, *bank)?;
             push_next_number(text, pointer.get())?;
             push_next_bits(text, mask.as_slice())
         }
@@ -92,19 +88,13 @@ pub fn push_command(text: &mut String, command: &Command) -> Result<(), OutOfMem
             push_next_word(text, *covered)?;
             push_next_word(text, *rn)
         }
-        Command::Kill { covered, rn } => {
-            push_named_word(text, "kill", *covered)?;
-            push_next_word(text, *rn)
-        }
+        Command::Kill { covered, rn } => push_two_words(text, "kill", *covered, *rn),
         Command::Lock { payload, rn } => {
             text.push_str("lock")?;
             push_next_payload(text, payload)?;
             push_next_word(text, *rn)
         }
-        Command::Access { covered, rn } => {
-            push_named_word(text, "access", *covered)?;
-            push_next_word(text, *rn)
-        }
+        Command::Access { covered, rn } => push_two_words(text, "access", *covered, *rn),
         Command::BlockWrite {
             bank,
             pointer,
@@ -141,4 +131,49 @@ fn push_place(
     text.push_str(name)?;
     push_next_name(text, bank_name(bank))?;
     push_next_number(text, pointer.get())
+}
+
+/// Writes the name of a Query and its first four fields: how the tags are to reply, and Sel.
+fn push_query_front(
+    text: &mut String,
+    dr: bool,
+    code: Code,
+    trext: bool,
+    sel: Sel,
+) -> Result<(), OutOfMemory>
+    ensures { OnOk result (string_bytes text.new ≡ string_bytes text.old
+        ++ line_with (codes "query" ∷ (binary_digit dr ∷ []) ∷ code_word code
+        ∷ (binary_digit trext ∷ []) ∷ sel_word sel ∷ [])) }
+{
+    text.push_str("query")?;
+    push_next_name(text, bit_name(dr))?;
+    push_next_name(text, name_of(code))?;
+    push_next_name(text, bit_name(trext))?;
+    push_next_name(text, sel_name(sel))
+}
+
+/// Writes the name of a Select, the flag, the action and the bank that has the mask.
+fn push_select_front(
+    text: &mut String,
+    target: FlagName,
+    action: &Action,
+    bank: MaskBank,
+) -> Result<(), OutOfMemory>
+    ensures { OnOk result (string_bytes text.new ≡ string_bytes text.old
+        ++ line_with (codes "select" ∷ flag_word target ∷ decimal action.now
+        ∷ mask_bank_word bank ∷ [])) }
+{
+    text.push_str("select")?;
+    push_next_name(text, flag_name(target))?;
+    push_next_number(text, u32::from(action.get()))?;
+    push_next_name(text, mask_bank_name(bank))
+}
+
+/// Writes the name of a command, the covered half of a password and the handle.
+fn push_two_words(text: &mut String, name: &str, covered: u16, rn: u16) -> Result<(), OutOfMemory>
+    ensures { OnOk result (string_bytes text.new ≡ string_bytes text.old
+        ++ line_with (name.now ∷ hex_word covered ∷ hex_word rn ∷ [])) }
+{
+    push_named_word(text, name, covered)?;
+    push_next_word(text, rn)
 }

@@ -21,7 +21,10 @@ pub returns-in-ReqRn : goal.returns-in-ReqRn
 returns-in-ReqRn c =
     IfOk-equal _ _ _ _ c.push_named_word-in-ReqRn.ensures (ap (λ (command : Command). string_bytes c.args.text.now ++ command_line command) (sym c.in-ReqRn.is))
 
-pub returns-in_ok-push_named_word-in-Access : goal.returns-in_ok-push_named_word-in-Access
-returns-in_ok-push_named_word-in-Access c =
-    IfOk-equal _ _ _ _ c.push_next_word-in-Access.ensures
-    (front_and_name _ _ _ _ _ c.in_ok-push_named_word-in-Access.ensures refl ∙ ap (λ (command : Command). string_bytes c.args.text.now ++ command_line command) (sym c.in-Access.is))
+pub returns-in-Kill : goal.returns-in-Kill
+returns-in-Kill c =
+    IfOk-equal _ _ _ _ c.push_two_words.ensures (ap (λ (command : Command). string_bytes c.args.text.now ++ command_line command) (sym c.in-Kill.is))
+
+pub returns-in-Access : goal.returns-in-Access
+returns-in-Access c =
+    IfOk-equal _ _ _ _ c.push_two_words-in-Access.ensures (ap (λ (command : Command). string_bytes c.args.text.now ++ command_line command) (sym c.in-Access.is))
