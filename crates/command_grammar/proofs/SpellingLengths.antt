@@ -1,5 +1,5 @@
 -- How many bits a command takes.
-use Rattle.std.proofs.Common.{◌≡◌, ◌+◌, ◌≤◌, Bool, List, [], ◌∷◌, length, ap, arith, length-append}
+use Rattle.std.proofs.Common.{◌≡◌, ◌≤◌, Bool, List, [], ◌∷◌, length, ap, arith, length-append}
 use Rattle.bit_strings.specs.Family.{Begins}
 use Rattle.command_grammar.specs.declared.commands.Command.{Command}
 use Rattle.command_grammar.specs.Commands.{Part, bits_of, spelling_of, parts_of, IsLegalCommand, Spellings}

@@ -179,10 +179,7 @@ pub(crate) fn session_of(number: u32) -> Session
     requires { number ≤ 3 }
     ensures { result ≡ number }
 {
-    match Session::new(number as u8) {
-        Some(session) => session,
-        None => unreachable!(),
-    }
+    Session::new(number as u8).unwrap()
 }
 
 /// Q of this number.
@@ -190,10 +187,7 @@ pub(crate) fn q_of(number: u32) -> QValue
     requires { number ≤ 15 }
     ensures { result ≡ number }
 {
-    match QValue::new(number as u8) {
-        Some(q) => q,
-        None => unreachable!(),
-    }
+    QValue::new(number as u8).unwrap()
 }
 
 /// The action of this number.
@@ -201,10 +195,7 @@ pub(crate) fn action_of(number: u32) -> Action
     requires { number ≤ 7 }
     ensures { result ≡ number }
 {
-    match Action::new(number as u8) {
-        Some(action) => action,
-        None => unreachable!(),
-    }
+    Action::new(number as u8).unwrap()
 }
 
 /// The pointer to this place.
@@ -212,10 +203,7 @@ pub(crate) fn pointer_of(number: u32) -> Pointer
     requires { number < 2 ^ 28 }
     ensures { result ≡ number }
 {
-    match Pointer::new(number) {
-        Some(pointer) => pointer,
-        None => unreachable!(),
-    }
+    Pointer::new(number).unwrap()
 }
 
 /// The payload of a Lock whose 20 bits are this number.
@@ -223,10 +211,7 @@ pub(crate) fn payload_of(number: u32) -> Payload
     requires { number < 2 ^ 20 }
     ensures { result ≡ number }
 {
-    match Payload::new(number) {
-        Some(payload) => payload,
-        None => unreachable!(),
-    }
+    Payload::new(number).unwrap()
 }
 
 /// The number of words of a BlockErase.
@@ -235,8 +220,5 @@ pub(crate) fn count_of(number: u32) -> Count1
     requires few { number ≤ 255 }
     ensures { result ≡ number }
 {
-    match Count1::new(number as u8) {
-        Some(count) => count,
-        None => unreachable!(),
-    }
+    Count1::new(number as u8).unwrap()
 }
