@@ -101,63 +101,44 @@ pub(crate) fn take_number(field: NumberField, value: u32, fields: &mut Fields) -
     ensures sound { IsSoundNext result fields.new }
 {
     match field {
-        NumberField::Session => {
-            fields.session = session_of(value);
-            Next::Done
-        }
-        NumberField::Q => {
-            fields.q = q_of(value);
-            Next::Done
-        }
-        NumberField::Action => {
-            fields.action = action_of(value);
-            Next::Done
-        }
-        NumberField::Count => {
-            fields.count = value as u8;
-            Next::Done
-        }
+        NumberField::Session => fields.session = session_of(value),
+        NumberField::Q => fields.q = q_of(value),
+        NumberField::Action => fields.action = action_of(value),
+        NumberField::Count => fields.count = value as u8,
+        NumberField::Covered => fields.covered = value as u16,
+        NumberField::Payload => fields.payload = payload_of(value),
+        NumberField::Rn => fields.rn = value as u16,
         NumberField::WordCount => {
             if value == 0 {
                 return Next::Refused(Reason::Count);
             }
             fields.word_count = count_of(value);
-            Next::Done
-        }
-        NumberField::Covered => {
-            fields.covered = value as u16;
-            Next::Done
-        }
-        NumberField::Payload => {
-            fields.payload = payload_of(value);
-            Next::Done
-        }
-        NumberField::Rn => {
-            fields.rn = value as u16;
-            Next::Done
         }
         NumberField::MaskLength => {
             fields.mask = Mask::new();
-            if value == 0 {
-                return Next::Done;
+            if value > 0 {
+                return Next::Stay(Stage::Mask(value - 1));
             }
-            Next::Stay(Stage::Mask(value - 1))
         }
         NumberField::WordsLength => {
             if value == 0 {
                 return Next::Refused(Reason::Count);
             }
-            Next::Stay(Stage::Number(NumberField::FirstWord(value - 1), NumberFront::of(16)))
+            return Next::Stay(Stage::Number(
+                NumberField::FirstWord(value - 1),
+                NumberFront::of(16),
+            ));
         }
         NumberField::FirstWord(left) => {
             fields.words = BlockWords::first(value as u16);
-            next_word(left)
+            return next_word(left);
         }
         NumberField::Word(left) => {
             fields.words.push_reserved(value as u16);
-            next_word(left)
+            return next_word(left);
         }
     }
+    Next::Done
 }
 
 /// What follows a word of a BlockWrite: its next word, or the end of the block where no word is left.
