@@ -1,5 +1,4 @@
 pub mod CheckNumbers
-pub mod FieldLengths
 pub mod OneField
 pub mod SpellingLaws
 pub mod SpellingLengths

@@ -1,4 +1,4 @@
--- What is said of one command alone, a row for each: its fields are read in order, it is read again from its spelling, and how many bits it takes.
+-- What is said of one command alone, a row for each: its fields are read in order, and it is read again from its spelling.
 use Rattle.std.proofs.Common.{◌≡◌, ℕ, ◌≤◌, Bool, false, List, [], ◌∷◌, ◌++◌, length, refl, ap, arith}
 use Rattle.std.specs.Prelude.{Some, None, ◌==◌}
 use Rattle.std.proofs.lemmas.Bool.Decides.{nat_tests}
@@ -26,9 +26,6 @@ use Rattle.command_grammar.proofs.reading.NumberFields.{bit_field, bits_field}
 use Rattle.command_grammar.proofs.reading.WordFields.{words_field}
 use Rattle.command_grammar.proofs.reading.NamedFields.{kind_field, m_field, sel_field, query_target_field, updn_field, select_target_field, mask_bank_field, bank_field}
 use Rattle.command_grammar.proofs.reading.FieldsInOrder.{part, ReadsOn, reads_whole, same_then, reads_crc5_then, reads_crc16_then, Goes, goes_whole, goes_then, goes_same, goes_crc5, goes_crc16}
-use Rattle.bit_strings.specs.laws.Words.{length-bits_of_words}
-use Rattle.gen2_crc.specs.laws.CheckNumbers.{length-crc5_of, length-crc16_of}
-use Rattle.command_grammar.proofs.FieldLengths.{m_two, sel_two, query_target_one, updn_three, select_target_three, mask_bank_two, bank_two, length-ebv_of, size_of}
 use Rattle.command_grammar.proofs.reading.EachField.{number_then, pointer_then, count_then, mask_then, words_then, goes_number, goes_pointer, goes_count}
 
 -- ---- the fields of each command
@@ -184,24 +181,3 @@ goes_command (commands.BlockErase bank pointer count rn) legal =
     goes_pointer _ _ _ _ pointer legal.0 (
     goes_count _ _ _ _ count legal.1 legal.2 (
     goes_number 16 _ _ _ _ rn legal.3 (goes_crc16 _ _ _ _ (goes_whole _ _))))))
-
--- ---- how many bits each takes
-
-pub small_size : (command : Command) → IsLegalCommand command → size_of (parts_of command) ≤ 4162
-small_size (commands.QueryRep session) legal = omega (arith, length-field_of session 2)
-small_size (commands.Ack rn) legal = omega (arith, length-field_of rn 16)
-small_size (commands.Query dr m trext sel session target q) legal =
-    omega (arith, m_two m, sel_two sel, query_target_one target, length-field_of session 2, length-field_of q 4, length-crc5_of)
-small_size (commands.QueryAdjust session updn) legal = omega (arith, length-field_of session 2, updn_three updn)
-small_size (commands.Select target action bank pointer mask) legal =
-    omega (arith, select_target_three target, mask_bank_two bank, length-field_of action 3, length-field_of (length mask) 8, length-ebv_of pointer legal.1, legal.2, length-crc16_of)
-small_size commands.Nak legal = omega arith
-small_size (commands.ReqRn rn) legal = omega (arith, length-field_of rn 16, length-crc16_of)
-small_size (commands.Read bank pointer count rn) legal = omega (arith, bank_two bank, length-ebv_of pointer legal.0, length-field_of count 8, length-field_of rn 16, length-crc16_of)
-small_size (commands.Write bank pointer covered rn) legal = omega (arith, bank_two bank, length-ebv_of pointer legal.0, length-field_of covered 16, length-field_of rn 16, length-crc16_of)
-small_size (commands.Kill covered rn) legal = omega (arith, length-field_of covered 16, length-field_of rn 16, length-crc16_of)
-small_size (commands.Lock payload rn) legal = omega (arith, length-field_of payload 20, length-field_of rn 16, length-crc16_of)
-small_size (commands.Access covered rn) legal = omega (arith, length-field_of covered 16, length-field_of rn 16, length-crc16_of)
-small_size (commands.BlockWrite bank pointer words rn) legal =
-    omega (arith, bank_two bank, length-ebv_of pointer legal.0, length-field_of (length words) 8, length-bits_of_words words, legal.2, length-field_of rn 16, length-crc16_of)
-small_size (commands.BlockErase bank pointer count rn) legal = omega (arith, bank_two bank, length-ebv_of pointer legal.0, length-field_of count 8, length-field_of rn 16, length-crc16_of)

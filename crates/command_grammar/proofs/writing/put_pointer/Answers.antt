@@ -1,7 +1,7 @@
 use Rattle.std.proofs.Common.{◌≡◌, ◌≤◌, ◌++◌, ◌∙◌, List, Bool, ap, length, length-append, arith}
 use Rattle.bit_strings.specs.BitString.{BitString}
 use Rattle.bit_strings.specs.Ebv.{ebv_of}
-use Rattle.command_grammar.proofs.FieldLengths.{length-ebv_of}
+use Rattle.command_grammar.proofs.SpellingLengths.{length-ebv_of}
 use Rattle.command_grammar.proofs.writing.put_pointer.Goals as goal
 
 pub returns-clause-items : goal.returns-clause-items
