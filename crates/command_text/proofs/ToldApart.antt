@@ -24,7 +24,6 @@ use Rattle.command_fields.specs.declared.choices.FlagName.{FlagName}
 use Rattle.command_fields.specs.declared.choices.FlagName.TheVariants as flags
 use Rattle.command_grammar.specs.Commands.{IsWord, all_kinds}
 use Rattle.command_grammar.specs.declared.kinds.CommandKind.{CommandKind}
-use Rattle.command_grammar.specs.declared.commands.Command.TheVariants.{BlockWrite}
 use Rattle.command_text.specs.NameLists.{EachFound, command_found}
 use Rattle.command_text.proofs.NameLists.{told}
 use Rattle.command_text.specs.CommandText.{bank_word, command_name, flag_word, mask_bank_word, payload_digits, sel_word, side_word, updn_word}
