@@ -3,7 +3,7 @@ ghost use Rattle.std.specs.Prelude.{IfOk};
 ghost use Rattle.scenario.specs.Limits.{IsScenario};
 
 use scenario::Scenario;
-use scenario_text::{ScenarioFault, print_and_read, print_scenario, read_and_print, read_scenario};
+use scenario_text::{Unread, print_and_read, print_scenario, read_and_print, read_scenario};
 use std::alloc::Global;
 
 /// One tag, and a round of one slot.
@@ -72,7 +72,7 @@ end
 ";
 
 /// The scenario that is read from what is written of the one that is read from a text.
-fn read_twice(alloc: Global, text: &[u8]) -> Result<Scenario, ScenarioFault>
+fn read_twice(alloc: Global, text: &[u8]) -> Result<Scenario, Unread>
     ensures { IfOk result IsScenario }
 {
     let scenario = read_scenario(alloc, text)?;
@@ -80,7 +80,7 @@ fn read_twice(alloc: Global, text: &[u8]) -> Result<Scenario, ScenarioFault>
 }
 
 /// Whether a text is what is written of that, and what is written where it is read once.
-fn comes_back(alloc: Global, text: &[u8]) -> Result<bool, ScenarioFault> {
+fn comes_back(alloc: Global, text: &[u8]) -> Result<bool, Unread> {
     let once = read_and_print(alloc, text)?;
     let scenario = read_twice(alloc, text)?;
     let twice = print_scenario(alloc, &scenario)?;

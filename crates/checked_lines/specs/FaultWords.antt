@@ -3,7 +3,7 @@ use Rattle.std.specs.Prelude.{ℕ, List, codes}
 use Rattle.text_fields.specs.declared.fields_fault.FieldsFault.{FieldsFault}
 use Rattle.text_fields.specs.declared.fields_fault.FieldsFault.TheVariants as fields
 use Rattle.checked_lines.specs.declared.fault.FaultReason.{FaultReason}
-use Rattle.checked_lines.specs.declared.fault.FaultReason.TheVariants.{Extra, End, Version, Word, Order, Limit, Shape, Number, Pc}
+use Rattle.checked_lines.specs.declared.fault.FaultReason.TheVariants.{Extra, End, Version, Word, Order, Limit, Shape, Number, Tari, RtCal, TrCal, Pw, Pc, Copies, Tag, Twice}
 
 -- the reason of a line's fields
 abbrev pub reason_of : FieldsFault → FaultReason
@@ -21,4 +21,11 @@ reason_word Order = codes "order"
 reason_word Limit = codes "limit"
 reason_word Shape = codes "shape"
 reason_word Number = codes "number"
+reason_word Tari = codes "tari"
+reason_word RtCal = codes "rtcal"
+reason_word TrCal = codes "trcal"
+reason_word Pw = codes "pw"
 reason_word Pc = codes "pc"
+reason_word Copies = codes "copies"
+reason_word Tag = codes "tag"
+reason_word Twice = codes "twice"

@@ -5,6 +5,8 @@ use Rattle.text_fields.specs.FaultLine.{fault_line}
 use Rattle.text_fields.specs.Lines.{lines_of}
 use Rattle.checked_lines.specs.FaultWords.{reason_word}
 use Rattle.checked_lines.specs.declared.fault.FaultReason.{FaultReason}
+use Rattle.checked_lines.specs.declared.fault.Unread.{Unread}
+use Rattle.checked_lines.specs.declared.fault.Unread.TheVariants as unread
 
 -- The rules of such texts: a standing is where a text stands behind some of its lines, and a reason is why a line is faulty.
 pub record TextRules (Standing Reason : Type 0) : Type 1 where
@@ -68,3 +70,8 @@ pub record IsFaultText {S : Type 0} (rules : TextRules S FaultReason) (bytes tex
   pub reason : FaultReason
   pub first : IsFirstFault rules bytes number reason
   pub line : text ≡ fault_line number (reason_word reason)
+
+-- why nothing is read of the bytes: by these rules this is their first faulty line, or there was no memory
+abbrev pub IsUnread : {S : Type 0} → TextRules S FaultReason → List ℕ → Unread → Type 0
+IsUnread rules bytes (unread.Line fault) = IsFirstFault rules bytes fault.line fault.reason
+IsUnread rules bytes unread.OutOfMemory = Unit {0}

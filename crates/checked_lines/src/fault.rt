@@ -4,11 +4,11 @@ ghost use Rattle.checked_lines.specs.FaultWords.{reason_word};
 ghost use Rattle.text_fields.specs.FaultLine.{fault_line};
 
 use arrayvec::ArrayVec;
+use bit_strings::OutOfMemory;
 use text_fields::{FieldsFault, fault_line};
 use thiserror::Error;
 
-/// Why a line of a text is refused. Which of these a text gives, and in which order it looks for them, its rules say; in all
-/// texts that are checked here it is the order in which they stand.
+/// Why a line of a text is refused. Which of these a text gives, and in which order it looks for them, its rules say.
 #[derive(Clone, Copy, Debug, PartialEq, Eq, Error)]
 pub enum FaultReason {
     /// Bytes stand behind the last line.
@@ -24,8 +24,8 @@ pub enum FaultReason {
     /// there and is the name of none.
     #[error("no line of this text begins so here, or a field is there and is no name")]
     Word,
-    /// It stands where another line has to stand.
-    #[error("another line has to stand here")]
+    /// It stands where another line has to stand, or behind one that it has to stand before.
+    #[error("another line has to stand here, or stands before it")]
     Order,
     /// It is one line too many.
     #[error("it is one too many")]
@@ -36,9 +36,30 @@ pub enum FaultReason {
     /// A field isn't of its form, range or length.
     #[error("a field is not of its form, range or length")]
     Number,
+    /// The Tari of the link is out of its range (6.3.1.2.4 of the standard).
+    #[error("the Tari of the link is out of its range")]
+    Tari,
+    /// The RTcal of the link is out of its range (6.3.1.2.8).
+    #[error("the RTcal of the link is out of its range")]
+    RtCal,
+    /// The TRcal of the link is out of its range (6.3.1.2.8).
+    #[error("the TRcal of the link is out of its range")]
+    TrCal,
+    /// The PW of the link is out of its range (Table 6.5).
+    #[error("the PW of the link is out of its range")]
+    Pw,
     /// The EPC that the PC of the tag announces passes its bank (6.3.2.1.2.2).
     #[error("the EPC that the PC announces passes its bank")]
     Pc,
+    /// The copies of a tag have no EPC to differ in, or there are too many of them.
+    #[error("the copies have no EPC to differ in, or there are too many of them")]
+    Copies,
+    /// There is no tag of the number that is named.
+    #[error("there is no tag of this number")]
+    Tag,
+    /// It is a second choice for its exchange.
+    #[error("it is a second choice for its exchange")]
+    Twice,
 }
 
 impl From<FieldsFault> for FaultReason {
@@ -66,6 +87,46 @@ pub struct FaultyLine {
     pub reason: FaultReason,
 }
 
+/// Why nothing is read of a text.
+#[derive(Clone, Copy, Debug, PartialEq, Eq, Error)]
+pub enum Unread {
+    /// This is its first faulty line.
+    #[error("{0}")]
+    Line(FaultyLine),
+    /// There was no memory.
+    #[error("there was no memory")]
+    OutOfMemory,
+}
+
+impl From<FaultyLine> for Unread {
+    ghost use Rattle.std.specs.Prelude.{◌≡◌};
+    ghost use Rattle.checked_lines.specs.declared.fault.Unread.TheVariants.{Line};
+
+    ghost from_gives = { λ fault unread. unread ≡ Line fault };
+
+    fn from(fault: FaultyLine) -> Unread {
+        Unread::Line(fault)
+    }
+}
+
+impl From<OutOfMemory> for Unread {
+    ghost use Rattle.std.specs.Prelude.{◌≡◌};
+    ghost use Rattle.checked_lines.specs.declared.fault.Unread.TheVariants.{OutOfMemory};
+
+    ghost from_gives = { λ _ unread. unread ≡ OutOfMemory };
+
+    fn from(_none: OutOfMemory) -> Unread {
+        Unread::OutOfMemory
+    }
+}
+
+/// No line is read further than this one, for this reason.
+pub fn unread_at(line: u32, reason: FaultReason) -> Unread
+    ensures { result ≡ Unread.Line (record { line = line; reason = reason }) }
+{
+    Unread::Line(FaultyLine { line, reason })
+}
+
 /// The line that reports a fault. It takes no memory.
 pub fn fault_text(fault: FaultyLine) -> ArrayVec<u8, 32>
     ensures { result.items ≡ fault_line fault.line (reason_word fault.reason) }
@@ -87,6 +148,13 @@ fn reason_word(reason: FaultReason) -> &'static str
         FaultReason::Limit => "limit",
         FaultReason::Shape => "shape",
         FaultReason::Number => "number",
+        FaultReason::Tari => "tari",
+        FaultReason::RtCal => "rtcal",
+        FaultReason::TrCal => "trcal",
+        FaultReason::Pw => "pw",
         FaultReason::Pc => "pc",
+        FaultReason::Copies => "copies",
+        FaultReason::Tag => "tag",
+        FaultReason::Twice => "twice",
     }
 }

@@ -6,5 +6,5 @@
 mod fault;
 mod heard_fields;
 
-pub use fault::{FaultReason, FaultyLine, fault_text};
+pub use fault::{FaultReason, FaultyLine, Unread, fault_text, unread_at};
 pub use heard_fields::heard_as;

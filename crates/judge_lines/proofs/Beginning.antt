@@ -5,12 +5,12 @@ use Rattle.probe_lines.specs.ProbeLine.{SpellsTag}
 use Rattle.scenario_lines.specs.declared.tag.TagSpec.{TagSpec}
 use Rattle.text_fields.specs.Lines.{fields_of, lines_of}
 use Rattle.judge_lines.specs.Judged.{IsNoTagFor, IsRefusedFor}
-use Rattle.judge_lines.specs.declared.judging.Refusal.{Refusal}
-use Rattle.judge_lines.specs.declared.judging.Refusal.TheVariants.{Line, OutOfMemory}
 use Rattle.judge_lines.specs.LogText.{IsFaultyTag, IsFirstLogFault, begun, log_rules, logged_tag, start, log_version_line, with_word, within}
 use Rattle.judge_lines.specs.Reading.{HasReadLog}
 use Rattle.checked_lines.specs.declared.fault.FaultReason.{FaultReason}
 use Rattle.checked_lines.specs.declared.fault.FaultReason.TheVariants.{End, Version}
+use Rattle.checked_lines.specs.declared.fault.Unread.{Unread}
+use Rattle.checked_lines.specs.declared.fault.Unread.TheVariants.{Line, OutOfMemory}
 
 -- a line is missing
 pub first_wanted : (bytes : List ℕ) → lines_of bytes ≡ bytes ∷ [] → IsFirstLogFault bytes 1 End
@@ -39,7 +39,7 @@ tag_read bytes rest line behind tag so_far cut spells =
     (record { tag = tag; spells = spells; leads = refl })
 
 -- the line of the tag is faulty, or there was no memory
-pub no_tag : (bytes rest line behind : List ℕ) (refusal : Refusal) → HasReadTo log_rules start 1 (lines_of bytes) begun 2 (lines_of rest) → lines_of rest ≡ line ∷ lines_of behind
+pub no_tag : (bytes rest line behind : List ℕ) (refusal : Unread) → HasReadTo log_rules start 1 (lines_of bytes) begun 2 (lines_of rest) → lines_of rest ≡ line ∷ lines_of behind
     → IsNoTagFor (fields_of line) refusal → IsRefusedFor bytes refusal
 no_tag bytes rest line behind (Line fault) so_far cut told =
     subst (λ (number : ℕ). IsFirstLogFault bytes number fault.reason) (sym told.0) (second_faulty bytes rest line behind fault.reason so_far cut told.1)

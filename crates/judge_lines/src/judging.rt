@@ -11,8 +11,7 @@ ghost use Rattle.judge_lines.specs.Reading.{HasReadLog};
 
 use crate::entry::{Rooms, SaidEntry, read_entry};
 use crate::tag_line::read_logged_tag;
-use bit_strings::OutOfMemory;
-use checked_lines::{FaultReason, FaultyLine};
+use checked_lines::{FaultReason, Unread, unread_at};
 use log_judge::{Judge, Verdict};
 use scenario_lines::{TagSpec, tag_lines_fit_memories};
 use std::alloc::Global;
@@ -20,44 +19,6 @@ use std::marker::Brand;
 use std::sync::ledger::{Blank, Ledger};
 use tag_machine::Steps;
 use text_fields::split_line;
-
-/// Why a text has no verdict.
-#[derive(Clone, Copy, Debug, PartialEq, Eq)]
-pub enum Refusal {
-    /// It is no log: this is its first faulty line.
-    Line(FaultyLine),
-    /// There was no memory.
-    OutOfMemory,
-}
-
-impl From<OutOfMemory> for Refusal {
-    ghost use Rattle.std.specs.Prelude.{◌≡◌};
-    ghost use Rattle.judge_lines.specs.declared.judging.Refusal.TheVariants.{OutOfMemory};
-
-    ghost from_gives = { λ _ refusal. refusal ≡ OutOfMemory };
-
-    fn from(_none: OutOfMemory) -> Refusal {
-        Refusal::OutOfMemory
-    }
-}
-
-impl From<FaultyLine> for Refusal {
-    ghost use Rattle.std.specs.Prelude.{◌≡◌};
-    ghost use Rattle.judge_lines.specs.declared.judging.Refusal.TheVariants.{Line};
-
-    ghost from_gives = { λ fault refusal. refusal ≡ Line fault };
-
-    fn from(fault: FaultyLine) -> Refusal {
-        Refusal::Line(fault)
-    }
-}
-
-/// A fault of the line of this number.
-fn fault_at(line: u32, reason: FaultReason) -> Refusal
-    ensures { result ≡ Refusal.Line (record { line = line; reason = reason }) }
-{
-    Refusal::Line(FaultyLine { line, reason })
-}
 
 /// Whether a line is the first one of a log.
 fn is_version(line: &[u8]) -> bool
@@ -67,26 +28,26 @@ fn is_version(line: &[u8]) -> bool
 }
 
 /// The tag that a text tells, and what stands behind its line.
-fn read_tag(alloc: Global, text: &[u8]) -> Result<(TagSpec, &[u8]), Refusal>
+fn read_tag(alloc: Global, text: &[u8]) -> Result<(TagSpec, &[u8]), Unread>
     ensures ok { IfOk result
         (λ it. HasReadLog text.now (logged_tag it.0) [] (lines_of it.1.now) × IsTag it.0) }
     ensures refused { IfErr result (IsRefusedFor text.now) }
 {
     let Some((line, behind)) = split_line(text) else {
-        return Err(fault_at(1, FaultReason::End));
+        return Err(unread_at(1, FaultReason::End));
     };
     if !is_version(line) {
-        return Err(fault_at(1, FaultReason::Version));
+        return Err(unread_at(1, FaultReason::Version));
     }
     let Some((line, behind)) = split_line(behind) else {
-        return Err(fault_at(2, FaultReason::End));
+        return Err(unread_at(2, FaultReason::End));
     };
     let tag = read_logged_tag(alloc, line)?;
     Ok((tag, behind))
 }
 
 /// A judge that has heard nothing of the log that a text says, the room for its entries, and what stands behind the line of the tag.
-fn begin(alloc: Global, text: &[u8]) -> Result<(Judge, Rooms, &[u8]), Refusal>
+fn begin(alloc: Global, text: &[u8]) -> Result<(Judge, Rooms, &[u8]), Unread>
     ensures ok { IfOk result
         (λ it. (tag : LoggedTag) × HasReadLog text.now tag [] (lines_of it.2.now)
         × HasHeard tag [] it.0) }
@@ -101,7 +62,7 @@ fn begin(alloc: Global, text: &[u8]) -> Result<(Judge, Rooms, &[u8]), Refusal>
 }
 
 /// What is judged of the log that a text says. The blank is for the counter of steps.
-fn judge_text<L: Ledger>(blank: Blank, alloc: Global, text: &[u8]) -> Result<Verdict, Refusal>
+fn judge_text<L: Ledger>(blank: Blank, alloc: Global, text: &[u8]) -> Result<Verdict, Unread>
     requires name { blank.name ≡ L.name }
     requires parts { blank.parts ≡ L.parts }
     requires one { blank.parts ≡ 1 }
@@ -130,7 +91,7 @@ fn judge_text<L: Ledger>(blank: Blank, alloc: Global, text: &[u8]) -> Result<Ver
 ///
 /// - `Line`: the first faulty line, counted from 1, with the first reason that applies to it.
 /// - `OutOfMemory`: there was no memory.
-pub fn judge_log(alloc: Global, text: &[u8]) -> Result<Verdict, Refusal>
+pub fn judge_log(alloc: Global, text: &[u8]) -> Result<Verdict, Unread>
     ensures ok { IfOk result (λ verdict. IsJudged text.now (verdict_in verdict)) }
     ensures refused { IfErr result (IsRefusedFor text.now) }
 {

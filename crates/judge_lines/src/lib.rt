@@ -10,8 +10,8 @@ mod printing;
 mod reading;
 mod tag_line;
 
-pub use checked_lines::{FaultReason, FaultyLine, fault_text};
-pub use judging::{Refusal, judge_log};
+pub use checked_lines::{FaultReason, FaultyLine, Unread, fault_text};
+pub use judging::judge_log;
 pub use laws::{
     log_texts_are_not_faulty, log_texts_have_one_fault, log_texts_have_one_verdict,
     logs_are_told_apart, texts_are_logs_or_faulty,

@@ -5,8 +5,7 @@ ghost use Rattle.text_fields.specs.Lines.{fields_of};
 ghost use Rattle.judge_lines.specs.Judged.{IsNoTagFor};
 ghost use Rattle.judge_lines.specs.LogText.{with_word};
 
-use crate::judging::Refusal;
-use checked_lines::FaultyLine;
+use checked_lines::{Unread, unread_at};
 use probe_lines::read_tag_line;
 use scenario_lines::TagSpec;
 use std::alloc::Global;
@@ -18,7 +17,7 @@ use std::alloc::Global;
 ///
 /// - `Line`: the first reason for which it says none.
 /// - `OutOfMemory`: there was no memory.
-pub(crate) fn read_logged_tag(alloc: Global, line: &[u8]) -> Result<TagSpec, Refusal>
+pub(crate) fn read_logged_tag(alloc: Global, line: &[u8]) -> Result<TagSpec, Unread>
     ensures ok { IfOk result (λ tag. SpellsTag (with_word (fields_of line.now)) tag) }
     ensures refused { IfErr result (IsNoTagFor (fields_of line.now)) }
 {
@@ -26,6 +25,6 @@ pub(crate) fn read_logged_tag(alloc: Global, line: &[u8]) -> Result<TagSpec, Ref
     whole.extend_from_slice(b" 0000")?;
     match read_tag_line(whole.as_slice()) {
         Ok(tag) => Ok(tag.to_spec(alloc)?),
-        Err(reason) => Err(Refusal::Line(FaultyLine { line: 2, reason })),
+        Err(reason) => Err(unread_at(2, reason)),
     }
 }

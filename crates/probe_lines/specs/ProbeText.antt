@@ -4,8 +4,7 @@ use Rattle.text_fields.specs.Lines.{fields_of}
 use Rattle.text_fields.specs.declared.fields_fault.FieldsFault.TheVariants as reasons
 use Rattle.checked_lines.specs.TextRules.{TextRules, Faulty, Whole, HasOutcomeFrom, IsFirstFault, IsText}
 use Rattle.checked_lines.specs.declared.fault.FaultReason.{FaultReason}
-use Rattle.checked_lines.specs.declared.fault.FaultReason.TheVariants.{Extra, End, Version, Word, Limit, Shape, Number, Pc}
-use Rattle.scenario_lines.specs.declared.fault.LineFault.TheVariants as line_faults
+use Rattle.checked_lines.specs.declared.fault.FaultReason.TheVariants.{Extra, End, Version, Word, Limit, Shape, Number}
 use Rattle.scenario_lines.specs.declared.keywords.Keyword.TheVariants as keywords
 use Rattle.scenario_lines.specs.declared.tag.TagSpec.{TagSpec}
 use Rattle.scenario_lines.specs.Names.{keyword_text}
@@ -69,10 +68,7 @@ pub record BeginsAsTag (fields : List (List ℕ)) : Type 0 where
 -- the first reason for which the tag line of a probe says no tag
 abbrev pub IsFaultyTagLine : List (List ℕ) → FaultReason → Type 0
 IsFaultyTagLine fields Word = ¬ BeginsAsTag fields
-IsFaultyTagLine fields Shape = (begins : BeginsAsTag fields) × MisreadsTag begins.others line_faults.Shape
-IsFaultyTagLine fields Number = (begins : BeginsAsTag fields) × MisreadsTag begins.others line_faults.Number
-IsFaultyTagLine fields Pc = (begins : BeginsAsTag fields) × MisreadsTag begins.others line_faults.Pc
-IsFaultyTagLine fields fault = ⊥
+IsFaultyTagLine fields fault = (begins : BeginsAsTag fields) × MisreadsTag begins.others fault
 
 -- as many lines stand before it as may, and it isn't the end
 pub record IsStimulusTooMuch (count : ℕ) (fields : List (List ℕ)) : Type 0 where

@@ -1,12 +1,12 @@
 //! A probe, played: what the tag answers and what it is behind each line, written as it is made.
-ghost use Rattle.std.specs.Prelude.{◌≡◌, ◌<◌, ◌++◌, List, [], length, IfOk, IfErr, OnOk};
+ghost use Rattle.std.specs.Prelude.{◌≡◌, ◌<◌, ◌++◌, List, [], ◌∷◌, length, IfOk, IfErr, OnOk};
 ghost use Rattle.std.specs.String.{string_bytes};
 ghost use Rattle.air_io.specs.Flow.{Adds};
-ghost use Rattle.text_fields.specs.Lines.{text_with};
+ghost use Rattle.text_fields.specs.Lines.{line_feed, text_with};
 ghost use Rattle.scenario_lines.specs.TagForm.{IsTag};
 ghost use Rattle.tag_machine.specs.Hearing.{tag_value_of};
 ghost use Rattle.probe_lines.specs.Said.{Does, Hears, Stimulus, effect_with, stimulus_with};
-ghost use Rattle.probe_lines.specs.Answers.{last_text, probe_lines_behind, outcome_of_effect, probed_tag};
+ghost use Rattle.probe_lines.specs.Answers.{last_text, probe_lines_behind, outcome_of_effect, probed_tag, state_line};
 ghost use Rattle.probe_lines.specs.Played.{HasPlayed, WritesFrontOf, StopsIn, TellsNext};
 ghost use Rattle.probe_lines.specs.ProbeLine.{IsProbeLine};
 ghost use Rattle.probe_lines.specs.ProbeText.{AreStimuli};
@@ -90,6 +90,16 @@ impl Rooms {
         })
     }
 
+    /// What the tag is waits to be written. The tag is handed on.
+    fn tell_state(&mut self, number: u32, tag: AnyTag) -> Result<AnyTag, OutOfMemory>
+        ensures tag { IfOk result (λ it. tag_value_of it ≡ tag_value_of tag) }
+        ensures text { OnOk result (string_bytes self.new.text ≡ string_bytes self.old.text
+            ++ (state_line number (tag_value_of tag) ++ line_feed ∷ [])) }
+    {
+        push_state_line(&mut self.text, number, &tag)?;
+        Ok(tag)
+    }
+
     /// Lets the tag hear the command. What it answered and what it is then waits to be written.
     fn hear<L: Ledger>(
         &mut self,
@@ -140,15 +150,10 @@ impl Rooms {
     {
         match effect {
             SaidEffect::Hears => self.hear(number, tag, steps),
-            SaidEffect::Befalls(event) => {
-                let befallen = tag.event(event);
-                push_state_line(&mut self.text, number, &befallen)?;
-                Ok(befallen)
-            }
+            SaidEffect::Befalls(event) => self.tell_state(number, tag.event(event)),
             SaidEffect::Nothing => {
                 push_silence(&mut self.text, number)?;
-                push_state_line(&mut self.text, number, &tag)?;
-                Ok(tag)
+                self.tell_state(number, tag)
             }
         }
     }

@@ -15,7 +15,7 @@ use crate::line::{LineWord, SaidLine, SaidStimulus};
 use checked_lines::FaultReason;
 use command_grammar::Command;
 use command_text::read_command_to;
-use scenario_lines::{LineFault, TagText, read_tag};
+use scenario_lines::{TagText, read_tag};
 use text_fields::{Digits, Fields, FieldsFault, is_at_end, one_field};
 
 /// How many bits a `bits` line of a probe may have.
@@ -209,12 +209,5 @@ pub fn read_tag_line(line: &[u8]) -> Result<TagText<'_>, FaultReason>
     let Some(others) = behind_tag(line) else {
         return Err(FaultReason::Word);
     };
-    match read_tag(others) {
-        Ok(tag) => Ok(tag),
-        Err(LineFault::Shape) => Err(FaultReason::Shape),
-        Err(LineFault::Number) => Err(FaultReason::Number),
-        Err(LineFault::Pc) => Err(FaultReason::Pc),
-        // The fields of a tag have no other fault.
-        Err(_) => unreachable!(),
-    }
+    read_tag(others)
 }

@@ -4,8 +4,8 @@ use Rattle.text_fields.specs.NamedFields.{AreFilled}
 use Rattle.text_fields.proofs.FilledFields.{one_less, one_more}
 use Rattle.scenario_lines.specs.declared.tag.TagSpec.{TagSpec}
 use Rattle.scenario_lines.specs.declared.line.Line.TheVariants as lines
-use Rattle.scenario_lines.specs.declared.fault.LineFault.{LineFault}
-use Rattle.scenario_lines.specs.declared.fault.LineFault.TheVariants as faults
+use Rattle.checked_lines.specs.declared.fault.FaultReason.{FaultReason}
+use Rattle.checked_lines.specs.declared.fault.FaultReason.TheVariants as faults
 use Rattle.scenario_lines.specs.TagForm.{IsTagForm}
 use Rattle.scenario_lines.specs.Spelling.{tag_spec_fields}
 use Rattle.scenario_lines.specs.Reading.{Misreads, MisreadsCopies}
@@ -18,7 +18,7 @@ pub copies_filled : (field : List ℕ) (rest : List (List ℕ)) (tag : TagSpec) 
 copies_filled field rest tag filled spells form = one_more 7 field rest filled (rw spells (line_shape (lines.Tag tag) form))
 
 -- what the fields behind the number lack, those of copies lack
-pub copies_misread : (field : List ℕ) (rest : List (List ℕ)) (fault : LineFault) → field ≢ [] → Misreads (AreFilled 7) tag_spec_fields IsTagForm rest fault
+pub copies_misread : (field : List ℕ) (rest : List (List ℕ)) (fault : FaultReason) → field ≢ [] → Misreads (AreFilled 7) tag_spec_fields IsTagForm rest fault
     → MisreadsCopies (field ∷ rest) fault
 copies_misread field rest faults.Shape filled misread = λ are. misread (one_less 7 field rest are).1
 copies_misread field rest faults.Number filled misread =

@@ -9,8 +9,8 @@ use Rattle.scenario_lines.specs.declared.keywords.Keyword.{Keyword}
 use Rattle.scenario_lines.specs.declared.keywords.Keyword.TheVariants as keywords
 use Rattle.scenario_lines.specs.declared.line.Line.{Line}
 use Rattle.scenario_lines.specs.declared.line.Line.TheVariants as lines
-use Rattle.scenario_lines.specs.declared.fault.LineFault.{LineFault}
-use Rattle.scenario_lines.specs.declared.fault.LineFault.TheVariants.{Word as WordFault, Shape, Number, Tari, RtCal, TrCal, Pw, Pc}
+use Rattle.checked_lines.specs.declared.fault.FaultReason.{FaultReason}
+use Rattle.checked_lines.specs.declared.fault.FaultReason.TheVariants.{Word as WordFault, Shape, Number, Tari, RtCal, TrCal, Pw, Pc}
 use Rattle.scenario_lines.specs.Names.{keyword_text}
 use Rattle.scenario_lines.specs.LineForm.{HasForm, IsCoherent}
 use Rattle.scenario_lines.specs.LineFaults.{BeginsWithKeyword, BreaksLink, HasShape, IsFaultyLine, IsFaultyBehind, SpellsLine}
@@ -38,7 +38,7 @@ record Formed (fields : List (List ℕ)) : Type 0 where
   form : HasForm line
 
 -- the fields of the line don't agree with one another, for this reason
-abbrev Disagrees : Line → LineFault → Type 0
+abbrev Disagrees : Line → FaultReason → Type 0
 Disagrees (lines.Link link) fault =
     (refusal : LinkRefusal) × (fault ≡ link_fault refusal) × IsFirstBroken refusal link.tari link.rtcal link.trcal link.pw
 Disagrees (lines.Tag tag) fault = (fault ≡ Pc) × (pc_fits tag.image ≡ false)
@@ -46,7 +46,7 @@ Disagrees (lines.Copies count tag) fault = (fault ≡ Pc) × (pc_fits tag.image 
 Disagrees line fault = ⊥
 
 -- how far the fields go, and where they stop
-data Stops (fields : List (List ℕ)) (fault : LineFault) : Type 0 where
+data Stops (fields : List (List ℕ)) (fault : FaultReason) : Type 0 where
   unknown : fault ≡ WordFault → ¬ Begins fields → Stops fields fault
   unshaped : fault ≡ Shape → Begins fields → ¬ Shaped fields → Stops fields fault
   unformed : fault ≡ Number → Shaped fields → ¬ Formed fields → Stops fields fault
@@ -76,7 +76,7 @@ broken_once one refusals.RtCal tari rtcal trcal pw broken broken' = absurd (brok
 broken_once refusals.TrCal refusals.Pw tari rtcal trcal pw broken broken' = absurd (broken.2 broken'.2)
 broken_once refusals.Pw refusals.TrCal tari rtcal trcal pw broken broken' = absurd (broken'.2 broken.2)
 
-disagrees_once : (line : Line) (one other : LineFault) → Disagrees line one → Disagrees line other → one ≡ other
+disagrees_once : (line : Line) (one other : FaultReason) → Disagrees line one → Disagrees line other → one ≡ other
 disagrees_once (lines.Link link) one other broken broken' =
     broken.1 ∙ ap link_fault (broken_once broken.0 broken'.0 link.tari link.rtcal link.trcal link.pw broken.2 broken'.2) ∙ sym broken'.1
 disagrees_once (lines.Tag tag) one other broken broken' = broken.0 ∙ sym broken'.0
@@ -91,7 +91,7 @@ broken_illegal refusals.TrCal link broken legal = broken.2 legal.trcal_range
 broken_illegal refusals.Pw link broken legal = broken.3 legal.pw_range
 
 -- fields that don't agree with one another stand in no scenario
-disagrees_incoherent : (line : Line) (fault : LineFault) → Disagrees line fault → IsCoherent line → ⊥
+disagrees_incoherent : (line : Line) (fault : FaultReason) → Disagrees line fault → IsCoherent line → ⊥
 disagrees_incoherent (lines.Link link) fault broken coherent = broken_illegal broken.0 link broken.2 coherent
 disagrees_incoherent (lines.Tag tag) fault broken coherent = let e : false ≡ true = sym broken.1 ∙ coherent in cc
 disagrees_incoherent (lines.Copies count tag) fault broken coherent = let e : false ≡ true = sym broken.1 ∙ coherent in cc
@@ -100,7 +100,7 @@ disagrees_incoherent line fault broken coherent = broken
 formed_same : (fields : List (List ℕ)) (one other : Formed fields) → one.line ≡ other.line
 formed_same fields one other = line_told one.line other.line one.form other.form (sym one.spelling ∙ other.spelling)
 
-stops_once : (fields : List (List ℕ)) (one other : LineFault) → Stops fields one → Stops fields other → one ≡ other
+stops_once : (fields : List (List ℕ)) (one other : FaultReason) → Stops fields one → Stops fields other → one ≡ other
 stops_once fields one other (unknown is none) (unknown is' none') = is ∙ sym is'
 stops_once fields one other (unshaped is begins none) (unshaped is' begins' none') = is ∙ sym is'
 stops_once fields one other (unformed is shape none) (unformed is' shape' none') = is ∙ sym is'
@@ -153,7 +153,7 @@ tag_stop fields keywords.Copies others first breaks =
     apart (record { line = line; spelling = spelling; form = (breaks.number, breaks.form) }) (refl, breaks.broken)
 tag_stop fields keyword others first breaks = absurd breaks
 
-stop_of : (fields : List (List ℕ)) (fault : LineFault) → IsFaultyLine fields fault → Stops fields fault
+stop_of : (fields : List (List ℕ)) (fault : FaultReason) → IsFaultyLine fields fault → Stops fields fault
 stop_of fields WordFault faulty = unknown refl (λ begins. faulty begins.0 begins.1)
 stop_of fields Shape faulty =
     unshaped refl (faulty.keyword, record { others = faulty.others; first = faulty.first; kind = faulty.faulty.0 })
@@ -168,18 +168,19 @@ stop_of fields RtCal faulty = link_stop fields refusals.RtCal faulty.keyword fau
 stop_of fields TrCal faulty = link_stop fields refusals.TrCal faulty.keyword faulty.others faulty.first faulty.faulty
 stop_of fields Pw faulty = link_stop fields refusals.Pw faulty.keyword faulty.others faulty.first faulty.faulty
 stop_of fields Pc faulty = tag_stop fields faulty.keyword faulty.others faulty.first faulty.faulty
+stop_of fields fault faulty = absurd faulty.faulty
 
 -- fields that agree with one another stop nowhere
-goes_on : (fields : List (List ℕ)) (fault : LineFault) (formed : Formed fields) → IsCoherent formed.line → Stops fields fault → ⊥
+goes_on : (fields : List (List ℕ)) (fault : FaultReason) (formed : Formed fields) → IsCoherent formed.line → Stops fields fault → ⊥
 goes_on fields fault formed coherent (unknown is none) = none (begun fields (shape_of fields formed))
 goes_on fields fault formed coherent (unshaped is begins none) = none (shape_of fields formed)
 goes_on fields fault formed coherent (unformed is shape none) = none formed
 goes_on fields fault formed coherent (apart formed' broken) =
     disagrees_incoherent formed.line fault (subst (λ line. Disagrees line fault) (formed_same fields formed' formed) broken) coherent
 
-pub spelled_not_faulty : (fields : List (List ℕ)) (line : Line) (fault : LineFault) → SpellsLine fields line → IsFaultyLine fields fault → ⊥
+pub spelled_not_faulty : (fields : List (List ℕ)) (line : Line) (fault : FaultReason) → SpellsLine fields line → IsFaultyLine fields fault → ⊥
 spelled_not_faulty fields line fault spells faulty =
     goes_on fields fault (record { line = line; spelling = spells.spelling; form = spells.is.form }) spells.is.coherent (stop_of fields fault faulty)
 
-pub faulty_once : (fields : List (List ℕ)) (one other : LineFault) → IsFaultyLine fields one → IsFaultyLine fields other → one ≡ other
+pub faulty_once : (fields : List (List ℕ)) (one other : FaultReason) → IsFaultyLine fields one → IsFaultyLine fields other → one ≡ other
 faulty_once fields one other faulty faulty' = stops_once fields one other (stop_of fields one faulty) (stop_of fields other faulty')

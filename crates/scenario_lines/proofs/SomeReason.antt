@@ -13,8 +13,8 @@ use Rattle.scenario_lines.specs.declared.keywords.Keyword.TheVariants as keyword
 use Rattle.scenario_lines.specs.declared.tag.TagSpec.{TagSpec}
 use Rattle.scenario_lines.specs.declared.line.Line.{Line}
 use Rattle.scenario_lines.specs.declared.line.Line.TheVariants as lines
-use Rattle.scenario_lines.specs.declared.fault.LineFault.{LineFault}
-use Rattle.scenario_lines.specs.declared.fault.LineFault.TheVariants.{Word as WordFault, Shape, Number, Pc}
+use Rattle.checked_lines.specs.declared.fault.FaultReason.{FaultReason}
+use Rattle.checked_lines.specs.declared.fault.FaultReason.TheVariants.{Word as WordFault, Shape, Number, Pc}
 use Rattle.scenario_lines.specs.Names.{air_field_count, air_word, all_keywords, event_field_count, op_field_count, keyword_found, keyword_text}
 use Rattle.scenario_lines.specs.LineForm.{HasForm, IsCoherent, IsLinkForm}
 use Rattle.scenario_lines.specs.TagForm.{IsTagForm}
@@ -139,7 +139,7 @@ refusal_of link = elim (both (le_decided 6250 link.tari) (le_decided link.tari 2
 
 -- what fields with a first field say
 abbrev SaysOrIsFaulty : List (List ℕ) → Type 0
-SaysOrIsFaulty fields = ((line : Line) × SpellsLine fields line) ⊎ ((fault : LineFault) × IsFaultyLine fields fault)
+SaysOrIsFaulty fields = ((line : Line) × SpellsLine fields line) ⊎ ((fault : FaultReason) × IsFaultyLine fields fault)
 
 link_breaks : (fields : List (List ℕ)) (refusal : LinkRefusal) (link : LinkValue) → fields ≡ line_fields (lines.Link link) → IsLinkForm link
     → IsFirstBroken refusal link.tari link.rtcal link.trcal link.pw → IsFaultyLine fields (link_fault refusal)
@@ -199,7 +199,7 @@ behind_or_not fields keyword others first known = elim (shape_decided keyword ot
 ]
 
 -- fields spell a line, or are faulty for some reason
-pub some_reason : (fields : List (List ℕ)) → ((line : Line) × SpellsLine fields line) ⊎ ((fault : LineFault) × IsFaultyLine fields fault)
+pub some_reason : (fields : List (List ℕ)) → ((line : Line) × SpellsLine fields line) ⊎ ((fault : FaultReason) × IsFaultyLine fields fault)
 some_reason fields = elim (some_keyword fields) [
   | inr none ↦ inr (WordFault, none)
   | inl found ↦ behind_or_not fields found.0 found.1.others found.1.first found.1.kind

@@ -13,8 +13,8 @@ use Rattle.scenario_lines.specs.declared.keywords.EventKind.{EventKind}
 use Rattle.scenario_lines.specs.declared.keywords.OpKind.{OpKind}
 use Rattle.scenario_lines.specs.declared.keywords.AirKind.{AirKind}
 use Rattle.scenario_lines.specs.declared.line.Line.{Line}
-use Rattle.scenario_lines.specs.declared.fault.LineFault.{LineFault}
-use Rattle.scenario_lines.specs.declared.fault.LineFault.TheVariants.{Word as WordFault, Shape, Number, Tari, RtCal, TrCal, Pw, Pc}
+use Rattle.checked_lines.specs.declared.fault.FaultReason.{FaultReason}
+use Rattle.checked_lines.specs.declared.fault.FaultReason.TheVariants.{Word as WordFault, Shape, Number, Tari, RtCal, TrCal, Pw, Pc}
 use Rattle.scenario_lines.specs.Names.{keyword_text, event_word, event_field_count, op_word, op_field_count, air_word, air_field_count}
 use Rattle.scenario_lines.specs.TagForm.{IsTagForm}
 use Rattle.scenario_lines.specs.LineForm.{IsLinkForm, IsCopyCount, HasForm, IsLine}
@@ -77,7 +77,7 @@ pub record BreaksPcOfCopies (others : List (List ℕ)) : Type 0 where
   pub broken : pc_fits tag.image ≡ false
 
 -- the first reason for which the fields behind a first field say nothing
-abbrev pub IsFaultyBehind : Keyword → List (List ℕ) → LineFault → Type 0
+abbrev pub IsFaultyBehind : Keyword → List (List ℕ) → FaultReason → Type 0
 -- a kind is there, and is none of the kinds
 IsFaultyBehind keyword others WordFault = ¬ HasKnownKind keyword others
 -- the number of fields is wrong, or one is empty
@@ -95,14 +95,14 @@ IsFaultyBehind keywords.Copies others Pc = BreaksPcOfCopies others
 IsFaultyBehind keyword others fault = ⊥
 
 -- a line with this keyword is spelled wrongly
-pub record Misspells (fields : List (List ℕ)) (fault : LineFault) : Type 0 where
+pub record Misspells (fields : List (List ℕ)) (fault : FaultReason) : Type 0 where
   pub keyword : Keyword
   pub others : List (List ℕ)
   pub first : fields ≡ keyword_text keyword ∷ others
   pub faulty : IsFaultyBehind keyword others fault
 
 -- the first reason for which the fields of a line say nothing, whatever the lines before it say
-abbrev pub IsFaultyLine : List (List ℕ) → LineFault → Type 0
+abbrev pub IsFaultyLine : List (List ℕ) → FaultReason → Type 0
 -- no keyword of a scenario stands at their head, with a kind that is known where a kind is there
 IsFaultyLine fields WordFault = (keyword : Keyword) → ¬ BeginsWithKeyword fields keyword
 IsFaultyLine fields fault = Misspells fields fault

@@ -8,7 +8,7 @@ ghost use Rattle.scenario_lines.specs.declared.tag.TagSpec.{TagSpec};
 ghost use Rattle.scenario_lines.specs.TagForm.{IsTag};
 ghost use Rattle.scenario_lines.specs.declared.keywords.Keyword.{Keyword};
 ghost use Rattle.scenario_lines.specs.declared.line.Line.{Line};
-ghost use Rattle.scenario_lines.specs.declared.fault.LineFault.{LineFault};
+ghost use Rattle.checked_lines.specs.declared.fault.FaultReason.{FaultReason};
 ghost use Rattle.scenario_lines.specs.LineForm.{IsLine};
 ghost use Rattle.scenario_lines.specs.LineFaults.{BeginsWithKeyword, IsFaultyLine, SpellsLine};
 ghost use Rattle.scenario_lines.specs.Spelling.{line_fields, keyword_of};
@@ -39,26 +39,26 @@ pub fn lines_begin_with_one_keyword()
 
 /// Fields that spell a line are not faulty.
 pub fn spelled_lines_are_not_faulty()
-    ensures { (fields : List (List ℕ)) (line : Line) (fault : LineFault) → SpellsLine fields line
+    ensures { (fields : List (List ℕ)) (line : Line) (fault : FaultReason) → SpellsLine fields line
         → IsFaultyLine fields fault → ⊥ }
 {}
 
 /// As a line of a scenario, fields are faulty for at most one reason.
 pub fn lines_have_one_fault()
-    ensures { (fields : List (List ℕ)) (one other : LineFault) → IsFaultyLine fields one
+    ensures { (fields : List (List ℕ)) (one other : FaultReason) → IsFaultyLine fields one
         → IsFaultyLine fields other → one ≡ other }
 {}
 
 /// Fields begin with a keyword, or are faulty since they begin with none.
 pub fn lines_begin_or_are_faulty()
     ensures { (fields : List (List ℕ)) → ((keyword : Keyword) × BeginsWithKeyword fields keyword)
-        ⊎ IsFaultyLine fields LineFault.Word }
+        ⊎ IsFaultyLine fields FaultReason.Word }
 {}
 
 /// Fields spell a line, or are faulty for some reason.
 pub fn lines_say_something_or_are_faulty()
     ensures { (fields : List (List ℕ)) → ((line : Line) × SpellsLine fields line)
-        ⊎ ((fault : LineFault) × IsFaultyLine fields fault) }
+        ⊎ ((fault : FaultReason) × IsFaultyLine fields fault) }
 {}
 
 /// A memory can be made of the image of each tag line (6.3.2.1 Tag memory), and its banks have the sizes

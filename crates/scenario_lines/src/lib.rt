@@ -3,7 +3,6 @@
 #![tactic(auto)]
 
 mod choice;
-mod fault;
 mod keywords;
 mod laws;
 mod line;
@@ -14,7 +13,6 @@ mod tag;
 mod version;
 
 pub use choice::ChoiceText;
-pub use fault::LineFault;
 pub use keywords::{AirKind, EventKind, Keyword, OpKind};
 pub use laws::{
     lines_are_field_texts, lines_are_told_apart, lines_begin_or_are_faulty,

@@ -15,8 +15,9 @@ mod select;
 mod tag;
 
 use crate::names::event_kind_named;
-use crate::{AirKind, Keyword, Line, LineFault, OpKind};
+use crate::{AirKind, Keyword, Line, OpKind};
 use air::read_air;
+use checked_lines::FaultReason;
 use command_text::value_named;
 use event::read_event;
 use head::{read_default, read_version};
@@ -57,19 +58,19 @@ fn has_known_kind(keyword: Keyword, mut others: Fields) -> bool
 }
 
 /// Whether no field stands behind the first.
-fn read_bare(others: Fields) -> Result<(), LineFault>
+fn read_bare(others: Fields) -> Result<(), FaultReason>
     ensures ok { IsOk result ↔ (others.entry ≡ []) }
-    ensures refused { IfErr result (λ fault. fault ≡ LineFault.Shape) }
+    ensures refused { IfErr result (λ fault. fault ≡ FaultReason.Shape) }
 {
     if is_at_end(others) {
         Ok(())
     } else {
-        Err(LineFault::Shape)
+        Err(FaultReason::Shape)
     }
 }
 
 /// What a line with this keyword says, by its other fields.
-fn read_behind<'a>(keyword: Keyword, others: Fields<'a>) -> Result<Line<'a>, LineFault>
+fn read_behind<'a>(keyword: Keyword, others: Fields<'a>) -> Result<Line<'a>, FaultReason>
     ensures ok { IfOk result (SpellsBehind keyword others.entry) }
     ensures only { (said : Line) → SpellsBehind keyword others.entry said
         → IsOkAnd result (λ it. it ≡ said) }
@@ -138,7 +139,7 @@ impl<'a> BegunLine<'a> {
     /// scenario, or the kind of an air, event or op line is there and is none of its kinds.
     pub fn new(line: &'a [u8]) -> Option<BegunLine<'a>>
         ensures value { IfSome result (λ begun. begun ≡ fields_of line.now) }
-        ensures none { IfNone result (IsFaultyLine (fields_of line.now) LineFault.Word) }
+        ensures none { IfNone result (IsFaultyLine (fields_of line.now) FaultReason.Word) }
     {
         let mut fields = Fields::new(line);
         let keyword = value_named(fields.next()?)?;
@@ -162,7 +163,7 @@ impl<'a> BegunLine<'a> {
     /// # Errors
     ///
     /// The first reason for which the line says nothing, whatever the lines before it say.
-    pub fn read(self) -> Result<Line<'a>, LineFault>
+    pub fn read(self) -> Result<Line<'a>, FaultReason>
         // What is read is spelled so.
         ensures ok { IfOk result (SpellsLine self.entry) }
         // What is spelled so is read.
@@ -182,7 +183,7 @@ impl<'a> BegunLine<'a> {
 /// # Errors
 ///
 /// The first reason for which the line says nothing, whatever the lines before it say.
-pub fn read_line(line: &[u8]) -> Result<Line<'_>, LineFault>
+pub fn read_line(line: &[u8]) -> Result<Line<'_>, FaultReason>
     // What is read is spelled so.
     ensures ok { IfOk result (SpellsLine (fields_of line.now)) }
     // What is spelled so is read.
@@ -192,6 +193,6 @@ pub fn read_line(line: &[u8]) -> Result<Line<'_>, LineFault>
 {
     match BegunLine::new(line) {
         Some(begun) => begun.read(),
-        None => Err(LineFault::Word),
+        None => Err(FaultReason::Word),
     }
 }

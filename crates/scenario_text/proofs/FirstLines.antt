@@ -6,7 +6,7 @@ use Rattle.checked_lines.specs.TextRules.{Lead}
 use Rattle.scenario_lines.specs.declared.line.Line.{Line}
 use Rattle.scenario_lines.specs.Spelling.{line_text}
 use Rattle.scenario.specs.ScenarioText.{scenario_lines}
-use Rattle.scenario_text.specs.declared.fault.Fault.{Fault}
+use Rattle.checked_lines.specs.declared.fault.FaultReason.{FaultReason}
 use Rattle.scenario_text.specs.Beginnings.{BeginsScenario, BeginsText, FirstLinesBegin}
 use Rattle.scenario_text.specs.Draft.{scenario_of}
 use Rattle.scenario_text.specs.Faults.{IsFirstScenarioFault, scenario_rules}
@@ -43,16 +43,16 @@ lead_begins before standing number lead =
     }
 
 -- the first faulty line of some bytes
-abbrev FirstStop : List ℕ → ℕ → Fault → Type 0
+abbrev FirstStop : List ℕ → ℕ → FaultReason → Type 0
 FirstStop bytes number fault = StopsBehind scenario_rules start 1 (lines_of bytes) number fault
 
 -- how many lines there are, with the faulty one
-lines_there : (bytes : List ℕ) (number : ℕ) (fault : Fault) (first : FirstStop bytes number fault)
+lines_there : (bytes : List ℕ) (number : ℕ) (fault : FaultReason) (first : FirstStop bytes number fault)
     → length (lines_of bytes) ≡ length first.before + 1 + length first.behind
 lines_there bytes number fault first = ap length first.cut ∙ length-append first.before (first.line ∷ first.behind) ∙ omega arith
 
 -- the lines before the faulty one begin a scenario's text
-pub lines_before : (bytes : List ℕ) (number : ℕ) (fault : Fault) (below : ℕ) → IsFirstScenarioFault bytes number fault → below < number → FirstLinesBegin bytes below
+pub lines_before : (bytes : List ℕ) (number : ℕ) (fault : FaultReason) (below : ℕ) → IsFirstScenarioFault bytes number fault → below < number → FirstLinesBegin bytes below
 lines_before bytes number fault below is less =
     let first : FirstStop bytes number fault = fault_stops scenario_rules start 1 number fault (lines_of bytes) is in
     let few : below ≤ length first.before = omega (arith, first.place) in
@@ -64,7 +64,7 @@ lines_before bytes number fault below is less =
     }
 
 -- the lines up to a faulty one that has its line feed
-upto_fault : (bytes : List ℕ) (number : ℕ) (fault : Fault) (first : FirstStop bytes number fault) → take number (lines_of bytes) ≡ first.before ++ first.line ∷ []
+upto_fault : (bytes : List ℕ) (number : ℕ) (fault : FaultReason) (first : FirstStop bytes number fault) → take number (lines_of bytes) ≡ first.before ++ first.line ∷ []
 upto_fault bytes number fault first =
     let upto = first.before ++ first.line ∷ [] in
     let count : length upto ≡ number = omega (arith, first.place, length-append first.before (first.line ∷ [])) in
@@ -72,7 +72,7 @@ upto_fault bytes number fault first =
     ∙ take-append-le number upto first.behind (omega (arith, count)) ∙ take_all number upto (omega (arith, count))
 
 -- the lines up to the faulty one begin no scenario's text, or the faulty one has no line feed
-pub lines_upto : LineLaws → (bytes : List ℕ) (number : ℕ) (fault : Fault) → IsFirstScenarioFault bytes number fault → ¬ FirstLinesBegin bytes number
+pub lines_upto : LineLaws → (bytes : List ℕ) (number : ℕ) (fault : FaultReason) → IsFirstScenarioFault bytes number fault → ¬ FirstLinesBegin bytes number
 lines_upto laws bytes number fault is = λ upto.
     let first : FirstStop bytes number fault = fault_stops scenario_rules start 1 number fault (lines_of bytes) is in
     let some : first.behind ≢ [] = λ none. omega (arith, upto.ended, first.place, lines_there bytes number fault first, ap length none) in

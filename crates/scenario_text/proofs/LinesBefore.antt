@@ -9,7 +9,6 @@ use Rattle.air_events.specs.Entries.{no_entry}
 use Rattle.air_events.specs.declared.Entry.{Entry}
 use Rattle.air_events.specs.declared.Choice.{Choice}
 use Rattle.q_round.specs.SpecValue.{SpecValue}
-use Rattle.scenario_lines.specs.declared.fault.LineFault.TheVariants as line_faults
 use Rattle.scenario_lines.specs.declared.version.Version.{Version}
 use Rattle.scenario_lines.specs.declared.version.Version.TheVariants.{One, Two}
 use Rattle.scenario_lines.specs.declared.keywords.Keyword.{Keyword}
@@ -18,8 +17,8 @@ use Rattle.scenario_lines.specs.declared.line.Happening.{Happening}
 use Rattle.scenario_lines.specs.declared.line.Happening.TheVariants as happenings
 use Rattle.scenario_lines.specs.declared.line.Line.{Line}
 use Rattle.scenario_lines.specs.declared.line.Line.TheVariants as lines
-use Rattle.scenario_text.specs.declared.fault.Fault.{Fault}
-use Rattle.scenario_text.specs.declared.fault.Fault.TheVariants as faults
+use Rattle.checked_lines.specs.declared.fault.FaultReason.{FaultReason}
+use Rattle.checked_lines.specs.declared.fault.FaultReason.TheVariants as faults
 use Rattle.scenario.specs.declared.values.Step.{Step}
 use Rattle.scenario.specs.declared.values.Step.TheVariants as steps
 use Rattle.scenario.specs.Limits.{most_tags_of, most_air_lines, most_ops, most_steps}
@@ -620,17 +619,17 @@ of-version said draft line told =
 may-copy : (said : List Line) (draft : DraftValue) (line : Line) → Tells said draft → MayCopy (tag_count draft) line ↔ MayCopy (tags_in said) line
 may-copy said draft line told = (subst (λ n. MayCopy n line) told.tags, subst (λ n. MayCopy n line) (sym told.tags))
 
-one-way : (first first' : Type 0) (cause : Fault) (others others' : Fault → Type 0) (fault : Fault) → first ↔ first' → (first → others fault → others' fault)
+one-way : (first first' : Type 0) (cause : FaultReason) (others others' : FaultReason → Type 0) (fault : FaultReason) → first ↔ first' → (first → others fault → others' fault)
     → IsFirstUnmet first cause others fault → IsFirstUnmet first' cause others' fault
 one-way first first' cause others others' fault same rest (inl fails) = inl ((λ holds. fails.0 (same.1 holds)), fails.1)
 one-way first first' cause others others' fault same rest (inr holds) = inr (same.0 holds.0, rest holds.0 holds.1)
 
 -- the reasons are the same
-abbrev Same : (Fault → Type 0) → (Fault → Type 0) → Type 0
-Same reasons others = (fault : Fault) → reasons fault ↔ others fault
+abbrev Same : (FaultReason → Type 0) → (FaultReason → Type 0) → Type 0
+Same reasons others = (fault : FaultReason) → reasons fault ↔ others fault
 
 -- ... where what holds is, and where then the others are
-same-fails : (first first' : Type 0) (cause : Fault) (others others' : Fault → Type 0) → first ↔ first' → (first → Same others others')
+same-fails : (first first' : Type 0) (cause : FaultReason) (others others' : FaultReason → Type 0) → first ↔ first' → (first → Same others others')
     → Same (IsFirstUnmet first cause others) (IsFirstUnmet first' cause others')
 same-fails first first' cause others others' same rest fault = (
   one-way first first' cause others others' fault same (λ holds. (rest holds fault).0),
@@ -639,11 +638,11 @@ same-fails first first' cause others others' same rest fault = (
 
 same-reasons : (said : List Line) (draft : DraftValue) (line : Line) → Tells said draft → Same (DisagreesBy draft line) (DisagreesWith said line)
 same-reasons said draft line told =
-    same-fails _ _ (faults.Line line_faults.Number) _ _ (of-version said draft line told)
+    same-fails _ _ faults.Number _ _ (of-version said draft line told)
     (λ version. same-fails _ _ faults.Copies _ _ (may-copy said draft line told)
     (λ copies. same-fails _ _ faults.Tag _ _ (names-tag said draft line told)
     (λ names. same-fails _ _ faults.Order _ _ (keeps-order said draft line told)
     (λ order. same-fails _ _ faults.Twice _ _ (chooses-once said draft line told order) (λ once fault. (λ none. none, λ none. none))))))
 
-pub disagrees-with : (said : List Line) (draft : DraftValue) (line : Line) (fault : Fault) → LinesLead start said (within draft) → DisagreesBy draft line fault ↔ DisagreesWith said line fault
+pub disagrees-with : (said : List Line) (draft : DraftValue) (line : Line) (fault : FaultReason) → LinesLead start said (within draft) → DisagreesBy draft line fault ↔ DisagreesWith said line fault
 disagrees-with said draft line fault leads = same-reasons said draft line (tells said draft leads) fault

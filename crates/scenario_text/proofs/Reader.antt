@@ -25,9 +25,9 @@ use Rattle.scenario_text.specs.Faults.{IsFirstScenarioFault, IsRefused, LeadsBy,
 use Rattle.scenario_text.specs.Standing.{ScenarioStanding, ended, start, within}
 use Rattle.scenario_text.specs.StepLines.{steps_of}
 use Rattle.scenario_text.specs.Taking.{IsNotTaken, IsUnfinished, SaysScenario, StandsFor}
-use Rattle.scenario_text.specs.declared.fault.Fault.{Fault}
-use Rattle.scenario_text.specs.declared.fault.ScenarioFault.{ScenarioFault}
-use Rattle.scenario_text.specs.declared.fault.ScenarioFault.TheVariants as faults
+use Rattle.checked_lines.specs.declared.fault.FaultReason.{FaultReason}
+use Rattle.checked_lines.specs.declared.fault.Unread.{Unread}
+use Rattle.checked_lines.specs.declared.fault.Unread.TheVariants as unread
 use Rattle.scenario_text.proofs.Settled.{Keeps, StandingKeeps, draft_lines, front_lines, head_of, settles_one, standing_lines, steps_keep}
 use Rattle.scenario_text.proofs.Spoken.{tags_first}
 
@@ -128,21 +128,21 @@ read_more text rest from to number next read by =
     }
 
 -- the next line is the first faulty one
-pub line_refused : (text rest : List ℕ) (standing : ScenarioStanding) (number : ℕ) (next : NextLine (lines_of rest)) (fault : ScenarioFault) → IsRead text rest standing number
+pub line_refused : (text rest : List ℕ) (standing : ScenarioStanding) (number : ℕ) (next : NextLine (lines_of rest)) (fault : Unread) → IsRead text rest standing number
     → IsNotTaken standing next.line number fault → IsRefused text fault
-line_refused text rest standing number next (faults.Line at fault) read not_taken =
-    subst (λ n. IsFirstScenarioFault text n fault) (sym not_taken.0)
-    (fault_read scenario_rules start 1 (lines_of text) standing number (lines_of rest) next fault read.so_far not_taken.1)
-line_refused text rest standing number next faults.OutOfMemory read not_taken = tt
+line_refused text rest standing number next (unread.Line fault) read not_taken =
+    subst (λ n. IsFirstScenarioFault text n fault.reason) (sym not_taken.0)
+    (fault_read scenario_rules start 1 (lines_of text) standing number (lines_of rest) next fault.reason read.so_far not_taken.1)
+line_refused text rest standing number next unread.OutOfMemory read not_taken = tt
 
 -- the text may not end so
-pub end_refused : (text rest : List ℕ) (standing : ScenarioStanding) (number : ℕ) (fault : ScenarioFault) → IsRead text rest standing number → lines_of rest ≡ rest ∷ []
+pub end_refused : (text rest : List ℕ) (standing : ScenarioStanding) (number : ℕ) (fault : Unread) → IsRead text rest standing number → lines_of rest ≡ rest ∷ []
     → IsUnfinished standing rest number fault → IsRefused text fault
-end_refused text rest standing number (faults.Line at fault) read last unfinished =
-    subst (λ n. IsFirstScenarioFault text n fault) (sym unfinished.0)
-    (subst (λ (f : Fault). IsFirstScenarioFault text number f) (sym unfinished.1)
+end_refused text rest standing number (unread.Line fault) read last unfinished =
+    subst (λ n. IsFirstScenarioFault text n fault.reason) (sym unfinished.0)
+    (subst (λ (f : FaultReason). IsFirstScenarioFault text number f) (sym unfinished.1)
     (unended_read scenario_rules start 1 (lines_of text) standing number rest read.so_far last unfinished.2))
-end_refused text rest standing number faults.OutOfMemory read last unfinished = tt
+end_refused text rest standing number unread.OutOfMemory read last unfinished = tt
 
 -- all is read, and says the scenario
 pub all_said : (text rest : List ℕ) (standing : ScenarioStanding) (number : ℕ) (scenario : Scenario) → IsRead text rest standing number

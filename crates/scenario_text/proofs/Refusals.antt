@@ -1,25 +1,23 @@
 -- The first reason for which a line may not stand here, by what is known of it.
-use Rattle.std.proofs.Common.{◌≡◌, inl, inr, ℕ, List, Result, Ok, Err, IfErr, refl, subst, sym}
+use Rattle.std.proofs.Common.{◌≡◌, inl, inr, ℕ, List, Result, Ok, Err, IfErr, subst, sym}
 use Rattle.std.specs.Prelude.{IsErrAnd}
-use Rattle.scenario_lines.specs.declared.fault.LineFault.{LineFault}
 use Rattle.scenario_lines.specs.declared.keywords.Keyword.{Keyword}
 use Rattle.scenario_lines.specs.declared.line.Line.{Line}
 use Rattle.scenario_lines.specs.LineFaults.{BeginsWithKeyword, IsFaultyLine, SpellsLine}
-use Rattle.scenario_text.specs.declared.fault.Fault.{Fault}
-use Rattle.scenario_text.specs.declared.fault.Fault.TheVariants.{Line as LineReason}
+use Rattle.checked_lines.specs.declared.fault.FaultReason.{FaultReason}
 use Rattle.scenario_text.specs.Faults.{DisagreesAt, IsFaultyAt}
 use Rattle.scenario_text.specs.Standing.{HasRoomForLine, MayStand, ScenarioStanding}
 
 -- a line that has its place
 module _ (standing : ScenarioStanding) (fields : List (List ℕ)) (keyword : Keyword) (begins : BeginsWithKeyword fields keyword) (stands : MayStand standing keyword)
     (room : HasRoomForLine standing keyword) where
-  pub says_nothing : (reason : LineFault) → IsFaultyLine fields reason → IsFaultyAt standing fields (LineReason reason)
+  pub says_nothing : (reason : FaultReason) → IsFaultyLine fields reason → IsFaultyAt standing fields reason
   says_nothing reason faulty = inr (
     record { keyword = keyword; begins = begins; stands = stands },
-    inr (record { keyword = keyword; begins = begins; room = room }, inl (record { reason = reason; is = refl; faulty = faulty })),
+    inr (record { keyword = keyword; begins = begins; room = room }, inl faulty),
   )
 
-  pub says_otherwise : (line : Line) (fault : Fault) → SpellsLine fields line → DisagreesAt standing line fault
+  pub says_otherwise : (line : Line) (fault : FaultReason) → SpellsLine fields line → DisagreesAt standing line fault
       → IsFaultyAt standing fields fault
   says_otherwise line fault spells disagrees = inr (
     record { keyword = keyword; begins = begins; stands = stands },

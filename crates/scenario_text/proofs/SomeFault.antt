@@ -5,15 +5,14 @@ use Rattle.checked_lines.specs.TextRules.{TextOutcome, Whole, Faulty, HasOutcome
 use Rattle.checked_lines.specs.laws.OneOutcome.{AreComplete, LeadsOrIsFaulty, some_outcome}
 use Rattle.scenario_lines.specs.declared.line.Line.{Line}
 use Rattle.scenario_lines.specs.declared.line.Line.TheVariants as lines
-use Rattle.scenario_lines.specs.declared.fault.LineFault.TheVariants as line_faults
 use Rattle.scenario_lines.specs.declared.version.Version.{Version as TextVersion}
 use Rattle.scenario_lines.specs.declared.version.Version.TheVariants.{One, Two}
 use Rattle.scenario_lines.specs.LineBeginnings.{spelled_begins}
 use Rattle.scenario_lines.specs.LineFaults.{SpellsLine}
 use Rattle.scenario_lines.specs.Spelling.{line_text, keyword_of}
 use Rattle.scenario.specs.ScenarioText.{IsScenarioText}
-use Rattle.scenario_text.specs.declared.fault.Fault.{Fault}
-use Rattle.scenario_text.specs.declared.fault.Fault.TheVariants.{Extra, Version, Line as LineReason, Limit, Copies, Tag, Order, Twice}
+use Rattle.checked_lines.specs.declared.fault.FaultReason.{FaultReason}
+use Rattle.checked_lines.specs.declared.fault.FaultReason.TheVariants.{Extra, Version, Word, Order, Limit, Number, Copies, Tag, Twice}
 use Rattle.scenario_text.specs.laws.LineLaws.{LineLaws}
 use Rattle.scenario_text.specs.Draft.{DraftValue, scenario_of, tag_count}
 use Rattle.scenario_text.specs.Faults.{DisagreesAt, DisagreesBy, HasRoomFor, IsFaultyAt, IsFirstScenarioFault, LeadsBy, MayBegin, ScenarioMayEnd, scenario_rules}
@@ -25,9 +24,9 @@ use Rattle.scenario_text.proofs.Texts.{spells_text}
 use Rattle.scenario_text.proofs.WholeTexts.{whole_is_spelled}
 
 -- what a line says that has its place agrees with the lines before it, or doesn't
-agrees_or_not : (draft : DraftValue) (line : Line) → Agrees draft line ⊎ ((fault : Fault) × DisagreesBy draft line fault)
+agrees_or_not : (draft : DraftValue) (line : Line) → Agrees draft line ⊎ ((fault : FaultReason) × DisagreesBy draft line fault)
 agrees_or_not draft line = elim (is_of_version_decided draft.head.version line) [
-  | inr never ↦ inr (LineReason line_faults.Number, inl (never, refl))
+  | inr never ↦ inr (Number, inl (never, refl))
   | inl version ↦ elim (may_copy_decided (tag_count draft) line) [
     | inr never ↦ inr (Copies, inr (version, inl (never, refl)))
     | inl copies ↦ elim (names_tag_decided (tag_count draft) line) [
@@ -43,18 +42,18 @@ agrees_or_not draft line = elim (is_of_version_decided draft.head.version line) 
   ]
 ]
 
-agrees_or_not_here : (standing : ScenarioStanding) (line : Line) → AgreesWith standing line ⊎ ((fault : Fault) × DisagreesAt standing line fault)
+agrees_or_not_here : (standing : ScenarioStanding) (line : Line) → AgreesWith standing line ⊎ ((fault : FaultReason) × DisagreesAt standing line fault)
 agrees_or_not_here (within draft) line = agrees_or_not draft line
 agrees_or_not_here standing line = inl tt
 
 -- a line is one that may follow, or is faulty for some reason
 abbrev GoesOrIsFaulty : ScenarioStanding → List ℕ → Type 0
-GoesOrIsFaulty standing line = ((to : ScenarioStanding) × LeadsBy standing line to) ⊎ ((fault : Fault) × IsFaultyAt standing (fields_of line) fault)
+GoesOrIsFaulty standing line = ((to : ScenarioStanding) × LeadsBy standing line to) ⊎ ((fault : FaultReason) × IsFaultyAt standing (fields_of line) fault)
 
 -- ... where it has its place
 placed : LineLaws → (standing : ScenarioStanding) (line : List ℕ) → MayBegin standing (fields_of line) → HasRoomFor standing (fields_of line) → GoesOrIsFaulty standing line
 placed laws standing line begins place = elim (laws.lines_say_something_or_are_faulty (fields_of line)) [
-  | inr faulty ↦ inr (LineReason faulty.0, inr (begins, inr (place, inl (record { reason = faulty.0; is = refl; faulty = faulty.1 }))))
+  | inr faulty ↦ inr (faulty.0, inr (begins, inr (place, inl faulty.1)))
   | inl said ↦ elim (agrees_or_not_here standing said.0) [
     | inr never ↦ inr (never.0, inr (begins, inr (place, inr (record { line = said.0; spells = said.1; disagrees = never.1 }))))
     | inl agrees ↦
@@ -71,10 +70,10 @@ placed laws standing line begins place = elim (laws.lines_say_something_or_are_f
 
 goes_or_is_faulty : LineLaws → (standing : ScenarioStanding) (line : List ℕ) → GoesOrIsFaulty standing line
 goes_or_is_faulty laws standing line = elim (laws.lines_begin_or_are_faulty (fields_of line)) [
-  | inr none ↦ inr (LineReason line_faults.Word, inl ((λ begins. none begins.keyword begins.begins), refl))
+  | inr none ↦ inr (Word, inl ((λ begins. none begins.keyword begins.begins), refl))
   | inl found ↦ elim (may_stand_decided standing found.0) [
     | inr never ↦ inr (
-      LineReason line_faults.Word,
+      Word,
       inl (
         (λ begins. never (subst (MayStand standing) (laws.lines_begin_with_one_keyword (fields_of line) begins.keyword found.0 begins.begins found.1) begins.stands)),
         refl,
@@ -137,16 +136,16 @@ complete laws = record { lines = each_line laws; ends = end_or_not }
 
 -- what bytes are or have
 abbrev AreTextOrFaulty : List ℕ → Type 0
-AreTextOrFaulty bytes = IsScenarioText bytes ⊎ ((number : ℕ) × (fault : Fault) × IsFirstScenarioFault bytes number fault)
+AreTextOrFaulty bytes = IsScenarioText bytes ⊎ ((number : ℕ) × (fault : FaultReason) × IsFirstScenarioFault bytes number fault)
 
 told : (bytes : List ℕ) (to : ScenarioStanding) → ScenarioMayEnd to → HasOutcome scenario_rules bytes (Whole to) → AreTextOrFaulty bytes
 told bytes (ended draft) may is = let spelled = whole_is_spelled bytes draft is in inl (scenario_of draft, spelled.0, spelled.1)
 told bytes to may is = absurd may
 
-outcome_told : (bytes : List ℕ) (outcome : TextOutcome ScenarioStanding Fault) → HasOutcome scenario_rules bytes outcome → AreTextOrFaulty bytes
+outcome_told : (bytes : List ℕ) (outcome : TextOutcome ScenarioStanding FaultReason) → HasOutcome scenario_rules bytes outcome → AreTextOrFaulty bytes
 outcome_told bytes (Whole to) is = told bytes to (whole_ends scenario_rules start to 1 (lines_of bytes) is).may is
 outcome_told bytes (Faulty number fault) is = inr (number, fault, is)
 
 -- each list of bytes is the text of a scenario, or has a first faulty line
-pub text_or_fault : LineLaws → (bytes : List ℕ) → IsScenarioText bytes ⊎ ((number : ℕ) × (fault : Fault) × IsFirstScenarioFault bytes number fault)
+pub text_or_fault : LineLaws → (bytes : List ℕ) → IsScenarioText bytes ⊎ ((number : ℕ) × (fault : FaultReason) × IsFirstScenarioFault bytes number fault)
 text_or_fault laws bytes = let found = some_outcome scenario_rules (complete laws) bytes in outcome_told bytes found.0 found.1

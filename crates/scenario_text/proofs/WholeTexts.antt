@@ -9,9 +9,9 @@ use Rattle.scenario_lines.specs.Spelling.{line_text}
 use Rattle.scenario.specs.declared.values.Scenario.{Scenario}
 use Rattle.scenario.specs.Limits.{IsScenario}
 use Rattle.scenario.specs.ScenarioText.{scenario_lines, scenario_text}
-use Rattle.scenario_text.specs.declared.fault.Fault.{Fault}
-use Rattle.scenario_text.specs.declared.fault.ScenarioFault.{ScenarioFault}
-use Rattle.scenario_text.specs.declared.fault.ScenarioFault.TheVariants as faults
+use Rattle.checked_lines.specs.declared.fault.FaultReason.{FaultReason}
+use Rattle.checked_lines.specs.declared.fault.Unread.{Unread}
+use Rattle.checked_lines.specs.declared.fault.Unread.TheVariants as unread
 use Rattle.scenario_text.specs.laws.LineLaws.{LineLaws}
 use Rattle.scenario_text.specs.Draft.{DraftValue, scenario_of}
 use Rattle.scenario_text.specs.Faults.{IsFirstScenarioFault, IsRefused, scenario_rules}
@@ -67,21 +67,22 @@ scenario_told laws one other is is' same =
     one_is_said laws (scenario_text other) one other (subst (λ (text : List ℕ). SaysScenario text one) same (text_says laws one is)) (text_says laws other is')
 
 -- the text of a scenario has no faulty line
-pub scenario_is_not_faulty : LineLaws → (scenario : Scenario) (number : ℕ) (fault : Fault) → IsScenario scenario
+pub scenario_is_not_faulty : LineLaws → (scenario : Scenario) (number : ℕ) (fault : FaultReason) → IsScenario scenario
     → IsFirstScenarioFault (scenario_text scenario) number fault → ⊥
 scenario_is_not_faulty laws scenario number fault is first =
     let says = text_says laws scenario is in
     text_not_faulty scenario_rules (unambiguous laws) (scenario_text scenario) (ended says.draft) number fault says.whole first
 
 -- where there is a first faulty line, a refusal tells it, or there was no memory
-pub told_exactly : LineLaws → (bytes : List ℕ) (refusal : ScenarioFault) (number : ℕ) (fault : Fault) → IsRefused bytes refusal → IsFirstScenarioFault bytes number fault
-    → (refusal ≡ faults.Line number fault) ⊎ (refusal ≡ faults.OutOfMemory)
-told_exactly laws bytes (faults.Line other reason) number fault refused first =
-    let both = one_fault scenario_rules (unambiguous laws) bytes other number reason fault refused first in inl (ap₂ (λ n f. faults.Line n f) both.0 both.1)
-told_exactly laws bytes faults.OutOfMemory number fault refused first = inr refl
+pub told_exactly : LineLaws → (bytes : List ℕ) (refusal : Unread) (number : ℕ) (fault : FaultReason) → IsRefused bytes refusal → IsFirstScenarioFault bytes number fault
+    → (refusal ≡ unread.Line (record { line = number; reason = fault })) ⊎ (refusal ≡ unread.OutOfMemory)
+told_exactly laws bytes (unread.Line faulty) number fault refused first =
+    let both = one_fault scenario_rules (unambiguous laws) bytes faulty.line number faulty.reason fault refused first in
+    inl (ap₂ (λ n f. unread.Line (record { line = n; reason = f })) both.0 both.1)
+told_exactly laws bytes unread.OutOfMemory number fault refused first = inr refl
 
 -- ... and no scenario is read
-pub none_is_read : LineLaws → (bytes : List ℕ) (scenario : Scenario) (number : ℕ) (fault : Fault) → IsScenario scenario × (bytes ≡ scenario_text scenario)
+pub none_is_read : LineLaws → (bytes : List ℕ) (scenario : Scenario) (number : ℕ) (fault : FaultReason) → IsScenario scenario × (bytes ≡ scenario_text scenario)
     → IsFirstScenarioFault bytes number fault → ⊥
 none_is_read laws bytes scenario number fault read first =
     scenario_is_not_faulty laws scenario number fault read.0 (subst (λ (text : List ℕ). IsFirstScenarioFault text number fault) read.1 first)
@@ -92,7 +93,7 @@ is_the_one laws text said scenario is same read =
     one_is_said laws text scenario said read (subst (λ (it : List ℕ). SaysScenario it said) (sym same) (text_says laws said is))
 
 -- ... and it is refused for want of memory alone
-pub memory_alone : LineLaws → (text : List ℕ) (said : Scenario) (refusal : ScenarioFault) → IsScenario said → text ≡ scenario_text said → IsRefused text refusal
-    → refusal ≡ faults.OutOfMemory
-memory_alone laws text said (faults.Line number fault) is same refused = absurd (none_is_read laws text said number fault (is, same) refused)
-memory_alone laws text said faults.OutOfMemory is same refused = refl
+pub memory_alone : LineLaws → (text : List ℕ) (said : Scenario) (refusal : Unread) → IsScenario said → text ≡ scenario_text said → IsRefused text refusal
+    → refusal ≡ unread.OutOfMemory
+memory_alone laws text said (unread.Line fault) is same refused = absurd (none_is_read laws text said fault.line fault.reason (is, same) refused)
+memory_alone laws text said unread.OutOfMemory is same refused = refl

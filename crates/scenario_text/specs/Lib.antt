@@ -4,7 +4,6 @@ pub mod StepLines
 pub mod Draft
 pub mod Standing
 pub mod Faults
-pub mod FaultWords
 pub mod Taking
 pub mod Beginnings
 pub mod LinesBefore

@@ -6,13 +6,12 @@ use Rattle.scenario_lines.specs.declared.keywords.Keyword.{Keyword}
 use Rattle.scenario_lines.specs.declared.keywords.Keyword.TheVariants as keywords
 use Rattle.scenario_lines.specs.declared.version.Version.{Version}
 use Rattle.scenario_lines.specs.declared.version.Version.TheVariants.{One, Two}
-use Rattle.scenario_lines.specs.declared.fault.LineFault.TheVariants as line_faults
 use Rattle.scenario_lines.specs.declared.line.Happening.{Happening}
 use Rattle.scenario_lines.specs.declared.line.Happening.TheVariants as happenings
 use Rattle.scenario_lines.specs.declared.line.Line.{Line}
 use Rattle.scenario_lines.specs.declared.line.Line.TheVariants as lines
-use Rattle.scenario_text.specs.declared.fault.Fault.{Fault}
-use Rattle.scenario_text.specs.declared.fault.Fault.TheVariants.{Line as LineReason, Copies, Tag, Order, Twice}
+use Rattle.checked_lines.specs.declared.fault.FaultReason.{FaultReason}
+use Rattle.checked_lines.specs.declared.fault.FaultReason.TheVariants.{Order, Number, Copies, Tag, Twice}
 use Rattle.scenario.specs.Limits.{most_tags_of, most_air_lines, most_ops, most_steps}
 use Rattle.scenario_text.specs.Faults.{IsFirstUnmet}
 use Rattle.scenario_text.specs.Standing.{IsOfVersion, MayCopy, NamesTag, head_size}
@@ -143,9 +142,9 @@ ChoosesFirst before line = Unit {0}
 -- The first reason for which a line that may stand here doesn't agree with the lines before it: it is a round of another
 -- version; it is copies that have no EPC to differ in, or are too many; its tag has no line among them; it is out of order; or
 -- it is a second choice.
-abbrev pub DisagreesWith : List Line → Line → Fault → Type 0
+abbrev pub DisagreesWith : List Line → Line → FaultReason → Type 0
 DisagreesWith before line =
-    IsFirstUnmet (IsOfVersion (version_in before) line) (LineReason line_faults.Number)
+    IsFirstUnmet (IsOfVersion (version_in before) line) Number
     (IsFirstUnmet (MayCopy (tags_in before) line) Copies
     (IsFirstUnmet (NamesTag (tags_in before) line) Tag
     (IsFirstUnmet (KeepsOrderBehind before line) Order

@@ -2,8 +2,8 @@
 use Rattle.std.specs.Prelude.{◌≡◌, ℕ, List, []}
 use Rattle.checked_lines.specs.TextRules.{IsText}
 use Rattle.scenario.specs.declared.values.Scenario.{Scenario}
-use Rattle.scenario_text.specs.declared.fault.ScenarioFault.{ScenarioFault}
-use Rattle.scenario_text.specs.declared.fault.ScenarioFault.TheVariants as faults
+use Rattle.checked_lines.specs.declared.fault.Unread.{Unread}
+use Rattle.checked_lines.specs.declared.fault.Unread.TheVariants as unread
 use Rattle.scenario_text.specs.declared.progress.Progress.{Progress}
 use Rattle.scenario_text.specs.declared.progress.Progress.TheVariants.{Start, Begun, Linked, Within, Ended}
 use Rattle.scenario_text.specs.Draft.{DraftValue, scenario_of}
@@ -19,14 +19,15 @@ standing_of (Within draft) = within draft
 standing_of (Ended draft) = ended draft
 
 -- why the line of this number is not taken
-abbrev pub IsNotTaken : ScenarioStanding → List ℕ → ℕ → ScenarioFault → Type 0
-IsNotTaken standing line number (faults.Line at fault) = (at ≡ number) × IsFaultyInScenario standing line fault
-IsNotTaken standing line number faults.OutOfMemory = Unit {0}
+abbrev pub IsNotTaken : ScenarioStanding → List ℕ → ℕ → Unread → Type 0
+IsNotTaken standing line number (unread.Line fault) = (fault.line ≡ number) × IsFaultyInScenario standing line fault.reason
+IsNotTaken standing line number unread.OutOfMemory = Unit {0}
 
 -- why no scenario is said, where these bytes stand behind the last line feed, as the line of this number
-abbrev pub IsUnfinished : ScenarioStanding → List ℕ → ℕ → ScenarioFault → Type 0
-IsUnfinished standing rest number (faults.Line at fault) = (at ≡ number) × (fault ≡ unended_scenario_reason standing) × (rest ≡ [] → ¬ ScenarioMayEnd standing)
-IsUnfinished standing rest number faults.OutOfMemory = Unit {0}
+abbrev pub IsUnfinished : ScenarioStanding → List ℕ → ℕ → Unread → Type 0
+IsUnfinished standing rest number (unread.Line fault) =
+    (fault.line ≡ number) × (fault.reason ≡ unended_scenario_reason standing) × (rest ≡ [] → ¬ ScenarioMayEnd standing)
+IsUnfinished standing rest number unread.OutOfMemory = Unit {0}
 
 -- the lines up to there say the scenario
 pub record StandsFor (standing : ScenarioStanding) (scenario : Scenario) : Type 0 where

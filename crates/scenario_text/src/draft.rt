@@ -9,13 +9,13 @@ mod latest_entry;
 mod steps;
 mod tags;
 
-use crate::Fault;
 use air::AirLines;
 use air_events::Several;
 use bit_strings::OutOfMemory;
+use checked_lines::FaultReason;
 use pie_line::Link;
 use scenario::{Scenario, Step};
-use scenario_lines::{Happening, Keyword, Line, LineFault, Version};
+use scenario_lines::{Happening, Keyword, Line, Version};
 use std::alloc::Global;
 use std::marker::Model;
 use steps::StepLines;
@@ -148,24 +148,24 @@ impl Draft {
     /// # Errors
     ///
     /// The first reason for which it doesn't: `Number`, `Copies`, `Tag`, `Order` or `Twice`.
-    pub(crate) fn agree(&self, line: &Line) -> Result<(), Fault>
+    pub(crate) fn agree(&self, line: &Line) -> Result<(), FaultReason>
         ensures ok { OnOk result (Agrees self.now line.now) }
         ensures disagrees { IfErr result (DisagreesBy self.now line.now) }
     {
         if !self.is_of_version(line) {
-            return Err(Fault::Line(LineFault::Number));
+            return Err(FaultReason::Number);
         }
         if !self.tags.may_copy(line) {
-            return Err(Fault::Copies);
+            return Err(FaultReason::Copies);
         }
         if !self.names_tag(line) {
-            return Err(Fault::Tag);
+            return Err(FaultReason::Tag);
         }
         if !self.air.keeps_order(line) {
-            return Err(Fault::Order);
+            return Err(FaultReason::Order);
         }
         if !self.air.chooses_once(line) {
-            return Err(Fault::Twice);
+            return Err(FaultReason::Twice);
         }
         Ok(())
     }

@@ -4,7 +4,7 @@ ghost use Rattle.std.specs.Prelude.{◌≡◌, ◌⊎◌, ◌↔◌, ℕ, ◌<�
 ghost use Rattle.scenario_lines.specs.declared.keywords.Keyword.{Keyword};
 ghost use Rattle.scenario_lines.specs.declared.line.Line.{Line};
 ghost use Rattle.scenario.specs.declared.values.Scenario.{Scenario};
-ghost use Rattle.scenario_text.specs.declared.fault.Fault.{Fault};
+ghost use Rattle.checked_lines.specs.declared.fault.FaultReason.{FaultReason};
 ghost use Rattle.scenario.specs.ScenarioText.{scenario_lines, scenario_text, IsScenarioText};
 ghost use Rattle.scenario.specs.Limits.{IsScenario};
 ghost use Rattle.scenario_text.specs.laws.LineLaws.{LineLaws};
@@ -67,7 +67,7 @@ pub fn scenarios_are_told_apart()
 
 /// The text of a scenario has no faulty line.
 pub fn scenario_texts_are_not_faulty()
-    ensures { (scenario : Scenario) (number : ℕ) (fault : Fault) → IsScenario scenario
+    ensures { (scenario : Scenario) (number : ℕ) (fault : FaultReason) → IsScenario scenario
         → IsFirstScenarioFault (scenario_text scenario) number fault → ⊥ }
 {
     line_laws();
@@ -75,7 +75,7 @@ pub fn scenario_texts_are_not_faulty()
 
 /// As the text of a scenario, bytes have at most one first faulty line, which has one first reason.
 pub fn texts_have_one_fault()
-    ensures { (bytes : List ℕ) (one other : ℕ) (fault reason : Fault)
+    ensures { (bytes : List ℕ) (one other : ℕ) (fault reason : FaultReason)
         → IsFirstScenarioFault bytes one fault
         → IsFirstScenarioFault bytes other reason
         → (one ≡ other) × (fault ≡ reason) }
@@ -86,7 +86,7 @@ pub fn texts_have_one_fault()
 /// Each list of bytes is the text of a scenario, or has a first faulty line with a first reason.
 pub fn texts_are_scenarios_or_faulty()
     ensures { (bytes : List ℕ) → IsScenarioText bytes
-        ⊎ ((number : ℕ) × (fault : Fault) × IsFirstScenarioFault bytes number fault) }
+        ⊎ ((number : ℕ) × (fault : FaultReason) × IsFirstScenarioFault bytes number fault) }
 {
     line_laws();
 }
@@ -94,9 +94,9 @@ pub fn texts_are_scenarios_or_faulty()
 /// The number of the first faulty line is the least one for which so many first lines begin no
 /// scenario's text, where a missing or an unended line counts as a line.
 pub fn faulty_lines_begin_no_text()
-    ensures before { (bytes : List ℕ) (number : ℕ) (fault : Fault) (below : ℕ)
+    ensures before { (bytes : List ℕ) (number : ℕ) (fault : FaultReason) (below : ℕ)
         → IsFirstScenarioFault bytes number fault → below < number → FirstLinesBegin bytes below }
-    ensures faulty { (bytes : List ℕ) (number : ℕ) (fault : Fault)
+    ensures faulty { (bytes : List ℕ) (number : ℕ) (fault : FaultReason)
         → IsFirstScenarioFault bytes number fault
         → ¬ FirstLinesBegin bytes number }
 {
@@ -116,7 +116,7 @@ pub fn reasons_tell_of_lines_before()
     ensures limit { (said : List Line) (draft : DraftValue) (keyword : Keyword)
         → LinesLead start said (within draft)
         → HasRoomForLine (within draft) keyword ↔ (¬ IsFullBefore said keyword) }
-    ensures disagrees { (said : List Line) (draft : DraftValue) (line : Line) (fault : Fault)
+    ensures disagrees { (said : List Line) (draft : DraftValue) (line : Line) (fault : FaultReason)
         → LinesLead start said (within draft)
         → DisagreesBy draft line fault ↔ DisagreesWith said line fault }
 {}

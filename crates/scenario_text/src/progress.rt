@@ -8,12 +8,12 @@ ghost use Rattle.scenario_text.specs.Standing.{AgreesWith, MayStandNext, HasRoom
 ghost use Rattle.scenario_text.specs.Taking.{IsNotTaken, IsUnfinished, StandsFor, standing_of};
 
 use crate::draft::Draft;
-use crate::{Fault, ScenarioFault};
 use air_events::Several;
 use bit_strings::OutOfMemory;
+use checked_lines::{FaultReason, Unread, unread_at};
 use pie_line::Link;
 use scenario::Scenario;
-use scenario_lines::{BegunLine, Keyword, Line, LineFault, Version};
+use scenario_lines::{BegunLine, Keyword, Line, Version};
 use std::alloc::Global;
 use std::mem;
 
@@ -37,7 +37,7 @@ pub(crate) enum Progress {
 /// # Errors
 ///
 /// `Version` where the line says none.
-fn said_version(line: &[u8]) -> Result<Version, Fault>
+fn said_version(line: &[u8]) -> Result<Version, FaultReason>
     ensures ok { IfOk result (λ version. line.now ≡ line_text (Line.Version version)) }
     ensures refused { IfErr result (IsFaultyInScenario start line.now) }
 {
@@ -46,7 +46,7 @@ fn said_version(line: &[u8]) -> Result<Version, Fault>
     } else if line == b"gen2 2".as_slice() {
         Ok(Version::Two)
     } else {
-        Err(Fault::Version)
+        Err(FaultReason::Version)
     }
 }
 
@@ -90,7 +90,7 @@ impl Progress {
     /// # Errors
     ///
     /// The first reason for which it doesn't.
-    fn agree(&self, line: &Line) -> Result<(), Fault>
+    fn agree(&self, line: &Line) -> Result<(), FaultReason>
         ensures ok { OnOk result (AgreesWith (standing_of self.now) line.now) }
         ensures disagrees { IfErr result (DisagreesAt (standing_of self.now) line.now) }
     {
@@ -107,21 +107,21 @@ impl Progress {
     /// # Errors
     ///
     /// The first reason for which the line may not stand here.
-    fn said_behind_first<'b>(&self, line: &'b [u8]) -> Result<Line<'b>, Fault>
+    fn said_behind_first<'b>(&self, line: &'b [u8]) -> Result<Line<'b>, FaultReason>
         ensures ok { IfOk result
             (λ said. SpellsLine (fields_of line.now) said
             × MayStandNext (standing_of self.now) said) }
         ensures refused { IfErr result (IsFaultyAt (standing_of self.now) (fields_of line.now)) }
     {
         let Some(begun) = BegunLine::new(line) else {
-            return Err(Fault::Line(LineFault::Word));
+            return Err(FaultReason::Word);
         };
         let keyword = begun.keyword();
         if !self.may_stand(keyword) {
-            return Err(Fault::Line(LineFault::Word));
+            return Err(FaultReason::Word);
         }
         if !self.has_room(keyword) {
-            return Err(Fault::Limit);
+            return Err(FaultReason::Limit);
         }
         let said = begun.read()?;
         self.agree(&said)?;
@@ -133,7 +133,7 @@ impl Progress {
     /// # Errors
     ///
     /// The first reason for which the line may not stand here.
-    fn next_said<'b>(&self, line: &'b [u8]) -> Result<Line<'b>, Fault>
+    fn next_said<'b>(&self, line: &'b [u8]) -> Result<Line<'b>, FaultReason>
         ensures ok { IfOk result
             (λ said. SpellsLine (fields_of line.now) said
             × MayStandNext (standing_of self.now) said) }
@@ -144,7 +144,7 @@ impl Progress {
             Progress::Begun(_) | Progress::Linked(_) | Progress::Within(_) => {
                 self.said_behind_first(line)
             }
-            Progress::Ended(_) => Err(Fault::Extra),
+            Progress::Ended(_) => Err(FaultReason::Extra),
         }
     }
 
@@ -203,19 +203,14 @@ impl Progress {
     /// # Errors
     ///
     /// The first reason for which the line may not stand here; or there was no memory.
-    pub(crate) fn take(
-        &mut self,
-        alloc: Global,
-        line: &[u8],
-        number: u32,
-    ) -> Result<(), ScenarioFault>
+    pub(crate) fn take(&mut self, alloc: Global, line: &[u8], number: u32) -> Result<(), Unread>
         ensures taken { OnOk result
             (LeadsBy (standing_of self.old) line.now (standing_of self.new)) }
         ensures refused { IfErr result (IsNotTaken (standing_of self.old) line.now number) }
     {
         match self.next_said(line) {
             Ok(said) => Ok(self.go_on(alloc, said)?),
-            Err(fault) => Err(ScenarioFault::Line(number, fault)),
+            Err(reason) => Err(unread_at(number, reason)),
         }
     }
 
@@ -224,18 +219,18 @@ impl Progress {
     /// # Errors
     ///
     /// The text may not end so; or there was no memory.
-    pub(crate) fn finish(self, rest: &[u8], number: u32) -> Result<Scenario, ScenarioFault>
+    pub(crate) fn finish(self, rest: &[u8], number: u32) -> Result<Scenario, Unread>
         ensures ok { IfOk result
             (λ scenario. (rest.now ≡ []) × StandsFor (standing_of self) scenario) }
         ensures refused { IfErr result (IsUnfinished (standing_of self) rest.now number) }
     {
         match self {
             Progress::Start | Progress::Begun(_) | Progress::Linked(_) | Progress::Within(_) => {
-                Err(ScenarioFault::Line(number, Fault::End))
+                Err(unread_at(number, FaultReason::End))
             }
             Progress::Ended(draft) => {
                 if !rest.is_empty() {
-                    return Err(ScenarioFault::Line(number, Fault::Extra));
+                    return Err(unread_at(number, FaultReason::Extra));
                 }
                 Ok(draft.finish()?)
             }

@@ -4,18 +4,18 @@ ghost use Rattle.scenario.specs.declared.values.Scenario.{Scenario};
 ghost use Rattle.scenario.specs.Limits.{IsScenario};
 ghost use Rattle.scenario.specs.ScenarioText.{scenario_text};
 ghost use Rattle.scenario_text.specs.Faults.{IsFirstScenarioFault, IsRefused};
-ghost use Rattle.scenario_text.specs.declared.fault.Fault.{Fault};
+ghost use Rattle.checked_lines.specs.declared.fault.FaultReason.{FaultReason};
 ghost use Rattle.scenario_text.specs.Taking.{SaysScenario};
 
-use crate::ScenarioFault;
 use crate::laws::line_laws;
 use crate::progress::Progress;
+use checked_lines::Unread;
 use scenario::Scenario;
 use std::alloc::Global;
 use text_fields::split_line;
 
 /// The scenario that the lines of a text say.
-fn read_lines(alloc: Global, text: &[u8]) -> Result<Scenario, ScenarioFault>
+fn read_lines(alloc: Global, text: &[u8]) -> Result<Scenario, Unread>
     ensures ok { IfOk result (SaysScenario text.now) }
     ensures refused { IfErr result (IsRefused text.now) }
 {
@@ -36,20 +36,21 @@ fn read_lines(alloc: Global, text: &[u8]) -> Result<Scenario, ScenarioFault>
 ///
 /// The first faulty line, counted from 1, with the first reason that applies to it; or there was no
 /// memory.
-pub fn read_scenario(alloc: Global, text: &[u8]) -> Result<Scenario, ScenarioFault>
+pub fn read_scenario(alloc: Global, text: &[u8]) -> Result<Scenario, Unread>
     // What is read is spelled so.
     ensures ok { IfOk result
         (λ scenario. IsScenario scenario × (text.now ≡ scenario_text scenario)) }
     // What is spelled so is read, unless memory runs out.
     ensures only { (said : Scenario) → IsScenario said → text.now ≡ scenario_text said
         → IfOk result (λ scenario. scenario ≡ said)
-        × IfErr result (λ fault. fault ≡ ScenarioFault.OutOfMemory) }
+        × IfErr result (λ fault. fault ≡ Unread.OutOfMemory) }
     // Which line is faulty, and why.
     ensures refused { IfErr result (IsRefused text.now) }
     // A text with a first faulty line is refused with its number and its reason, unless memory runs out.
-    ensures exact { (number : ℕ) (fault : Fault) → IsFirstScenarioFault text.now number fault
-        → IfErr result (λ refusal. (refusal ≡ ScenarioFault.Line number fault)
-        ⊎ (refusal ≡ ScenarioFault.OutOfMemory)) × IfOk result (λ scenario. ⊥) }
+    ensures exact { (number : ℕ) (fault : FaultReason) → IsFirstScenarioFault text.now number fault
+        → IfErr result
+        (λ refusal. (refusal ≡ Unread.Line (record { line = number; reason = fault }))
+        ⊎ (refusal ≡ Unread.OutOfMemory)) × IfOk result (λ scenario. ⊥) }
 {
     // By the laws of lines, the text of a scenario has no faulty line, and no text two first faults.
     line_laws();

@@ -4,16 +4,17 @@ ghost use Rattle.scenario.specs.Limits.{IsScenario};
 ghost use Rattle.scenario.specs.ScenarioText.{IsScenarioText};
 ghost use Rattle.scenario_text.specs.Faults.{IsRefused};
 
-use crate::{ScenarioFault, read_scenario};
+use crate::read_scenario;
 use air_io::Bytes;
+use checked_lines::Unread;
 use scenario::{Scenario, print_scenario};
 use std::alloc::Global;
 
 /// The scenario that is read from the text of a scenario: it is the same, unless there is no memory.
-pub fn print_and_read(alloc: Global, scenario: &Scenario) -> Result<Scenario, ScenarioFault>
+pub fn print_and_read(alloc: Global, scenario: &Scenario) -> Result<Scenario, Unread>
     requires { IsScenario scenario.now }
     ensures same { IfOk result (λ again. again ≡ scenario.now) }
-    ensures err { IfErr result (λ fault. fault ≡ ScenarioFault.OutOfMemory) }
+    ensures err { IfErr result (λ fault. fault ≡ Unread.OutOfMemory) }
 {
     let text = print_scenario(alloc, scenario)?;
     read_scenario(alloc, text.as_slice())
@@ -21,7 +22,7 @@ pub fn print_and_read(alloc: Global, scenario: &Scenario) -> Result<Scenario, Sc
 
 /// The text of the scenario that is read from a text: it is the same, byte by byte, where the text is
 /// that of a scenario and there is memory.
-pub fn read_and_print(alloc: Global, text: &[u8]) -> Result<Bytes, ScenarioFault>
+pub fn read_and_print(alloc: Global, text: &[u8]) -> Result<Bytes, Unread>
     ensures same { IfOk result (λ again. (again ≡ text.now) × IsScenarioText text.now) }
     ensures refused { IfErr result (IsRefused text.now) }
 {

@@ -7,8 +7,8 @@ use Rattle.runs.specs.Portals.{ArePortalsIndependent, IsOfPortals, portals_told}
 use Rattle.scenario.specs.declared.values.Scenario.{Scenario}
 use Rattle.scenario.specs.Limits.{IsScenario}
 use Rattle.scenario.specs.ScenarioText.{IsScenarioText, scenario_text}
-use Rattle.scenario_text.specs.declared.fault.Fault.{Fault}
-use Rattle.scenario_text.specs.FaultWords.{fault_word}
+use Rattle.checked_lines.specs.declared.fault.FaultReason.{FaultReason}
+use Rattle.checked_lines.specs.FaultWords.{reason_word}
 use Rattle.scenario_text.specs.Faults.{IsFirstScenarioFault}
 use Rattle.text_fields.specs.FaultLine.{fault_line}
 use Rattle.top_call.specs.Job.{Defines}
@@ -76,7 +76,7 @@ some_text : (bytes : List ℕ) (scenario : Scenario) → IsScenario scenario × 
 some_text bytes scenario read None found = (portals_text (portals_told scenario), inl (portals_written bytes _ scenario read found refl))
 some_text bytes scenario read (Some number) found = (fault_line number (codes "portal"), inr (portal_refused bytes _ scenario number read found refl))
 
-pub text_of : (bytes : List ℕ) → IsScenarioText bytes ⊎ ((number : ℕ) × (fault : Fault) × IsFirstScenarioFault bytes number fault) → (text : List ℕ) × Defines portals_job bytes text
+pub text_of : (bytes : List ℕ) → IsScenarioText bytes ⊎ ((number : ℕ) × (fault : FaultReason) × IsFirstScenarioFault bytes number fault) → (text : List ℕ) × Defines portals_job bytes text
 text_of bytes (inl spelled) = some_text bytes spelled.0 (spelled.1, spelled.2) (portal_fault spelled.0) refl
 text_of bytes (inr faulty) =
-    (fault_line faulty.0 (fault_word faulty.1), inr (inl (record { number = faulty.0; fault = faulty.1; first = faulty.2; line = refl })))
+    (fault_line faulty.0 (reason_word faulty.1), inr (inl (record { number = faulty.0; fault = faulty.1; first = faulty.2; line = refl })))

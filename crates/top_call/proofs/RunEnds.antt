@@ -3,11 +3,11 @@ use Rattle.std.proofs.Common.{◌≡◌, ◌⊎◌, ℕ, List, ◌++◌, Option,
 use Rattle.std.specs.Prelude.{IsErrOf}
 use Rattle.air_io.specs.Flow.{Adds, FaultsRose}
 use Rattle.scenario.specs.declared.values.Scenario.{Scenario}
-use Rattle.scenario_text.specs.declared.fault.Fault.{Fault}
+use Rattle.checked_lines.specs.declared.fault.FaultReason.{FaultReason}
 use Rattle.scenario.specs.Limits.{IsScenario}
 use Rattle.scenario.specs.ScenarioText.{IsScenarioText, scenario_text}
 use Rattle.scenario_text.specs.Faults.{IsFirstScenarioFault}
-use Rattle.scenario_text.specs.FaultWords.{fault_word}
+use Rattle.checked_lines.specs.FaultWords.{reason_word}
 use Rattle.text_fields.specs.FaultLine.{fault_line}
 use Rattle.report_lines.specs.declared.mode.Mode.{Mode}
 use Rattle.report_lines.specs.declared.mode.PlayFault.{PlayFault}
@@ -26,11 +26,11 @@ AreToldApart = (one other : Scenario) → IsScenario one → IsScenario other �
 
 -- a text has one first fault,
 abbrev pub HasOneFault : Type 0
-HasOneFault = (bytes : List ℕ) (one other : ℕ) (fault reason : Fault) → IsFirstScenarioFault bytes one fault → IsFirstScenarioFault bytes other reason → (one ≡ other) × (fault ≡ reason)
+HasOneFault = (bytes : List ℕ) (one other : ℕ) (fault reason : FaultReason) → IsFirstScenarioFault bytes one fault → IsFirstScenarioFault bytes other reason → (one ≡ other) × (fault ≡ reason)
 
 -- and the text of a scenario has none
 abbrev pub AreNotFaulty : Type 0
-AreNotFaulty = (scenario : Scenario) (number : ℕ) (fault : Fault) → IsScenario scenario → IsFirstScenarioFault (scenario_text scenario) number fault → ⊥
+AreNotFaulty = (scenario : Scenario) (number : ℕ) (fault : FaultReason) → IsScenario scenario → IsFirstScenarioFault (scenario_text scenario) number fault → ⊥
 
 -- a scenario's text has no fault line
 pub text_not_refused : AreNotFaulty → (bytes text : List ℕ) → IsScenarioText bytes → RefusesScenario bytes text → ⊥
@@ -47,13 +47,13 @@ same_report told_apart mode bytes one other left right =
 pub same_refusal : HasOneFault → (bytes one other : List ℕ) → RefusesScenario bytes one → RefusesScenario bytes other → one ≡ other
 same_refusal one_fault bytes one other left right =
     let faults = one_fault bytes left.number right.number left.fault right.fault left.first right.first in
-    left.line ∙ ap (λ number. fault_line number (fault_word left.fault)) faults.0 ∙ ap (λ fault. fault_line right.number (fault_word fault)) faults.1 ∙ sym right.line
+    left.line ∙ ap (λ number. fault_line number (reason_word left.fault)) faults.0 ∙ ap (λ fault. fault_line right.number (reason_word fault)) faults.1 ∙ sym right.line
 
 -- bytes have a text where it is so of those that spell a scenario, since the others have a fault line
 pub some_text : (T : List ℕ → Type 0) (bytes : List ℕ) → (IsScenarioText bytes → (text : List ℕ) × T text)
-    → IsScenarioText bytes ⊎ ((number : ℕ) × (fault : Fault) × IsFirstScenarioFault bytes number fault) → (text : List ℕ) × (T text ⊎ RefusesScenario bytes text)
+    → IsScenarioText bytes ⊎ ((number : ℕ) × (fault : FaultReason) × IsFirstScenarioFault bytes number fault) → (text : List ℕ) × (T text ⊎ RefusesScenario bytes text)
 some_text T bytes texts (inl spelled) = let found = texts spelled in (found.0, inl found.1)
-some_text T bytes texts (inr faulty) = (fault_line faulty.0 (fault_word faulty.1), inr (record { number = faulty.0; fault = faulty.1; first = faulty.2; line = refl }))
+some_text T bytes texts (inr faulty) = (fault_line faulty.0 (reason_word faulty.1), inr (record { number = faulty.0; fault = faulty.1; first = faulty.2; line = refl }))
 
 -- a front of the report was added
 abbrev pub AddsPart : Mode → Scenario → (written written' : Option (List ℕ)) → Type 0

@@ -12,8 +12,9 @@ ghost use Rattle.scenario_lines.specs.Reading.{IsHappeningText, Misreads, Misrea
 
 use super::event::{MOST_PLACE, event_behind, one_number};
 use crate::choice::{ChoiceFields, ChoiceText};
-use crate::{AirKind, Happening, LineFault};
+use crate::{AirKind, Happening};
 use air_events::LONGEST_STREAM;
+use checked_lines::FaultReason;
 use command_text::value_named;
 use text_fields::{Digits, Fields, is_at_end, number_from, one_field};
 
@@ -24,7 +25,7 @@ const MOST_EXCHANGE: u32 = 1_000_000;
 const MOST_LEVEL: u32 = 999_999;
 
 /// The levels of a raw stream, of which there is one at least, that the one field that is left spells.
-fn raw_levels<'a>(fields: Fields<'a>) -> Result<Digits<'a>, LineFault>
+fn raw_levels<'a>(fields: Fields<'a>) -> Result<Digits<'a>, FaultReason>
     ensures ok { IfOk result
         (λ levels. (fields.entry ≡ binary levels ∷ []) × HasStreamLength levels) }
     ensures only { (levels : List Bool) → HasStreamLength levels → fields.entry ≡ binary levels ∷ []
@@ -34,19 +35,19 @@ fn raw_levels<'a>(fields: Fields<'a>) -> Result<Digits<'a>, LineFault>
         (λ (levels : List Bool). binary levels ∷ []) HasStreamLength fields.entry) }
 {
     let Some(field) = one_field(fields) else {
-        return Err(LineFault::Shape);
+        return Err(FaultReason::Shape);
     };
     let Some(levels) = Digits::new(field, LONGEST_STREAM) else {
-        return Err(LineFault::Number);
+        return Err(FaultReason::Number);
     };
     if levels.is_empty() {
-        return Err(LineFault::Number);
+        return Err(FaultReason::Number);
     }
     Ok(levels)
 }
 
 /// What the fields behind the kind of an air line spell.
-fn happening_behind<'a>(kind: AirKind, fields: Fields<'a>) -> Result<Happening<'a>, LineFault>
+fn happening_behind<'a>(kind: AirKind, fields: Fields<'a>) -> Result<Happening<'a>, FaultReason>
     ensures ok { IfOk result (IsHappeningText kind fields.entry) }
     ensures only { (happening : Happening) → IsHappeningText kind fields.entry happening
         → IsOkAnd result (λ it. it ≡ happening) }
@@ -66,7 +67,7 @@ fn happening_behind<'a>(kind: AirKind, fields: Fields<'a>) -> Result<Happening<'
             if is_at_end(fields) {
                 Ok(Happening::Choice(ChoiceText::new(ChoiceFields::Silent)))
             } else {
-                Err(LineFault::Shape)
+                Err(FaultReason::Shape)
             }
         }
         AirKind::Break => {
@@ -81,7 +82,7 @@ fn happening_behind<'a>(kind: AirKind, fields: Fields<'a>) -> Result<Happening<'
 }
 
 /// The number of an exchange and what is said of it, which the fields behind `air` spell.
-pub(crate) fn read_air<'a>(mut others: Fields<'a>) -> Result<(u32, Happening<'a>), LineFault>
+pub(crate) fn read_air<'a>(mut others: Fields<'a>) -> Result<(u32, Happening<'a>), FaultReason>
     ensures ok { IfOk result
         (λ it. (others.entry ≡ decimal it.0 ∷ air_word (air_kind it.1) ∷ happening_fields it.1)
         × IsExchange it.0 × IsHappening it.1) }
@@ -93,20 +94,20 @@ pub(crate) fn read_air<'a>(mut others: Fields<'a>) -> Result<(u32, Happening<'a>
     ensures refused { IfErr result (MisreadsAirLine others.entry) }
 {
     let Some(exchange) = others.next() else {
-        return Err(LineFault::Shape);
+        return Err(FaultReason::Shape);
     };
     let Some(kind) = others.next() else {
-        return Err(LineFault::Shape);
+        return Err(FaultReason::Shape);
     };
     let Some(kind) = value_named(kind) else {
-        return Err(LineFault::Word);
+        return Err(FaultReason::Word);
     };
     if exchange.is_empty() {
-        return Err(LineFault::Shape);
+        return Err(FaultReason::Shape);
     }
     let happening = happening_behind(kind, others)?;
     match number_from(exchange, 1, MOST_EXCHANGE) {
         Some(exchange) => Ok((exchange, happening)),
-        None => Err(LineFault::Number),
+        None => Err(FaultReason::Number),
     }
 }

@@ -7,50 +7,51 @@ ghost use Rattle.scenario_lines.specs.Spelling.{event_fields};
 ghost use Rattle.scenario_lines.specs.Reading.{IsEventText, MisreadsEvent, MisreadsEventLine, MisreadsNumber};
 ghost use Rattle.scenario_lines.specs.Names.{event_kind, event_word};
 
+use crate::EventKind;
 use crate::names::{event_kind_named, expiring_flag_named};
-use crate::{EventKind, LineFault};
 use air_events::Event;
+use checked_lines::FaultReason;
 use text_fields::{Fields, number, one_field, two_fields};
 
 /// The greatest number of a tag or of a reply.
 pub(crate) const MOST_PLACE: u32 = 4_095;
 
 /// The number up to `most` that the one field that is left spells.
-pub(crate) fn one_number(fields: Fields, most: u32) -> Result<u32, LineFault>
+pub(crate) fn one_number(fields: Fields, most: u32) -> Result<u32, FaultReason>
     ensures ok { IfOk result (λ n. (fields.entry ≡ decimal n ∷ []) × (n ≤ most)) }
     ensures only { (n : ℕ) → n ≤ most → fields.entry ≡ decimal n ∷ [] → result ≡ Ok n }
     ensures refused { IfErr result (MisreadsNumber most fields.entry) }
 {
     let Some(field) = one_field(fields) else {
-        return Err(LineFault::Shape);
+        return Err(FaultReason::Shape);
     };
     match number(field, most) {
         Some(number) => Ok(number),
-        None => Err(LineFault::Number),
+        None => Err(FaultReason::Number),
     }
 }
 
 /// The end of a flag's persistence, which the fields behind `expire` spell, and the number of its tag.
-fn read_expire(fields: Fields) -> Result<(Event, u32), LineFault>
+fn read_expire(fields: Fields) -> Result<(Event, u32), FaultReason>
     ensures ok { IfOk result (λ it. IsEventText EventKind.Expire fields.entry it.0 it.1) }
     ensures only { (event : Event) → (tag : ℕ) → IsEventText EventKind.Expire fields.entry event tag
         → IsOkAnd result (λ it. (it.0 ≡ event) × (it.1 ≡ tag)) }
     ensures refused { IfErr result (MisreadsEvent EventKind.Expire fields.entry) }
 {
     let Some((flag, tag)) = two_fields(fields) else {
-        return Err(LineFault::Shape);
+        return Err(FaultReason::Shape);
     };
     let Some(flag) = expiring_flag_named(flag) else {
-        return Err(LineFault::Number);
+        return Err(FaultReason::Number);
     };
     match number(tag, MOST_PLACE) {
         Some(tag) => Ok((Event::Expire(flag), tag)),
-        None => Err(LineFault::Number),
+        None => Err(FaultReason::Number),
     }
 }
 
 /// The event of a kind and the number of its tag, which the fields behind the kind spell.
-pub(crate) fn event_behind(kind: EventKind, fields: Fields) -> Result<(Event, u32), LineFault>
+pub(crate) fn event_behind(kind: EventKind, fields: Fields) -> Result<(Event, u32), FaultReason>
     ensures ok { IfOk result (λ it. IsEventText kind fields.entry it.0 it.1) }
     ensures only { (event : Event) → (tag : ℕ) → IsEventText kind fields.entry event tag
         → IsOkAnd result (λ it. (it.0 ≡ event) × (it.1 ≡ tag)) }
@@ -65,7 +66,7 @@ pub(crate) fn event_behind(kind: EventKind, fields: Fields) -> Result<(Event, u3
 }
 
 /// The event and the number of its tag that the fields behind `event` spell.
-pub(crate) fn read_event(mut others: Fields) -> Result<(Event, u32), LineFault>
+pub(crate) fn read_event(mut others: Fields) -> Result<(Event, u32), FaultReason>
     ensures ok { IfOk result
         (λ it. (others.entry ≡ event_word (event_kind it.0) ∷ event_fields it.0 it.1)
         × IsEvent it.0 it.1) }
@@ -75,10 +76,10 @@ pub(crate) fn read_event(mut others: Fields) -> Result<(Event, u32), LineFault>
     ensures refused { IfErr result (MisreadsEventLine others.entry) }
 {
     let Some(kind) = others.next() else {
-        return Err(LineFault::Shape);
+        return Err(FaultReason::Shape);
     };
     let Some(kind) = event_kind_named(kind) else {
-        return Err(LineFault::Word);
+        return Err(FaultReason::Word);
     };
     event_behind(kind, others)
 }

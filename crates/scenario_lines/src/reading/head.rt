@@ -7,13 +7,14 @@ ghost use Rattle.scenario_lines.specs.declared.version.Version.{Version};
 ghost use Rattle.scenario_lines.specs.Names.{several_text, version_digit};
 ghost use Rattle.scenario_lines.specs.Reading.{Misreads};
 
+use crate::Version;
 use crate::names::several_named;
-use crate::{LineFault, Version};
 use air_events::Several;
+use checked_lines::FaultReason;
 use text_fields::{Fields, one_field};
 
 /// The version that the field behind `gen2` spells.
-pub(crate) fn read_version(others: Fields) -> Result<Version, LineFault>
+pub(crate) fn read_version(others: Fields) -> Result<Version, FaultReason>
     ensures ok { IfOk result (λ version. others.entry ≡ version_digit version ∷ []) }
     ensures only { (version : Version) → others.entry ≡ version_digit version ∷ []
         → result ≡ Ok version }
@@ -24,13 +25,13 @@ pub(crate) fn read_version(others: Fields) -> Result<Version, LineFault>
     match one_field(others) {
         Some(b"1") => Ok(Version::One),
         Some(b"2") => Ok(Version::Two),
-        Some(_) => Err(LineFault::Number),
-        None => Err(LineFault::Shape),
+        Some(_) => Err(FaultReason::Number),
+        None => Err(FaultReason::Shape),
     }
 }
 
 /// What the channel gives by default where several tags reply, which the field behind `default` spells.
-pub(crate) fn read_default(others: Fields) -> Result<Several, LineFault>
+pub(crate) fn read_default(others: Fields) -> Result<Several, FaultReason>
     ensures ok { IfOk result (λ several. others.entry ≡ several_text several ∷ []) }
     ensures only { (several : Several) → others.entry ≡ several_text several ∷ []
         → result ≡ Ok several }
@@ -39,10 +40,10 @@ pub(crate) fn read_default(others: Fields) -> Result<Several, LineFault>
         (λ (_ : Several). Unit {0}) others.entry) }
 {
     let Some(field) = one_field(others) else {
-        return Err(LineFault::Shape);
+        return Err(FaultReason::Shape);
     };
     match several_named(field) {
         Some(several) => Ok(several),
-        None => Err(LineFault::Number),
+        None => Err(FaultReason::Number),
     }
 }

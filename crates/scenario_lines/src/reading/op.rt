@@ -11,9 +11,10 @@ ghost use Rattle.scenario_lines.specs.Spelling.{op_fields};
 ghost use Rattle.text_fields.specs.NamedFields.{AreFilled};
 ghost use Rattle.scenario_lines.specs.Reading.{IsOpText, Misreads, MisreadsOp, MisreadsOpLine};
 
-use crate::{LineFault, OpKind};
+use crate::OpKind;
 use access_ops::Op;
 use bit_strings::Pointer;
+use checked_lines::FaultReason;
 use command_grammar::Bank;
 use command_text::{bank_named, block_of, payload_of, value_named};
 use reply_grammar::EpcWords;
@@ -22,7 +23,7 @@ use text_fields::{Fields, count_of, number, one_field, pointer_of, three_fields,
 use value_text::password_of;
 
 /// The EPC that the field behind `only` spells.
-pub(crate) fn read_only(others: Fields) -> Result<EpcWords, LineFault>
+pub(crate) fn read_only(others: Fields) -> Result<EpcWords, FaultReason>
     ensures ok { IfOk result (λ epc. (others.entry ≡ hex_words epc ∷ []) × IsEpc epc) }
     ensures only { (words : List ℕ) → IsEpc words → others.entry ≡ hex_words words ∷ []
         → IsOkAnd result (λ epc. epc ≡ words) }
@@ -30,11 +31,11 @@ pub(crate) fn read_only(others: Fields) -> Result<EpcWords, LineFault>
         (Misreads (AreFilled 1) (λ (words : List ℕ). hex_words words ∷ []) IsEpc others.entry) }
 {
     let Some(field) = one_field(others) else {
-        return Err(LineFault::Shape);
+        return Err(FaultReason::Shape);
     };
     match epc_of(field) {
         Some(epc) => Ok(epc),
-        None => Err(LineFault::Number),
+        None => Err(FaultReason::Number),
     }
 }
 
@@ -112,45 +113,45 @@ fn op_of(kind: OpKind, field: &[u8]) -> Option<Op>
 }
 
 /// The operation of a kind that names a place in a bank, which the fields behind the kind spell.
-fn read_at_place(kind: OpKind, fields: Fields) -> Result<Op, LineFault>
+fn read_at_place(kind: OpKind, fields: Fields) -> Result<Op, FaultReason>
     requires { op_field_count kind ≡ 3 }
     ensures ok { IfOk result (IsOpText kind fields.entry) }
     ensures only { (op : Op) → IsOpText kind fields.entry op → IsOkAnd result (λ it. it ≡ op) }
     ensures refused { IfErr result (MisreadsOp kind fields.entry) }
 {
     let Some((bank, pointer, last)) = three_fields(fields) else {
-        return Err(LineFault::Shape);
+        return Err(FaultReason::Shape);
     };
     let Some(bank) = bank_named(bank) else {
-        return Err(LineFault::Number);
+        return Err(FaultReason::Number);
     };
     let Some(pointer) = pointer_of(pointer) else {
-        return Err(LineFault::Number);
+        return Err(FaultReason::Number);
     };
     match op_at(kind, bank, pointer, last) {
         Some(op) => Ok(op),
-        None => Err(LineFault::Number),
+        None => Err(FaultReason::Number),
     }
 }
 
 /// The operation of a kind that names no place, which the field behind the kind spells.
-fn read_bare_op(kind: OpKind, fields: Fields) -> Result<Op, LineFault>
+fn read_bare_op(kind: OpKind, fields: Fields) -> Result<Op, FaultReason>
     requires { op_field_count kind ≡ 1 }
     ensures ok { IfOk result (IsOpText kind fields.entry) }
     ensures only { (op : Op) → IsOpText kind fields.entry op → IsOkAnd result (λ it. it ≡ op) }
     ensures refused { IfErr result (MisreadsOp kind fields.entry) }
 {
     let Some(field) = one_field(fields) else {
-        return Err(LineFault::Shape);
+        return Err(FaultReason::Shape);
     };
     match op_of(kind, field) {
         Some(op) => Ok(op),
-        None => Err(LineFault::Number),
+        None => Err(FaultReason::Number),
     }
 }
 
 /// The operation of a kind, which the fields behind the kind spell.
-fn op_behind(kind: OpKind, fields: Fields) -> Result<Op, LineFault>
+fn op_behind(kind: OpKind, fields: Fields) -> Result<Op, FaultReason>
     ensures ok { IfOk result (IsOpText kind fields.entry) }
     ensures only { (op : Op) → IsOpText kind fields.entry op → IsOkAnd result (λ it. it ≡ op) }
     ensures refused { IfErr result (MisreadsOp kind fields.entry) }
@@ -167,7 +168,7 @@ fn op_behind(kind: OpKind, fields: Fields) -> Result<Op, LineFault>
 }
 
 /// The operation that the fields behind `op` spell.
-pub(crate) fn read_op(mut others: Fields) -> Result<Op, LineFault>
+pub(crate) fn read_op(mut others: Fields) -> Result<Op, FaultReason>
     ensures ok { IfOk result
         (λ op. (others.entry ≡ op_word (op_kind op) ∷ op_fields op) × IsLegalOp op) }
     ensures only { (op : Op) → IsLegalOp op → others.entry ≡ op_word (op_kind op) ∷ op_fields op
@@ -175,10 +176,10 @@ pub(crate) fn read_op(mut others: Fields) -> Result<Op, LineFault>
     ensures refused { IfErr result (MisreadsOpLine others.entry) }
 {
     let Some(kind) = others.next() else {
-        return Err(LineFault::Shape);
+        return Err(FaultReason::Shape);
     };
     let Some(kind) = value_named(kind) else {
-        return Err(LineFault::Word);
+        return Err(FaultReason::Word);
     };
     op_behind(kind, others)
 }

@@ -9,8 +9,9 @@ ghost use Rattle.scenario_lines.specs.Names.{HasRuleText, rule_text};
 ghost use Rattle.scenario_lines.specs.Spelling.{round_fields};
 ghost use Rattle.scenario_lines.specs.Reading.{MisreadsRound};
 
+use crate::Version;
 use crate::names::sel_named;
-use crate::{LineFault, Version};
+use checked_lines::FaultReason;
 use command_text::side_named;
 use q_round::{RoundSpec, Rule};
 use text_fields::{Fields, number, number_from, q_of, session_of, six_fields};
@@ -64,7 +65,7 @@ fn rule_of(field: &[u8]) -> Option<(Version, Rule)>
 }
 
 /// The parameters of a round that the fields behind `round` spell, and the version that spells its rule so.
-pub(crate) fn read_round(others: Fields) -> Result<(Version, RoundSpec), LineFault>
+pub(crate) fn read_round(others: Fields) -> Result<(Version, RoundSpec), FaultReason>
     ensures ok { IfOk result (λ it. (others.entry ≡ round_fields it.0 it.1) × IsRound it.0 it.1) }
     ensures only { (version : Version) → (spec : SpecValue) → IsRound version spec
         → others.entry ≡ round_fields version spec
@@ -72,28 +73,28 @@ pub(crate) fn read_round(others: Fields) -> Result<(Version, RoundSpec), LineFau
     ensures refused { IfErr result (MisreadsRound others.entry) }
 {
     let Some((sel, session, target, q, rule, limit)) = six_fields(others) else {
-        return Err(LineFault::Shape);
+        return Err(FaultReason::Shape);
     };
     let Some(sel) = sel_named(sel) else {
-        return Err(LineFault::Number);
+        return Err(FaultReason::Number);
     };
     let Some(session) = session_of(session) else {
-        return Err(LineFault::Number);
+        return Err(FaultReason::Number);
     };
     let Some(target) = side_named(target) else {
-        return Err(LineFault::Number);
+        return Err(FaultReason::Number);
     };
     let Some(q) = q_of(q) else {
-        return Err(LineFault::Number);
+        return Err(FaultReason::Number);
     };
     let Some((version, rule)) = rule_of(rule) else {
-        return Err(LineFault::Number);
+        return Err(FaultReason::Number);
     };
     let Some(limit) = number(limit, u32::MAX) else {
-        return Err(LineFault::Number);
+        return Err(FaultReason::Number);
     };
     match RoundSpec::new(sel, session, target, q, rule, limit) {
         Some(spec) => Ok((version, spec)),
-        None => Err(LineFault::Number),
+        None => Err(FaultReason::Number),
     }
 }

@@ -10,8 +10,9 @@ ghost use Rattle.scenario_lines.specs.Spelling.{copies_fields, tag_spec_fields};
 ghost use Rattle.text_fields.specs.NamedFields.{AreFilled};
 ghost use Rattle.scenario_lines.specs.Reading.{Misreads, MisreadsCopies, MisreadsTag, tag_value};
 
-use crate::{LineFault, TagText};
+use crate::TagText;
 use air_events::MOST_TAGS;
+use checked_lines::FaultReason;
 use lock_rules::Locks;
 use text_fields::{Fields, Words, number_from, seven_fields, words_from};
 use value_text::{locks_of, password_of};
@@ -60,7 +61,7 @@ fn lists_of<'a>(epc: &'a [u8], tid: &'a [u8], user: &'a [u8], words: &'a [u8]) -
 }
 
 /// The parts that the fields behind `tag` spell.
-fn read_parts<'a>(others: Fields<'a>) -> Result<Parts<'a>, LineFault>
+fn read_parts<'a>(others: Fields<'a>) -> Result<Parts<'a>, FaultReason>
     ensures ok { IfOk result
         (λ it. (others.entry ≡ tag_spec_fields (tag_value it)) × IsTagForm (tag_value it)) }
     ensures only { (tag : TagSpec) → IsTagForm tag → others.entry ≡ tag_spec_fields tag
@@ -68,19 +69,19 @@ fn read_parts<'a>(others: Fields<'a>) -> Result<Parts<'a>, LineFault>
     ensures refused { IfErr result (Misreads (AreFilled 7) tag_spec_fields IsTagForm others.entry) }
 {
     let Some((kill, access, locks, epc, tid, user, words)) = seven_fields(others) else {
-        return Err(LineFault::Shape);
+        return Err(FaultReason::Shape);
     };
     let Some(kill) = password_of(kill) else {
-        return Err(LineFault::Number);
+        return Err(FaultReason::Number);
     };
     let Some(access) = password_of(access) else {
-        return Err(LineFault::Number);
+        return Err(FaultReason::Number);
     };
     let Some(locks) = locks_of(locks) else {
-        return Err(LineFault::Number);
+        return Err(FaultReason::Number);
     };
     let Some(lists) = lists_of(epc, tid, user, words) else {
-        return Err(LineFault::Number);
+        return Err(FaultReason::Number);
     };
     Ok(Parts {
         kill,
@@ -91,11 +92,11 @@ fn read_parts<'a>(others: Fields<'a>) -> Result<Parts<'a>, LineFault>
 }
 
 /// The tag of a tag line's parts, read, each of which is in the range of its field.
-fn whole_tag<'a>(parts: Parts<'a>) -> Result<TagText<'a>, LineFault>
+fn whole_tag<'a>(parts: Parts<'a>) -> Result<TagText<'a>, FaultReason>
     requires { IsTagForm (tag_value parts) }
     ensures ok { IfOk result (λ tag. (tag ≡ tag_value parts.entry) × IsTag tag) }
     ensures refused { IfErr result
-        (λ fault. (fault ≡ LineFault.Pc) × (pc_fits (tag_value parts.entry).image ≡ false)) }
+        (λ fault. (fault ≡ FaultReason.Pc) × (pc_fits (tag_value parts.entry).image ≡ false)) }
 {
     let Parts {
         kill,
@@ -111,12 +112,12 @@ fn whole_tag<'a>(parts: Parts<'a>) -> Result<TagText<'a>, LineFault>
     } = lists;
     match TagText::new(kill, access, locks, epc, tid, user, words) {
         Some(tag) => Ok(tag),
-        None => Err(LineFault::Pc),
+        None => Err(FaultReason::Pc),
     }
 }
 
 /// The tag that the fields behind `tag` spell.
-pub fn read_tag<'a>(others: Fields<'a>) -> Result<TagText<'a>, LineFault>
+pub fn read_tag<'a>(others: Fields<'a>) -> Result<TagText<'a>, FaultReason>
     ensures ok { IfOk result (λ tag. (others.entry ≡ tag_spec_fields tag) × IsTag tag) }
     ensures only { (tag : TagSpec) → IsTag tag → others.entry ≡ tag_spec_fields tag
         → IsOkAnd result (λ it. it ≡ tag) }
@@ -126,7 +127,7 @@ pub fn read_tag<'a>(others: Fields<'a>) -> Result<TagText<'a>, LineFault>
 }
 
 /// How many tags the fields behind `copies` stand for, and the tag that they spell.
-pub(crate) fn read_copies<'a>(mut others: Fields<'a>) -> Result<(u32, TagText<'a>), LineFault>
+pub(crate) fn read_copies<'a>(mut others: Fields<'a>) -> Result<(u32, TagText<'a>), FaultReason>
     ensures ok { IfOk result
         (λ it. (others.entry ≡ copies_fields it.0 it.1) × IsCopyCount it.0 × IsTag it.1) }
     ensures only { (count : ℕ) → (tag : TagSpec) → IsCopyCount count → IsTag tag
@@ -135,14 +136,14 @@ pub(crate) fn read_copies<'a>(mut others: Fields<'a>) -> Result<(u32, TagText<'a
     ensures refused { IfErr result (MisreadsCopies others.entry) }
 {
     let Some(count) = others.next() else {
-        return Err(LineFault::Shape);
+        return Err(FaultReason::Shape);
     };
     if count.is_empty() {
-        return Err(LineFault::Shape);
+        return Err(FaultReason::Shape);
     }
     let parts = read_parts(others)?;
     let Some(count) = number_from(count, 2, u32::from(MOST_TAGS)) else {
-        return Err(LineFault::Number);
+        return Err(FaultReason::Number);
     };
     Ok((count, whole_tag(parts)?))
 }

@@ -1,11 +1,11 @@
 -- Profile: what `run` writes in each of its modes for the bytes that it reads. The whole input is read before a line is written.
 use Rattle.std.specs.Prelude.{◌≡◌, ℕ, true, List}
 use Rattle.scenario.specs.declared.values.Scenario.{Scenario}
-use Rattle.scenario_text.specs.declared.fault.Fault.{Fault}
+use Rattle.checked_lines.specs.declared.fault.FaultReason.{FaultReason}
 use Rattle.scenario.specs.Limits.{IsScenario}
 use Rattle.scenario.specs.ScenarioText.{IsScenarioText, scenario_text}
 use Rattle.scenario_text.specs.Faults.{IsFirstScenarioFault}
-use Rattle.scenario_text.specs.FaultWords.{fault_word}
+use Rattle.checked_lines.specs.FaultWords.{reason_word}
 use Rattle.text_fields.specs.FaultLine.{fault_line}
 use Rattle.report_lines.specs.declared.mode.Mode.{Mode}
 use Rattle.report_lines.specs.declared.mode.Mode.TheVariants.{Trace}
@@ -27,9 +27,9 @@ pub record Reports (mode : Mode) (bytes text : List ℕ) : Type 0 where
 -- the text is the fault line of bytes that spell no scenario
 pub record RefusesScenario (bytes text : List ℕ) : Type 0 where
   pub number : ℕ
-  pub fault : Fault
+  pub fault : FaultReason
   pub first : IsFirstScenarioFault bytes number fault
-  pub line : text ≡ fault_line number (fault_word fault)
+  pub line : text ≡ fault_line number (reason_word fault)
 
 -- the text is the report of the scenario that the bytes spell, and with its one history it says the headline; each EPC in it is one
 -- that was heard

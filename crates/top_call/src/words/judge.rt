@@ -6,9 +6,10 @@ ghost use Rattle.top_call.specs.words.Judged.{judge_job};
 
 use crate::ending::{WriteEnd, Wrote, write_text};
 use air_io::Sink;
+use checked_lines::{Unread, fault_text};
 use judge_lines::{
-    Refusal, fault_text, judge_log, log_texts_are_not_faulty, log_texts_have_one_fault,
-    log_texts_have_one_verdict, push_verdict, texts_are_logs_or_faulty,
+    judge_log, log_texts_are_not_faulty, log_texts_have_one_fault, log_texts_have_one_verdict,
+    push_verdict, texts_are_logs_or_faulty,
 };
 use log_verdicts::logs_that_tags_make_are_explained;
 use std::alloc::Global;
@@ -25,11 +26,11 @@ pub fn write_judged<O: Sink>(alloc: Global, input: &[u8], output: &mut O) -> Res
             push_verdict(&mut line, &verdict)?;
             write_text(Wrote::Text, line.as_bytes(), output)
         }
-        Err(Refusal::Line(fault)) => {
+        Err(Unread::Line(fault)) => {
             let line = fault_text(fault);
             write_text(Wrote::FaultLine, line.as_slice(), output)
         }
-        Err(Refusal::OutOfMemory) => Err(WriteEnd::OutOfMemory),
+        Err(Unread::OutOfMemory) => Err(WriteEnd::OutOfMemory),
     }
 }
 

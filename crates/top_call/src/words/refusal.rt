@@ -8,19 +8,19 @@ ghost use Rattle.top_call.specs.words.Reported.{RefusesScenario};
 
 use crate::ending::{WriteEnd, Wrote, write_text};
 use air_io::Sink;
-use scenario_text::{ScenarioFault, fault_text};
+use checked_lines::{Unread, fault_text};
 
 /// Writes the line of the first fault of a text, as the fault line of an input of which it is a part, or the whole.
-pub fn write_refusal<O: Sink>(fault: ScenarioFault, output: &mut O) -> Result<Wrote, WriteEnd>
+pub fn write_refusal<O: Sink>(fault: Unread, output: &mut O) -> Result<Wrote, WriteEnd>
     ensures { (form : Form) (bytes text : List ℕ) → IsRefused text fault
         → ((line : List ℕ) → RefusesScenario text line → (job_of form).refuses bytes line)
         → EndsSo (job_of form) bytes (sink_change O.written O.faults output.old output.new) result }
 {
     match fault {
-        ScenarioFault::Line(number, fault) => {
-            let line = fault_text(number, fault);
+        Unread::Line(fault) => {
+            let line = fault_text(fault);
             write_text(Wrote::FaultLine, line.as_slice(), output)
         }
-        ScenarioFault::OutOfMemory => Err(WriteEnd::OutOfMemory),
+        Unread::OutOfMemory => Err(WriteEnd::OutOfMemory),
     }
 }

@@ -9,7 +9,7 @@ use Rattle.judge_lines.proofs.judging.read_tag.Goals as goal
 pub returns-then-not-is_version-clause-refused : goal.returns-then-not-is_version-clause-refused
 returns-then-not-is_version-clause-refused c =
     let other : c.in-Some.line.now ≢ log_version_line = λ same. search rules in
-    rw c.fault_at-then-not-is_version.ensures (first_faulty c.args.text.now c.in-Some.line.now c.in-Some.behind.now c.in-Some.ensures.lines other)
+    rw c.unread_at-then-not-is_version.ensures (first_faulty c.args.text.now c.in-Some.line.now c.in-Some.behind.now c.in-Some.ensures.lines other)
 
 pub returns-in_err-tag-clause-refused : goal.returns-in_err-tag-clause-refused
 returns-in_err-tag-clause-refused c =

@@ -25,4 +25,4 @@ returns-clause-refused c =
     let added : c.extend_from_slice.new.self.items ≡ c.in_ok-whole.whole.items ++ codes " 0000" = c.in_ok-extend_from_slice.ensures.items in
     let fields : fields_of c.as_slice.result.now ≡ with_word (fields_of c.args.line.now) =
     whole_fields c.args.line.now c.as_slice.result.now (c.as_slice.ensures.value ∙ added ∙ ap (λ (front : List ℕ). front ++ codes " 0000") copied) in
-    (refl, subst (λ (list : List (List ℕ)). IsFaultyTagLine list c.in-Err.reason) fields c.in-Err.ensures.refused)
+    rw c.unread_at.ensures (refl, subst (λ (list : List (List ℕ)). IsFaultyTagLine list c.in-Err.reason) fields c.in-Err.ensures.refused)

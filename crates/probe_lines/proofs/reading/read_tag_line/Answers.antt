@@ -1,13 +1,13 @@
+-- What the fields behind `tag` are refused for is a fault of the line.
+use Rattle.std.proofs.lemmas.Result.{IfErr-weaker}
+use Rattle.scenario_lines.specs.Reading.{MisreadsTag}
+use Rattle.text_fields.specs.Lines.{fields_of}
+use Rattle.probe_lines.specs.ProbeText.{IsFaultyTagLine}
+use Rattle.probe_lines.proofs.TagLines.{line_faulty}
 use Rattle.probe_lines.proofs.reading.read_tag_line.Goals as goal
 
-pub returns-in-Err-Shape-clause-refused : goal.returns-in-Err-Shape-clause-refused
-returns-in-Err-Shape-clause-refused c =
-    (record { others = c.in-Some.others; first = c.in-Some.ensures.some }, rw c.in-Err-Shape.field-0-is at c.in-Err-Shape.ensures.refused)
-
-pub returns-in-Err-Number-clause-refused : goal.returns-in-Err-Number-clause-refused
-returns-in-Err-Number-clause-refused c =
-    (record { others = c.in-Some.others; first = c.in-Some.ensures.some }, rw c.in-Err-Number.field-0-is at c.in-Err-Number.ensures.refused)
-
-pub returns-in-Err-Pc-clause-refused : goal.returns-in-Err-Pc-clause-refused
-returns-in-Err-Pc-clause-refused c =
-    (record { others = c.in-Some.others; first = c.in-Some.ensures.some }, rw c.in-Err-Pc.field-0-is at c.in-Err-Pc.ensures.refused)
+pub returns-clause-refused : goal.returns-clause-refused
+returns-clause-refused c =
+    let fields = fields_of c.args.line.now in
+    IfErr-weaker c.read_tag.result (MisreadsTag c.in-Some.others) (IsFaultyTagLine fields)
+    (line_faulty fields (record { others = c.in-Some.others; first = c.in-Some.ensures.some })) c.read_tag.ensures.refused

@@ -1,7 +1,7 @@
 -- The whole text of a scenario.
 use Rattle.std.proofs.Common.{◌≡◌, ◌⊎◌}
 use Rattle.std.proofs.lemmas.Result.{IfErr-weaker, IfOk-weaker}
-use Rattle.scenario_text.specs.declared.fault.ScenarioFault.TheVariants as faults
+use Rattle.checked_lines.specs.declared.fault.Unread.TheVariants as unread
 use Rattle.scenario.specs.ScenarioText.{scenario_text}
 use Rattle.scenario.specs.Limits.{IsScenario}
 use Rattle.scenario_text.specs.Faults.{IsRefused}
@@ -18,14 +18,14 @@ pub returns-clause-only : goal.returns-clause-only
 returns-clause-only c = λ said is same. (
   IfOk-weaker c.read_lines.result (SaysScenario c.args.text.now) (λ scenario. scenario ≡ said)
       (λ scenario read. is_the_one c.line_laws.ensures c.args.text.now said scenario is same read) c.read_lines.ensures.ok,
-  IfErr-weaker c.read_lines.result (IsRefused c.args.text.now) (λ fault. fault ≡ faults.OutOfMemory)
+  IfErr-weaker c.read_lines.result (IsRefused c.args.text.now) (λ fault. fault ≡ unread.OutOfMemory)
       (λ refusal refused. memory_alone c.line_laws.ensures c.args.text.now said refusal is same refused) c.read_lines.ensures.refused,
 )
 
 pub returns-clause-exact : goal.returns-clause-exact
 returns-clause-exact c = λ number fault first. (
   IfErr-weaker c.read_lines.result (IsRefused c.args.text.now)
-      (λ refusal. (refusal ≡ faults.Line number fault) ⊎ (refusal ≡ faults.OutOfMemory))
+      (λ refusal. (refusal ≡ unread.Line (record { line = number; reason = fault })) ⊎ (refusal ≡ unread.OutOfMemory))
       (λ refusal refused. told_exactly c.line_laws.ensures c.args.text.now refusal number fault refused first) c.read_lines.ensures.refused,
   IfOk-weaker c.read_lines.result (λ scenario. IsScenario scenario × (c.args.text.now ≡ scenario_text scenario)) (λ scenario. ⊥)
       (λ scenario read. none_is_read c.line_laws.ensures c.args.text.now scenario number fault read first) (returns-clause-ok c),

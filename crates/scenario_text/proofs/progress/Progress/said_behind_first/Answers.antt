@@ -5,7 +5,6 @@ use Rattle.scenario_lines.specs.declared.keywords.Keyword.{Keyword}
 use Rattle.scenario_lines.specs.LineBeginnings.{spelled_begins}
 use Rattle.scenario_lines.specs.LineFaults.{BeginsWithKeyword, IsFaultyLine, SpellsLine}
 use Rattle.scenario_lines.specs.Spelling.{keyword_of}
-use Rattle.scenario_text.specs.declared.fault.Fault.TheVariants as faults
 use Rattle.scenario_text.specs.Faults.{IsFaultyAt}
 use Rattle.scenario_text.specs.Standing.{HasRoomForLine, MayStand}
 use Rattle.scenario_text.specs.Taking.{standing_of}
@@ -24,7 +23,7 @@ returns-in_err-said-clause-refused c =
     let begins = subst (λ f. BeginsWithKeyword f keyword) c.in-Some.ensures.value c.keyword-keyword.ensures.value in
     let stands : MayStand standing keyword = search rules in
     let room : HasRoomForLine standing keyword = search rules in
-    of_fault (IsFaultyAt standing fields) c.from_residual.result (faults.Line reason) c.from_residual.ensures.1
+    of_fault (IsFaultyAt standing fields) c.from_residual.result reason c.from_residual.ensures.1
     (says_nothing standing fields keyword begins stands room reason (subst (λ f. IsFaultyLine f reason) c.in-Some.ensures.value c.in_err-said.ensures.refused))
 
 pub returns-in_err-agree-clause-refused : goal.returns-in_err-agree-clause-refused
