@@ -12,41 +12,32 @@ use Rattle.command_grammar.specs.declared.commands.Command.TheVariants.{QueryRep
 use Rattle.command_grammar.specs.declared.kinds.CommandKind.{CommandKind}
 use Rattle.command_grammar.specs.declared.kinds.CommandKind.TheVariants as kinds
 use Rattle.command_text.specs.CommandText.{IsCommandBehind, bank_word, command_name, commands, flag_word, mask_bank_word, payload_digits, sel_word, side_word, updn_word}
+use Rattle.command_text.specs.NameLists.{EachFound, all_command_kinds, command_found}
 use Rattle.command_text.proofs.CommandTexts.{commands_are}
 use Rattle.command_text.proofs.ToldApart.{block_of_list, list_of_block}
 use Rattle.scenario_lines.specs.Spelling.{flag_text}
 use Rattle.scenario_lines.proofs.Decisions.{Any, Decided, EachDecided, Spelled, behind_decided as then, nothing_decided as end, same_answer}
-use Rattle.scenario_lines.proofs.FieldsDecided.{IsWithin, any_bank_decided, bank_decided, bit_decided, bits_decided, code_decided, decimal_decided as number, flag_decided, payload_decided, side_decided, word_decided, words_decided}
+use Rattle.scenario_lines.proofs.KindsDecided.{Both, by_kind, nothing, with}
+use Rattle.scenario_lines.proofs.FieldsDecided.{IsWithin, any_bank_decided, bank_decided, bit_decided, bits_decided, code_decided, decimal_decided as number, flag_decided, named_decided, payload_decided, side_decided, word_decided, words_decided}
 use Rattle.text_fields.specs.Binary.{binary}
 use Rattle.text_fields.specs.CodeNames.{code_word}
 use Rattle.text_fields.specs.Hexadecimal.{hex_word, hex_words}
 use Rattle.text_fields.specs.WordLists.{IsWordList}
-use Rattle.judge_lines.proofs.VocabularyDecided.{Among, AreDecided, by_kind, here, one_of, there}
+use Rattle.judge_lines.proofs.VocabularyDecided.{AreDecided}
 
--- no more fields
-abbrev pub nothing : Unit {0} → List (List ℕ)
-nothing none = []
+abbrev all_sels : List Sel
+all_sels = sels.All00 ∷ sels.All01 ∷ sels.NotSl ∷ sels.Sl ∷ []
 
--- one field, and those behind it
-abbrev pub with : {V W : Type 0} → (V → List ℕ) → (W → List (List ℕ)) → V × W → List (List ℕ)
-with one others value = one value.0 ∷ others value.1
+sel_found : EachFound sel_word all_sels
+sel_found sels.All00 = refl
+sel_found sel = refl
 
-abbrev pub Both : {V W : Type 0} → (V → Type 0) → (W → Type 0) → V × W → Type 0
-Both May Might value = May value.0 × Might value.1
+abbrev all_updns : List UpDn
+all_updns = Up ∷ Same ∷ Down ∷ []
 
-a_sel : (sel : Sel) → Among sel (sels.All00 ∷ sels.All01 ∷ sels.NotSl ∷ sels.Sl ∷ [])
-a_sel sels.All00 = here
-a_sel sel = search (here, there)
-
-an_updn : (updn : UpDn) → Among updn (Up ∷ Same ∷ Down ∷ [])
-an_updn Up = here
-an_updn updn = search (here, there)
-
--- the name of a command
-a_kind : (kind : CommandKind) → Among kind (kinds.QueryRep ∷ kinds.Ack ∷ kinds.Query ∷ kinds.QueryAdjust ∷ kinds.Select ∷ kinds.Nak ∷ kinds.ReqRn ∷ kinds.Read
-    ∷ kinds.Write ∷ kinds.Kill ∷ kinds.Lock ∷ kinds.Access ∷ kinds.BlockWrite ∷ kinds.BlockErase ∷ [])
-a_kind kinds.QueryRep = here
-a_kind kind = search (here, there) depth 20
+updn_found : EachFound updn_word all_updns
+updn_found Up = refl
+updn_found updn = refl
 
 -- behind the name of this command, the fields spell one
 abbrev HasCommand : CommandKind → List (List ℕ) → Type 0
@@ -141,10 +132,10 @@ command_behind kinds.Query fields =
       Query v.0 v.1.0 v.1.1.0 v.1.1.1.0 v.1.1.1.1.0 v.1.1.1.1.1.0 v.1.1.1.1.1.1.0,
       record { same_kind = refl; in_range = (may.1.1.1.1.0.1, may.1.1.1.1.1.1.0.1); spelling = found.2 },
     )) (there_of kinds.Query fields)
-    (then bit_decided (then code_decided (then bit_decided (then (one_of sel_word _ a_sel) (then (number 0 3) (then side_decided (then (number 0 15) end)))))) fields)
+    (then bit_decided (then code_decided (then bit_decided (then (named_decided sel_word all_sels sel_found) (then (number 0 3) (then side_decided (then (number 0 15) end)))))) fields)
 command_behind kinds.QueryAdjust fields =
     same_answer (λ found. (QueryAdjust found.0.0 found.0.1.0, record { same_kind = refl; in_range = found.1.0.1; spelling = found.2 })) (there_of kinds.QueryAdjust fields)
-    (then (number 0 3) (then (one_of updn_word _ an_updn) end) fields)
+    (then (number 0 3) (then (named_decided updn_word all_updns updn_found) end) fields)
 command_behind kinds.Select fields =
     same_answer (λ found. let v = found.0 in let may = found.1 in (
       Select v.0 v.1.0 v.1.1.0 v.1.1.1.0 v.1.1.1.1.0,
@@ -188,4 +179,4 @@ command_behind kinds.BlockErase fields =
     )) (there_of kinds.BlockErase fields) (at_place (number 1 255) fields)
 
 pub commands_decided : AreDecided commands IsLegalCommand
-commands_decided = record { is = commands_are; names = one_of command_name _ a_kind; behind = command_behind }
+commands_decided = record { is = commands_are; names = named_decided command_name all_command_kinds command_found; behind = command_behind }

@@ -6,6 +6,7 @@ use Rattle.air_events.specs.declared.Event.TheVariants as events
 use Rattle.command_fields.specs.declared.choices.FlagName.TheVariants.{S0}
 use Rattle.command_grammar.specs.Commands.{IsLegalCommand}
 use Rattle.command_text.specs.CommandText.{commands, flag_word}
+use Rattle.command_text.specs.NameLists.{EachFound}
 use Rattle.command_text.proofs.FieldTexts.{flag_is}
 use Rattle.scenario_lines.proofs.ToldNames.{event_word_told}
 use Rattle.text_fields.proofs.FilledFields.{none_filled, one_more}
@@ -23,8 +24,9 @@ use Rattle.scenario_lines.specs.declared.keywords.EventKind.{EventKind}
 use Rattle.scenario_lines.specs.declared.keywords.EventKind.TheVariants as kinds
 use Rattle.scenario_lines.specs.declared.keywords.Keyword.TheVariants as keywords
 use Rattle.scenario_lines.specs.declared.tag.TagSpec.{TagSpec}
-use Rattle.scenario_lines.proofs.Decisions.{Any, Decided, Spelled, behind_decided as then, nothing_decided as end, same_answer, text_decided}
-use Rattle.scenario_lines.proofs.FieldsDecided.{IsLasting, bits_decided, lasting_decided}
+use Rattle.scenario_lines.proofs.Decisions.{Any, Decided, Spelled, behind_decided as then, head_same, nothing_decided as end, same_answer, text_decided}
+use Rattle.scenario_lines.proofs.FieldsDecided.{IsLasting, bits_decided, lasting_decided, named_decided}
+use Rattle.scenario_lines.proofs.KindsDecided.{Both, by_kind, filled_decided, nothing, with}
 use Rattle.scenario_lines.proofs.LinesDecided.{FormedBehind, event_kind_decided, formed_behind}
 use Rattle.scenario_lines.specs.declared.line.Line.TheVariants as lines
 use Rattle.tag_machine.specs.declared.any_tag.Answered.{Answered}
@@ -35,14 +37,10 @@ use Rattle.checked_lines.specs.declared.fault.FaultReason.TheVariants as faults
 use Rattle.text_fields.specs.NamedFields.{AreFilled, SpellBehind}
 use Rattle.text_fields.specs.declared.fields_fault.FieldsFault.{FieldsFault}
 use Rattle.text_fields.specs.declared.fields_fault.FieldsFault.TheVariants.{Word, Shape, Number}
-use Rattle.judge_lines.proofs.CommandsDecided.{commands_decided, nothing}
+use Rattle.judge_lines.proofs.CommandsDecided.{commands_decided}
 use Rattle.judge_lines.proofs.RepliesDecided.{replies_decided}
-use Rattle.judge_lines.proofs.VocabularyDecided.{Among, AreDecided, SpellOrAreFaulty, by_kind, filled_decided, here, one_of, spell_or_are_faulty, there}
+use Rattle.judge_lines.proofs.VocabularyDecided.{AreDecided, SpellOrAreFaulty, spell_or_are_faulty}
 use Rattle.judge_lines.specs.SeenLine.{AreFaultySeen, SpellSeen, seen_mark_word}
-
--- one field alone
-abbrev alone : {V : Type 0} → (V → List ℕ) → V × Unit {0} → List (List ℕ)
-alone one value = one value.0 ∷ nothing value.1
 
 -- an event: its kind, and the flag of an expiry
 abbrev HasEvent : EventKind → List (List ℕ) → Type 0
@@ -50,7 +48,7 @@ HasEvent kind fields = (event : Event) × SpellBehind probe_events IsProbeEvent 
 
 -- behind each kind its fields are these
 abbrev Forms : EventKind → List (List ℕ) → Type 0
-Forms kinds.Expire = Spelled (alone flag_word) (λ value. IsLasting value.0 × Any value.1)
+Forms kinds.Expire = Spelled (with flag_word nothing) (Both IsLasting Any)
 Forms kind = Spelled nothing Any
 
 formed : (event : Event) (fields : List (List ℕ)) → IsProbeEvent event → fields ≡ probe_events.others event → Forms (probe_events.kind event) fields
@@ -126,17 +124,17 @@ worded_or_faulty words.Bits others = bits_or_faulty others
 worded_or_faulty words.Event others = event_or_faulty others (spell_or_are_faulty probe_events IsProbeEvent events_decided others)
 worded_or_faulty words.End others = end_or_faulty others
 
-a_word : (word : LineWord) → Among word (words.Bits ∷ words.Event ∷ words.End ∷ [])
-a_word words.Bits = here
-a_word word = search (here, there)
+abbrev all_words : List LineWord
+all_words = words.Bits ∷ words.Event ∷ words.End ∷ []
 
-pub head_same : (a b : List ℕ) (rest rest' : List (List ℕ)) → a ∷ rest ≡ b ∷ rest' → a ≡ b
-head_same a b rest rest' same = cc
+word_found : EachFound line_word all_words
+word_found words.Bits = refl
+word_found word = refl
 
 pub says_or_is_faulty : (fields : List (List ℕ)) → SaysOrIsFaulty fields
 says_or_is_faulty [] =
     command_or_faulty [] (λ word begins. let same = begins.first in cc) (spell_or_are_faulty commands IsLegalCommand commands_decided [])
-says_or_is_faulty (first ∷ others) = elim (one_of line_word _ a_word first) [
+says_or_is_faulty (first ∷ others) = elim (named_decided line_word all_words word_found first) [
   | inl found ↦ subst (λ (field : List ℕ). SaysOrIsFaulty (field ∷ others)) (sym found.2) (worded_or_faulty found.0 others)
   | inr none ↦ command_or_faulty (first ∷ others)
       (λ word begins. none (word, tt, head_same first (line_word word) others begins.others begins.first))
@@ -173,13 +171,16 @@ marked_or_faulty Silent behind = silent_or_faulty behind
 marked_or_faulty Plain behind = plain_or_faulty behind (spell_or_are_faulty replies IsReplyForm replies_decided behind)
 marked_or_faulty Extended behind = extended_or_faulty behind (spell_or_are_faulty replies IsReplyForm replies_decided behind)
 
-a_mark : (mark : Answered) → Among mark (Silent ∷ Plain ∷ Extended ∷ [])
-a_mark Silent = here
-a_mark mark = search (here, there)
+abbrev all_marks : List Answered
+all_marks = Silent ∷ Plain ∷ Extended ∷ []
+
+mark_found : EachFound seen_mark_word all_marks
+mark_found Silent = refl
+mark_found mark = refl
 
 pub tells_or_is_faulty : (others : List (List ℕ)) → TellsOrIsFaulty others
 tells_or_is_faulty [] = inr (Shape, inr (inr (refl, refl)))
-tells_or_is_faulty (first ∷ behind) = elim (one_of seen_mark_word _ a_mark first) [
+tells_or_is_faulty (first ∷ behind) = elim (named_decided seen_mark_word all_marks mark_found first) [
   | inl found ↦ subst (λ (field : List ℕ). TellsOrIsFaulty (field ∷ behind)) (sym found.2) (marked_or_faulty found.0 behind)
   | inr none ↦ inr (Word, inr (inl (refl, λ mark is. none (mark, tt, is))))
 ]

@@ -17,10 +17,10 @@ use Rattle.probe_lines.specs.ProbeText.{IsStimulusTooMuch, most_stimuli}
 use Rattle.probe_lines.specs.Said.{Stimulus, StimulusEffect, Does}
 use Rattle.probe_lines.specs.Said as said
 use Rattle.probe_lines.specs.declared.line.LineWord.TheVariants as words
-use Rattle.scenario_lines.proofs.Decisions.{Decided, text_decided}
+use Rattle.scenario_lines.proofs.Decisions.{Decided, head_same, text_decided}
 use Rattle.text_fields.specs.Lines.{fields_of, lines_of}
 use Rattle.text_fields.specs.declared.fields_fault.FieldsFault.TheVariants as reasons
-use Rattle.judge_lines.proofs.LinesDecided.{SaysOrIsFaulty, TellsOrIsFaulty, TellsTagOrIsFaulty, head_same, says_or_is_faulty, tag_or_faulty, tells_or_is_faulty}
+use Rattle.judge_lines.proofs.LinesDecided.{SaysOrIsFaulty, TellsOrIsFaulty, TellsTagOrIsFaulty, says_or_is_faulty, tag_or_faulty, tells_or_is_faulty}
 use Rattle.judge_lines.proofs.LogLaws.{answer_known, other_known, unknown_answer, unknown_other}
 use Rattle.judge_lines.specs.LogText.{IsFaultyNext, IsFaultySeen, IsFirstLogFault, IsLogText, LogMayEnd, LogStanding, TellsNextEntry, TellsSeen, asked, begun, behind_effect, ended, log_rules, logged_tag, start, log_version_line, with_word, within}
 use Rattle.judge_lines.specs.SeenLine.{BeginsAsAnswer, answer_word}

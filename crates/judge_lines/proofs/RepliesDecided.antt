@@ -1,5 +1,6 @@
 -- Fields spell a reply, or there is a reason for which they spell none.
 use Rattle.std.proofs.Common.{◌≡◌, ◌<◌, ◌^◌, ℕ, List, [], ◌∷◌, refl}
+use Rattle.command_text.specs.NameLists.{EachFound}
 use Rattle.reply_grammar.specs.declared.expected.Reply.{Reply}
 use Rattle.reply_grammar.specs.declared.expected.Reply.TheVariants.{Rn16, Epc, Handle, Words, Header, Error}
 use Rattle.reply_text.specs.ReplyText.{IsReplyBehind, IsReplyForm, replies, reply_name}
@@ -7,12 +8,12 @@ use Rattle.reply_text.specs.declared.kinds.ReplyKind.{ReplyKind}
 use Rattle.reply_text.specs.declared.kinds.ReplyKind.TheVariants as kinds
 use Rattle.reply_text.proofs.ReplyTexts.{replies_are}
 use Rattle.scenario_lines.proofs.Decisions.{Any, Decided, Spelled, behind_decided as then, below_decided, nothing_decided as end, same_answer, text_decided}
-use Rattle.scenario_lines.proofs.FieldsDecided.{word_decided, words_decided}
+use Rattle.scenario_lines.proofs.FieldsDecided.{named_decided, word_decided, words_decided}
+use Rattle.scenario_lines.proofs.KindsDecided.{Both, by_kind, nothing, with}
 use Rattle.text_fields.specs.Hexadecimal.{hex_byte, hex_word, hex_words}
 use Rattle.text_fields.specs.WordLists.{IsWordList}
 use Rattle.command_grammar.specs.Commands.{IsWord}
-use Rattle.judge_lines.proofs.CommandsDecided.{Both, nothing, with}
-use Rattle.judge_lines.proofs.VocabularyDecided.{Among, AreDecided, by_kind, here, one_of, there}
+use Rattle.judge_lines.proofs.VocabularyDecided.{AreDecided}
 
 abbrev IsByte : ℕ → Type 0
 IsByte number = number < 2 ^ 8
@@ -20,9 +21,12 @@ IsByte number = number < 2 ^ 8
 byte_decided : (field : List ℕ) → Decided (Spelled hex_byte IsByte field)
 byte_decided field = below_decided (λ n. field ≡ hex_byte n) (λ n. text_decided field (hex_byte n)) (2 ^ 8)
 
-a_kind : (kind : ReplyKind) → Among kind (kinds.Rn16 ∷ kinds.Epc ∷ kinds.Handle ∷ kinds.Words ∷ kinds.Header ∷ kinds.Error ∷ [])
-a_kind kinds.Rn16 = here
-a_kind kind = search (here, there) depth 9
+abbrev all_kinds : List ReplyKind
+all_kinds = kinds.Rn16 ∷ kinds.Epc ∷ kinds.Handle ∷ kinds.Words ∷ kinds.Header ∷ kinds.Error ∷ []
+
+reply_found : EachFound reply_name all_kinds
+reply_found kinds.Rn16 = refl
+reply_found kind = refl
 
 -- behind the name of this reply, the fields spell one
 abbrev HasReply : ReplyKind → List (List ℕ) → Type 0
@@ -65,4 +69,4 @@ reply_behind kinds.Error fields =
     same_answer (λ found. (Error found.0.0, record { same_kind = refl; in_range = found.1.0; spelling = found.2 })) (there_of kinds.Error fields) (then byte_decided end fields)
 
 pub replies_decided : AreDecided replies IsReplyForm
-replies_decided = record { is = replies_are; names = one_of reply_name _ a_kind; behind = reply_behind }
+replies_decided = record { is = replies_are; names = named_decided reply_name all_kinds reply_found; behind = reply_behind }

@@ -70,7 +70,7 @@ Only word text = Spelled (λ (_ : Unit {0}). word) Any text
 pub only_decided : {A : Type 0} → ((a b : A) → Decided (a ≡ b)) → (word text : A) → Decided (Only word text)
 only_decided same word text = same_answer (λ is. (tt, tt, is)) (λ only. only.2) (same text word)
 
-head_same : {A : Type 0} (a b : A) (rest rest' : List A) → a ∷ rest ≡ b ∷ rest' → a ≡ b
+pub head_same : {A : Type 0} (a b : A) (rest rest' : List A) → a ∷ rest ≡ b ∷ rest' → a ≡ b
 head_same a b rest rest' same = cc
 
 tail_same : {A : Type 0} (a b : A) (rest rest' : List A) → a ∷ rest ≡ b ∷ rest' → rest ≡ rest'

@@ -1,7 +1,6 @@
 pub mod LinePieces
 pub mod Filled
 pub mod Counted
-pub mod Events
 pub mod AirFields
 pub mod OpFields
 pub mod TagFields
@@ -15,6 +14,7 @@ pub mod OneOp
 pub mod LineShapes
 pub mod LineReasons
 pub mod Decisions
+pub mod KindsDecided
 pub mod FieldsDecided
 pub mod LinesDecided
 pub mod SomeReason

@@ -1,5 +1,6 @@
 -- Fields spell a line, or are faulty for one reason.
-use Rattle.std.proofs.Common.{◌≡◌, ℕ, true, false, List, ◌∷◌, ap, refl, sym, ◌∙◌, subst}
+use Rattle.std.proofs.Common.{◌≡◌, ℕ, true, false, List, ◌∷◌, Result, Ok, Err, IfErr, IfOk, ap, ap₂, refl, sym, ◌∙◌, subst}
+use Rattle.std.specs.Prelude.{IsOkAnd}
 use Rattle.tag_memory.specs.Image.{pc_fits}
 use Rattle.pie_line.specs.Link.{IsLegalLink, LinkValue}
 use Rattle.pie_line.specs.LinkRefusal.{IsFirstBroken}
@@ -13,11 +14,11 @@ use Rattle.checked_lines.specs.declared.fault.FaultReason.{FaultReason}
 use Rattle.checked_lines.specs.declared.fault.FaultReason.TheVariants.{Word as WordFault, Shape, Number, Tari, RtCal, TrCal, Pw, Pc}
 use Rattle.scenario_lines.specs.Names.{keyword_text}
 use Rattle.scenario_lines.specs.LineForm.{HasForm, IsCoherent}
-use Rattle.scenario_lines.specs.LineFaults.{BeginsWithKeyword, BreaksLink, HasShape, IsFaultyLine, IsFaultyBehind, SpellsLine}
+use Rattle.scenario_lines.specs.LineFaults.{BeginsWithKeyword, BreaksLink, HasKnownKind, HasShape, IsFaultyLine, IsFaultyBehind, SpellsBehind, SpellsLine}
 use Rattle.scenario_lines.specs.Spelling.{line_fields, other_fields, keyword_of}
 use Rattle.scenario_lines.specs.Reading.{link_fault}
 use Rattle.scenario_lines.proofs.LineShapes.{line_shape, shaped_known}
-use Rattle.scenario_lines.proofs.ToldLines.{line_told, same_fields}
+use Rattle.scenario_lines.proofs.ToldLines.{line_told, same_fields, spelled_told}
 use Rattle.scenario_lines.proofs.ToldNames.{keyword_told}
 
 -- a keyword of a scenario stands at the head, with a kind that is known where a kind is there
@@ -184,3 +185,23 @@ spelled_not_faulty fields line fault spells faulty =
 
 pub faulty_once : (fields : List (List ℕ)) (one other : FaultReason) → IsFaultyLine fields one → IsFaultyLine fields other → one ≡ other
 faulty_once fields one other faulty faulty' = stops_once fields one other (stop_of fields one faulty) (stop_of fields other faulty')
+
+-- what is spelled behind a keyword is spelled with it
+spelled_whole : (keyword : Keyword) (others : List (List ℕ)) (line : Line) → SpellsBehind keyword others line → SpellsLine (keyword_text keyword ∷ others) line
+spelled_whole keyword others line spells =
+    record { spelling = ap₂ (λ first rest. keyword_text first ∷ rest) (sym spells.same_keyword) spells.spelling; is = spells.is }
+
+not_faulty_behind : (keyword : Keyword) (others : List (List ℕ)) (line : Line) (fault : FaultReason) → SpellsBehind keyword others line → IsFaultyBehind keyword others fault → ⊥
+not_faulty_behind keyword others line WordFault spells faulty =
+    let known = shaped_known (keyword_of line) (other_fields line) (line_shape line spells.is.form) in
+    faulty (subst (λ first. HasKnownKind first others) spells.same_keyword (subst (HasKnownKind (keyword_of line)) (sym spells.spelling) known))
+not_faulty_behind keyword others line fault spells faulty =
+    spelled_not_faulty (keyword_text keyword ∷ others) line fault (spelled_whole keyword others line spells)
+    (record { keyword = keyword; others = others; first = refl; faulty = faulty })
+
+-- a reader of the fields behind a keyword reads what they spell: they spell no other line, and aren't faulty
+pub only_spelled : (keyword : Keyword) (others : List (List ℕ)) (result : Result Line FaultReason) → IfOk result (SpellsBehind keyword others)
+    → IfErr result (IsFaultyBehind keyword others) → (said : Line) → SpellsBehind keyword others said → IsOkAnd result (λ it. it ≡ said)
+only_spelled keyword others (Ok line) ok refused said spells =
+    spelled_told (keyword_text keyword ∷ others) line said (spelled_whole keyword others line ok) (spelled_whole keyword others said spells)
+only_spelled keyword others (Err fault) ok refused said spells = not_faulty_behind keyword others said fault spells refused

@@ -1,5 +1,5 @@
 -- The fields of a line are each of their form and range, or they are of no line's.
-use Rattle.std.proofs.Common.{◌≡◌, ◌≢◌, ◌<◌, ◌≤◌, ◌^◌, ℕ, Bool, List, [], ◌∷◌, refl, sym, ◌∙◌, ap, ap₂, inl, inr, arith}
+use Rattle.std.proofs.Common.{◌≡◌, ◌≢◌, ◌<◌, ◌≤◌, ◌^◌, ℕ, Bool, List, [], ◌∷◌, refl, sym, ◌∙◌, ap, ap₂, subst, inl, inr, arith}
 use Rattle.std.specs.Fmt.{decimal}
 use Rattle.text_fields.specs.Binary.{binary}
 use Rattle.text_fields.specs.Hexadecimal.{hex_word, hex_words}
@@ -29,30 +29,20 @@ use Rattle.scenario_lines.specs.declared.line.Happening.{Happening}
 use Rattle.scenario_lines.specs.declared.line.Happening.TheVariants as happenings
 use Rattle.scenario_lines.specs.declared.line.Line.{Line}
 use Rattle.scenario_lines.specs.declared.line.Line.TheVariants as lines
-use Rattle.scenario_lines.specs.Names.{air_found, air_word, all_air_kinds, all_op_kinds, event_kind, event_word, op_found, op_word, several_text, version_digit}
+use Rattle.scenario_lines.specs.Names.{air_found, air_kind, air_word, all_air_kinds, all_op_kinds, event_kind, event_word, op_found, op_kind, op_word, several_text, version_digit}
 use Rattle.text_fields.specs.NamedFields.{SpellBehind, Vocabulary, spelled_fields}
 use Rattle.text_fields.specs.WordLists.{IsWordList}
 use Rattle.value_text.specs.ValueText.{password_text}
 use Rattle.scenario_lines.specs.TagForm.{IsTagForm, tag_spec_of}
 use Rattle.scenario_lines.specs.LineForm.{HasForm, IsEvent, IsHappening, IsLinkForm, IsPlace, IsRound, IsSelection, most_level, most_nanoseconds}
-use Rattle.scenario_lines.specs.Spelling.{air_vocabulary, event_vocabulary, link_fields, op_vocabulary, other_fields, round_fields, select_fields, tag_spec_fields, keyword_of}
+use Rattle.scenario_lines.specs.Spelling.{air_vocabulary, event_vocabulary, happening_fields, link_fields, op_fields, op_vocabulary, other_fields, round_fields, select_fields, tag_spec_fields, keyword_of}
 use Rattle.scenario_lines.specs.Reading.{IsEventText, IsHappeningText, IsOpText}
 use Rattle.scenario_lines.proofs.Decisions.{Any, Decided, EachDecided, Spelled, behind_decided as then, nothing_decided, only_decided, same_answer, text_decided}
+use Rattle.scenario_lines.proofs.KindsDecided.{Both, by_kind, nothing, with}
 use Rattle.scenario_lines.proofs.FieldsDecided.{IsLasting, IsWithin, any_bank_decided, bank_decided, bit_decided, bits_decided, code_decided, decimal_decided, flag_decided, lasting_decided, locks_decided, named_decided, password_decided, payload_decided, rule_decided, sel_decided, several_decided, side_decided, version_decided, word_decided, words_decided}
 use Rattle.scenario_lines.proofs.ToldLines.{same_fields}
 use Rattle.scenario_lines.proofs.ToldNames.{air_word_told, all_event_kinds, event_found, event_word_told, op_word_told}
 use Rattle.command_text.proofs.ToldApart.{block_of_list, list_of_block}
-
--- no more fields
-abbrev nothing : Unit {0} → List (List ℕ)
-nothing none = []
-
--- one field, and those behind it
-abbrev with : {V W : Type 0} → (V → List ℕ) → (W → List (List ℕ)) → V × W → List (List ℕ)
-with one others value = one value.0 ∷ others value.1
-
-abbrev Both : {V W : Type 0} → (V → Type 0) → (W → Type 0) → V × W → Type 0
-Both May Might value = May value.0 × Might value.1
 
 -- one word alone
 abbrev the : List ℕ → Unit {0} → List ℕ
@@ -263,49 +253,43 @@ IsPlaced May = Both Any (Both (IsWithin 0 268435455) (Both May Any))
 at_place : {V : Type 0} {last : V → List ℕ} {May : V → Type 0} → ((field : List ℕ) → Decided (Spelled last May field)) → FieldsDecided (placed last) (IsPlaced May)
 at_place decided = then any_bank_decided (then (number 0 268435455) (then decided end))
 
-read_there : (fields : List (List ℕ)) → HasOp op_kinds.Read fields → Spelled (placed decimal) (IsPlaced (IsWithin 0 255)) fields
-read_there fields (ops.Read bank pointer count, text) =
-    ((bank, (pointer, (count, tt))), (tt, ((omega arith, omega (arith, text.in_range.0)), ((omega arith, text.in_range.1), tt))), text.spelling)
-read_there fields (op, text) = let is = text.same_kind in cc
+-- behind each kind of an operation its fields are these
+abbrev OpForms : OpKind → List (List ℕ) → Type 0
+OpForms op_kinds.Read = Spelled (placed decimal) (IsPlaced (IsWithin 0 255))
+OpForms op_kinds.Write = Spelled (placed hex_word) (IsPlaced (λ word. word < 2 ^ 16))
+OpForms op_kinds.BlockWrite = Spelled (placed hex_words) (IsPlaced (IsWordList 1 255))
+OpForms op_kinds.BlockErase = Spelled (placed decimal) (IsPlaced (IsWithin 1 255))
+OpForms op_kinds.Lock = Spelled (with payload_digits nothing) (Both (λ payload. payload < 1048576) Any)
+OpForms op_kinds.Access = Spelled (with password_text nothing) (Both (λ password. password < 2 ^ 32) Any)
+OpForms op_kinds.Kill = Spelled (with password_text nothing) (Both (λ password. password < 2 ^ 32) Any)
 
-write_there : (fields : List (List ℕ)) → HasOp op_kinds.Write fields → Spelled (placed hex_word) (IsPlaced (λ word. word < 2 ^ 16)) fields
-write_there fields (ops.Write bank pointer word, text) =
-    ((bank, (pointer, (word, tt))), (tt, ((omega arith, omega (arith, text.in_range.0)), (text.in_range.1, tt))), text.spelling)
-write_there fields (op, text) = let is = text.same_kind in cc
+op_formed : (op : Op) (fields : List (List ℕ)) → IsLegalOp op → fields ≡ op_fields op → OpForms (op_kind op) fields
+op_formed (ops.Read bank pointer count) fields legal is =
+    ((bank, (pointer, (count, tt))), (tt, ((omega arith, omega (arith, legal.0)), ((omega arith, legal.1), tt))), is)
+op_formed (ops.Write bank pointer word) fields legal is =
+    ((bank, (pointer, (word, tt))), (tt, ((omega arith, omega (arith, legal.0)), (legal.1, tt))), is)
+op_formed (ops.BlockWrite bank pointer block) fields legal is =
+    ((bank, (pointer, (block, tt))), (tt, ((omega arith, omega (arith, legal.0)), (list_of_block block (legal.1, legal.2, legal.3), tt))), is)
+op_formed (ops.BlockErase bank pointer count) fields legal is =
+    ((bank, (pointer, (count, tt))), (tt, ((omega arith, omega (arith, legal.0)), ((legal.1, legal.2), tt))), is)
+op_formed (ops.Lock payload) fields legal is = ((payload, tt), (omega (arith, legal), tt), is)
+op_formed (ops.Access password) fields legal is = ((password, tt), (legal, tt), is)
+op_formed (ops.Kill password) fields legal is = ((password, tt), (legal, tt), is)
 
-block_write_there : (fields : List (List ℕ)) → HasOp op_kinds.BlockWrite fields → Spelled (placed hex_words) (IsPlaced (IsWordList 1 255)) fields
-block_write_there fields (ops.BlockWrite bank pointer block, text) =
-    ((bank, (pointer, (block, tt))), (tt, ((omega arith, omega (arith, text.in_range.0)), (list_of_block block (text.in_range.1, text.in_range.2, text.in_range.3), tt))), text.spelling)
-block_write_there fields (op, text) = let is = text.same_kind in cc
-
-block_erase_there : (fields : List (List ℕ)) → HasOp op_kinds.BlockErase fields → Spelled (placed decimal) (IsPlaced (IsWithin 1 255)) fields
-block_erase_there fields (ops.BlockErase bank pointer count, text) =
-    ((bank, (pointer, (count, tt))), (tt, ((omega arith, omega (arith, text.in_range.0)), ((text.in_range.1, text.in_range.2), tt))), text.spelling)
-block_erase_there fields (op, text) = let is = text.same_kind in cc
-
-lock_there : (fields : List (List ℕ)) → HasOp op_kinds.Lock fields → Spelled (with payload_digits nothing) (Both (λ n. n < 1048576) Any) fields
-lock_there fields (ops.Lock payload, text) = ((payload, tt), (omega (arith, text.in_range), tt), text.spelling)
-lock_there fields (op, text) = let is = text.same_kind in cc
-
-access_there : (fields : List (List ℕ)) → HasOp op_kinds.Access fields → Spelled (with password_text nothing) (Both (λ n. n < 2 ^ 32) Any) fields
-access_there fields (ops.Access password, text) = ((password, tt), (text.in_range, tt), text.spelling)
-access_there fields (op, text) = let is = text.same_kind in cc
-
-kill_there : (fields : List (List ℕ)) → HasOp op_kinds.Kill fields → Spelled (with password_text nothing) (Both (λ n. n < 2 ^ 32) Any) fields
-kill_there fields (ops.Kill password, text) = ((password, tt), (text.in_range, tt), text.spelling)
-kill_there fields (op, text) = let is = text.same_kind in cc
+op_there : (kind : OpKind) (fields : List (List ℕ)) → HasOp kind fields → OpForms kind fields
+op_there = by_kind op_vocabulary IsLegalOp OpForms op_formed
 
 op_behind : (kind : OpKind) (fields : List (List ℕ)) → Decided (HasOp kind fields)
 op_behind op_kinds.Read fields =
     same_answer (λ found. (
       ops.Read found.0.0 found.0.1.0 found.0.1.1.0,
       record { same_kind = refl; spelling = found.2; in_range = (omega (arith, found.1.1.0.1), found.1.1.1.0.1) },
-    )) (read_there fields) (at_place (number 0 255) fields)
+    )) (op_there op_kinds.Read fields) (at_place (number 0 255) fields)
 op_behind op_kinds.Write fields =
     same_answer (λ found. (
       ops.Write found.0.0 found.0.1.0 found.0.1.1.0,
       record { same_kind = refl; spelling = found.2; in_range = (omega (arith, found.1.1.0.1), found.1.1.1.0) },
-    )) (write_there fields) (at_place word_decided fields)
+    )) (op_there op_kinds.Write fields) (at_place word_decided fields)
 op_behind op_kinds.BlockWrite fields =
     same_answer (λ found. (
       ops.BlockWrite found.0.0 found.0.1.0 found.0.1.1.0,
@@ -316,20 +300,20 @@ op_behind op_kinds.BlockWrite fields =
             let block = block_of_list found.0.1.1.0 found.1.1.1.0 in
             (omega (arith, found.1.1.0.1), block.0, block.1, block.2);
       },
-    )) (block_write_there fields) (at_place (words_decided 1 255) fields)
+    )) (op_there op_kinds.BlockWrite fields) (at_place (words_decided 1 255) fields)
 op_behind op_kinds.BlockErase fields =
     same_answer (λ found. (
       ops.BlockErase found.0.0 found.0.1.0 found.0.1.1.0,
       record { same_kind = refl; spelling = found.2; in_range = (omega (arith, found.1.1.0.1), found.1.1.1.0.0, found.1.1.1.0.1) },
-    )) (block_erase_there fields) (at_place (number 1 255) fields)
+    )) (op_there op_kinds.BlockErase fields) (at_place (number 1 255) fields)
 op_behind op_kinds.Lock fields =
-    same_answer (λ found. (ops.Lock found.0.0, record { same_kind = refl; spelling = found.2; in_range = omega (arith, found.1.0) })) (lock_there fields)
+    same_answer (λ found. (ops.Lock found.0.0, record { same_kind = refl; spelling = found.2; in_range = omega (arith, found.1.0) })) (op_there op_kinds.Lock fields)
     (then payload_decided end fields)
 op_behind op_kinds.Access fields =
-    same_answer (λ found. (ops.Access found.0.0, record { same_kind = refl; spelling = found.2; in_range = found.1.0 })) (access_there fields)
+    same_answer (λ found. (ops.Access found.0.0, record { same_kind = refl; spelling = found.2; in_range = found.1.0 })) (op_there op_kinds.Access fields)
     (then password_decided end fields)
 op_behind op_kinds.Kill fields =
-    same_answer (λ found. (ops.Kill found.0.0, record { same_kind = refl; spelling = found.2; in_range = found.1.0 })) (kill_there fields)
+    same_answer (λ found. (ops.Kill found.0.0, record { same_kind = refl; spelling = found.2; in_range = found.1.0 })) (op_there op_kinds.Kill fields)
     (then password_decided end fields)
 
 op_decided : FieldsDecided (spelled_fields op_vocabulary) IsLegalOp
@@ -339,59 +323,48 @@ op_decided = behind_kind_decided op_vocabulary IsLegalOp op_word_told op_kind_de
 abbrev HasHappening : AirKind → List (List ℕ) → Type 0
 HasHappening kind fields = (happening : Happening) × IsHappeningText kind fields happening
 
-same_event_kind : (kind other : EventKind) → airs.Event kind ≡ airs.Event other → kind ≡ other
-same_event_kind kind other same = cc
+-- behind each kind of an air line its fields are these
+abbrev HappeningForms : AirKind → List (List ℕ) → Type 0
+HappeningForms (airs.Event kind) = HasEvent kind
+HappeningForms airs.Miss = Spelled (λ (n : ℕ). decimal n ∷ []) IsPlace
+HappeningForms airs.Pick = Spelled (λ (n : ℕ). decimal n ∷ []) IsPlace
+HappeningForms airs.Silent = Spelled nothing Any
+HappeningForms airs.Break = Spelled (λ (n : ℕ). decimal n ∷ []) (λ n. n ≤ most_level)
+HappeningForms airs.Raw = Spelled (λ (levels : List Bool). binary levels ∷ []) HasStreamLength
 
-event_there : (kind : EventKind) (fields : List (List ℕ)) (happening : Happening) → IsHappeningText (airs.Event kind) fields happening → HasEvent kind fields
-event_there kind fields (happenings.Event event tag) text =
-    ((event, tag), record { same_kind = same_event_kind (event_kind event) kind text.same_kind; spelling = text.spelling; in_range = text.in_range })
-event_there kind fields (happenings.Choice choices.Silent) text = let is = text.same_kind in cc
-event_there kind fields happening text = let is = text.same_kind in cc
+happening_formed : (happening : Happening) (fields : List (List ℕ)) → IsHappening happening → fields ≡ happening_fields happening
+    → HappeningForms (air_kind happening) fields
+happening_formed (happenings.Event event tag) fields form is = ((event, tag), record { same_kind = refl; spelling = is; in_range = form })
+happening_formed (happenings.Miss tag) fields form is = (tag, form, is)
+happening_formed (happenings.Choice (choices.Pick reply)) fields form is = (reply, form, is)
+happening_formed (happenings.Choice choices.Silent) fields form is = (tt, tt, is)
+happening_formed (happenings.Choice (choices.Break place)) fields form is = (place, form, is)
+happening_formed (happenings.Choice (choices.Raw levels)) fields form is = (levels, form, is)
 
-miss_there : (fields : List (List ℕ)) (happening : Happening) → IsHappeningText airs.Miss fields happening → Spelled (λ (n : ℕ). decimal n ∷ []) IsPlace fields
-miss_there fields (happenings.Miss tag) text = (tag, text.in_range, text.spelling)
-miss_there fields (happenings.Choice choices.Silent) text = let is = text.same_kind in cc
-miss_there fields happening text = let is = text.same_kind in cc
-
-pick_there : (fields : List (List ℕ)) (happening : Happening) → IsHappeningText airs.Pick fields happening → Spelled (λ (n : ℕ). decimal n ∷ []) IsPlace fields
-pick_there fields (happenings.Choice (choices.Pick reply)) text = (reply, text.in_range, text.spelling)
-pick_there fields happening text = let is = text.same_kind in cc
-
-silent_there : (fields : List (List ℕ)) (happening : Happening) → IsHappeningText airs.Silent fields happening → Spelled nothing Any fields
-silent_there fields (happenings.Choice choices.Silent) text = (tt, tt, text.spelling)
-silent_there fields happening text = let is = text.same_kind in cc
-
-break_there : (fields : List (List ℕ)) (happening : Happening) → IsHappeningText airs.Break fields happening
-    → Spelled (λ (n : ℕ). decimal n ∷ []) (λ n. n ≤ most_level) fields
-break_there fields (happenings.Choice (choices.Break place)) text = (place, text.in_range, text.spelling)
-break_there fields happening text = let is = text.same_kind in cc
-
-raw_there : (fields : List (List ℕ)) (happening : Happening) → IsHappeningText airs.Raw fields happening
-    → Spelled (λ (levels : List Bool). binary levels ∷ []) HasStreamLength fields
-raw_there fields (happenings.Choice (choices.Raw levels)) text = (levels, text.in_range, text.spelling)
-raw_there fields happening text = let is = text.same_kind in cc
+happening_there : (kind : AirKind) (fields : List (List ℕ)) → HasHappening kind fields → HappeningForms kind fields
+happening_there = by_kind air_vocabulary IsHappening HappeningForms happening_formed
 
 happening_behind : (kind : AirKind) (fields : List (List ℕ)) → Decided (HasHappening kind fields)
 happening_behind (airs.Event kind) fields =
     same_answer (λ found. (
       happenings.Event found.0.0 found.0.1,
       record { same_kind = ap airs.Event found.1.same_kind; spelling = found.1.spelling; in_range = found.1.in_range },
-    )) (λ some. event_there kind fields some.0 some.1) (event_behind kind fields)
+    )) (happening_there (airs.Event kind) fields) (event_behind kind fields)
 happening_behind airs.Miss fields =
     same_answer (λ found. (happenings.Miss found.0, record { same_kind = refl; spelling = found.2; in_range = found.1 }))
-    (λ some. miss_there fields some.0 some.1) (one_place fields)
+    (happening_there airs.Miss fields) (one_place fields)
 happening_behind airs.Pick fields =
     same_answer (λ found. (happenings.Choice (choices.Pick found.0), record { same_kind = refl; spelling = found.2; in_range = found.1 }))
-    (λ some. pick_there fields some.0 some.1) (one_place fields)
+    (happening_there airs.Pick fields) (one_place fields)
 happening_behind airs.Silent fields =
     same_answer (λ found. (happenings.Choice choices.Silent, record { same_kind = refl; spelling = found.2; in_range = tt }))
-    (λ some. silent_there fields some.0 some.1) (end fields)
+    (happening_there airs.Silent fields) (end fields)
 happening_behind airs.Break fields =
     same_answer (λ found. (happenings.Choice (choices.Break found.0), record { same_kind = refl; spelling = found.2; in_range = found.1 }))
-    (λ some. break_there fields some.0 some.1) (one_number most_level fields)
+    (happening_there airs.Break fields) (one_number most_level fields)
 happening_behind airs.Raw fields =
     same_answer (λ found. (happenings.Choice (choices.Raw found.0), record { same_kind = refl; spelling = found.2; in_range = found.1 }))
-    (λ some. raw_there fields some.0 some.1) (one_stream fields)
+    (happening_there airs.Raw fields) (one_stream fields)
 
 happening_decided : FieldsDecided (spelled_fields air_vocabulary) IsHappening
 happening_decided = behind_kind_decided air_vocabulary IsHappening air_word_told air_kind_decided happening_behind
@@ -403,78 +376,59 @@ air_decided = then (number 1 1000000) happening_decided
 abbrev pub FormedBehind : Keyword → List (List ℕ) → Type 0
 FormedBehind first others = (line : Line) × HasForm line × (keyword_of line ≡ first) × (others ≡ other_fields line)
 
-version_there : (others : List (List ℕ)) → FormedBehind keywords.Version others → Spelled (with version_digit nothing) (Both Any Any) others
-version_there others (lines.Version version, form, same, is) = ((version, tt), (tt, tt), is)
-version_there others (line, form, same, is) = cc
+-- behind each keyword the fields of a line are these
+abbrev LineForms : Keyword → List (List ℕ) → Type 0
+LineForms keywords.Version = Spelled (with version_digit nothing) (Both Any Any)
+LineForms keywords.Link = Spelled link_fields IsLinkForm
+LineForms keywords.Default = Spelled (with several_text nothing) (Both Any Any)
+LineForms keywords.Copies = Spelled (with decimal tag_spec_fields) (Both (IsWithin 2 most_tags) IsTagForm)
+LineForms keywords.Tag = Spelled tag_spec_fields IsTagForm
+LineForms keywords.Air = Spelled (with decimal (spelled_fields air_vocabulary)) (Both (IsWithin 1 1000000) IsHappening)
+LineForms keywords.Select = Spelled select_fields IsSelection
+LineForms keywords.Nak = Spelled nothing Any
+LineForms keywords.Event = Spelled (spelled_fields event_vocabulary) (λ event. IsEvent event.0 event.1)
+LineForms keywords.Round = Spelled round_text (λ round. IsRound round.0 round.1)
+LineForms keywords.Only = Spelled (with hex_words nothing) (Both (IsWordList 0 31) Any)
+LineForms keywords.Op = Spelled (spelled_fields op_vocabulary) IsLegalOp
+LineForms keywords.End = Spelled nothing Any
 
-link_there : (others : List (List ℕ)) → FormedBehind keywords.Link others → Spelled link_fields IsLinkForm others
-link_there others (lines.Link link, form, same, is) = (link, form, is)
-link_there others (line, form, same, is) = cc
+line_formed : (line : Line) (others : List (List ℕ)) → HasForm line → others ≡ other_fields line → LineForms (keyword_of line) others
+line_formed (lines.Version version) others form is = ((version, tt), (tt, tt), is)
+line_formed (lines.Link link) others form is = (link, form, is)
+line_formed (lines.Default several) others form is = ((several, tt), (tt, tt), is)
+line_formed (lines.Copies count tag) others form is = ((count, tag), form, is)
+line_formed (lines.Tag tag) others form is = (tag, form, is)
+line_formed (lines.Air exchange happening) others form is = ((exchange, happening), form, is)
+line_formed (lines.Select selection) others form is = (selection, form, is)
+line_formed lines.Nak others form is = (tt, tt, is)
+line_formed (lines.Event event tag) others form is = ((event, tag), form, is)
+line_formed (lines.Round version spec) others form is = ((version, spec), form, is)
+line_formed (lines.Only epc) others form is = ((epc, tt), (form, tt), is)
+line_formed (lines.Op op) others form is = (op, form, is)
+line_formed lines.End others form is = (tt, tt, is)
 
-default_there : (others : List (List ℕ)) → FormedBehind keywords.Default others → Spelled (with several_text nothing) (Both Any Any) others
-default_there others (lines.Default several, form, same, is) = ((several, tt), (tt, tt), is)
-default_there others (line, form, same, is) = cc
-
-copies_there : (others : List (List ℕ)) → FormedBehind keywords.Copies others
-    → Spelled (with decimal tag_spec_fields) (Both (IsWithin 2 most_tags) IsTagForm) others
-copies_there others (lines.Copies count tag, form, same, is) = ((count, tag), form, is)
-copies_there others (line, form, same, is) = cc
-
-tag_there : (others : List (List ℕ)) → FormedBehind keywords.Tag others → Spelled tag_spec_fields IsTagForm others
-tag_there others (lines.Tag tag, form, same, is) = (tag, form, is)
-tag_there others (line, form, same, is) = cc
-
-air_there : (others : List (List ℕ)) → FormedBehind keywords.Air others → Spelled (with decimal (spelled_fields air_vocabulary)) (Both (IsWithin 1 1000000) IsHappening) others
-air_there others (lines.Air exchange happening, form, same, is) = ((exchange, happening), form, is)
-air_there others (line, form, same, is) = cc
-
-select_there : (others : List (List ℕ)) → FormedBehind keywords.Select others → Spelled select_fields IsSelection others
-select_there others (lines.Select selection, form, same, is) = (selection, form, is)
-select_there others (line, form, same, is) = cc
-
-nak_there : (others : List (List ℕ)) → FormedBehind keywords.Nak others → Spelled nothing Any others
-nak_there others (lines.Nak, form, same, is) = (tt, tt, is)
-nak_there others (line, form, same, is) = cc
-
-event_line_there : (others : List (List ℕ)) → FormedBehind keywords.Event others → Spelled (spelled_fields event_vocabulary) (λ event. IsEvent event.0 event.1) others
-event_line_there others (lines.Event event tag, form, same, is) = ((event, tag), form, is)
-event_line_there others (line, form, same, is) = cc
-
-round_there : (others : List (List ℕ)) → FormedBehind keywords.Round others → Spelled round_text (λ round. IsRound round.0 round.1) others
-round_there others (lines.Round version spec, form, same, is) = ((version, spec), form, is)
-round_there others (line, form, same, is) = cc
-
-only_there : (others : List (List ℕ)) → FormedBehind keywords.Only others → Spelled (with hex_words nothing) (Both (IsWordList 0 31) Any) others
-only_there others (lines.Only epc, form, same, is) = ((epc, tt), (form, tt), is)
-only_there others (line, form, same, is) = cc
-
-op_there : (others : List (List ℕ)) → FormedBehind keywords.Op others → Spelled (spelled_fields op_vocabulary) IsLegalOp others
-op_there others (lines.Op op, form, same, is) = (op, form, is)
-op_there others (line, form, same, is) = cc
-
-end_there : (others : List (List ℕ)) → FormedBehind keywords.End others → Spelled nothing Any others
-end_there others (lines.End, form, same, is) = (tt, tt, is)
-end_there others (line, form, same, is) = cc
+line_there : (first : Keyword) (others : List (List ℕ)) → FormedBehind first others → LineForms first others
+line_there first others (line, form, same, is) = subst (λ (keyword : Keyword). LineForms keyword others) same (line_formed line others form is)
 
 -- fields behind a first field are of the forms of some line, or of none
 pub formed_behind : (first : Keyword) (others : List (List ℕ)) → Decided (FormedBehind first others)
 formed_behind keywords.Version others =
-    same_answer (λ found. (lines.Version found.0.0, tt, refl, found.2)) (version_there others) (then version_decided end others)
-formed_behind keywords.Link others = same_answer (λ found. (lines.Link found.0, found.1, refl, found.2)) (link_there others) (link_decided others)
+    same_answer (λ found. (lines.Version found.0.0, tt, refl, found.2)) (line_there keywords.Version others) (then version_decided end others)
+formed_behind keywords.Link others = same_answer (λ found. (lines.Link found.0, found.1, refl, found.2)) (line_there keywords.Link others) (link_decided others)
 formed_behind keywords.Default others =
-    same_answer (λ found. (lines.Default found.0.0, tt, refl, found.2)) (default_there others) (then several_decided end others)
+    same_answer (λ found. (lines.Default found.0.0, tt, refl, found.2)) (line_there keywords.Default others) (then several_decided end others)
 formed_behind keywords.Copies others =
-    same_answer (λ found. (lines.Copies found.0.0 found.0.1, found.1, refl, found.2)) (copies_there others) (copies_decided others)
-formed_behind keywords.Tag others = same_answer (λ found. (lines.Tag found.0, found.1, refl, found.2)) (tag_there others) (tag_decided others)
+    same_answer (λ found. (lines.Copies found.0.0 found.0.1, found.1, refl, found.2)) (line_there keywords.Copies others) (copies_decided others)
+formed_behind keywords.Tag others = same_answer (λ found. (lines.Tag found.0, found.1, refl, found.2)) (line_there keywords.Tag others) (tag_decided others)
 formed_behind keywords.Air others =
-    same_answer (λ found. (lines.Air found.0.0 found.0.1, found.1, refl, found.2)) (air_there others) (air_decided others)
-formed_behind keywords.Select others = same_answer (λ found. (lines.Select found.0, found.1, refl, found.2)) (select_there others) (select_decided others)
-formed_behind keywords.Nak others = same_answer (λ found. (lines.Nak, tt, refl, found.2)) (nak_there others) (end others)
+    same_answer (λ found. (lines.Air found.0.0 found.0.1, found.1, refl, found.2)) (line_there keywords.Air others) (air_decided others)
+formed_behind keywords.Select others = same_answer (λ found. (lines.Select found.0, found.1, refl, found.2)) (line_there keywords.Select others) (select_decided others)
+formed_behind keywords.Nak others = same_answer (λ found. (lines.Nak, tt, refl, found.2)) (line_there keywords.Nak others) (end others)
 formed_behind keywords.Event others =
-    same_answer (λ found. (lines.Event found.0.0 found.0.1, found.1, refl, found.2)) (event_line_there others) (event_decided others)
+    same_answer (λ found. (lines.Event found.0.0 found.0.1, found.1, refl, found.2)) (line_there keywords.Event others) (event_decided others)
 formed_behind keywords.Round others =
-    same_answer (λ found. (lines.Round found.0.0 found.0.1, found.1, refl, found.2)) (round_there others) (round_decided others)
+    same_answer (λ found. (lines.Round found.0.0 found.0.1, found.1, refl, found.2)) (line_there keywords.Round others) (round_decided others)
 formed_behind keywords.Only others =
-    same_answer (λ found. (lines.Only found.0.0, found.1.0, refl, found.2)) (only_there others) (then (words_decided 0 31) end others)
-formed_behind keywords.Op others = same_answer (λ found. (lines.Op found.0, found.1, refl, found.2)) (op_there others) (op_decided others)
-formed_behind keywords.End others = same_answer (λ found. (lines.End, tt, refl, found.2)) (end_there others) (end others)
+    same_answer (λ found. (lines.Only found.0.0, found.1.0, refl, found.2)) (line_there keywords.Only others) (then (words_decided 0 31) end others)
+formed_behind keywords.Op others = same_answer (λ found. (lines.Op found.0, found.1, refl, found.2)) (line_there keywords.Op others) (op_decided others)
+formed_behind keywords.End others = same_answer (λ found. (lines.End, tt, refl, found.2)) (line_there keywords.End others) (end others)

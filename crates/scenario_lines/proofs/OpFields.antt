@@ -1,5 +1,5 @@
 -- The fields of an operation.
-use Rattle.std.proofs.Common.{◌≡◌, ℕ, ◌<◌, ◌^◌, List, [], ◌∷◌, ap, arith, refl, ◌∙◌}
+use Rattle.std.proofs.Common.{ℕ, ◌<◌, ◌^◌, List, [], ◌∷◌, arith}
 use Rattle.std.specs.Fmt.{decimal}
 use Rattle.access_ops.specs.declared.Op.{Op}
 use Rattle.access_ops.specs.declared.Op.TheVariants as ops
@@ -7,7 +7,6 @@ use Rattle.access_ops.specs.laws.OperationLaws.{IsLegalOp}
 use Rattle.command_fields.specs.declared.choices.Bank.{Bank}
 use Rattle.command_text.specs.CommandText.{bank_word, payload_digits}
 use Rattle.text_fields.specs.Hexadecimal.{hex_word, hex_words}
-use Rattle.scenario_lines.specs.declared.keywords.OpKind.{OpKind}
 use Rattle.scenario_lines.specs.Names.{op_field_count, op_kind}
 use Rattle.value_text.specs.ValueText.{password_text}
 use Rattle.scenario_lines.specs.Spelling.{op_fields}
@@ -33,56 +32,3 @@ op_filled (ops.BlockErase bank pointer count) is = place_filled bank pointer (de
 op_filled (ops.Lock payload) is = one_field_filled (payload_digits payload) (payload_is payload).filled
 op_filled (ops.Access password) is = one_field_filled (password_text password) (password_is password).filled
 op_filled (ops.Kill password) is = one_field_filled (password_text password) (password_is password).filled
-
--- an operation at a place, by its three fields
-pub record AtPlace (op : Op) : Type 0 where
-  pub bank : Bank
-  pub pointer : ℕ
-  pub last : List ℕ
-  pub is : pointer < 2 ^ 28
-  pub filled : Filled last
-  pub fields : op_fields op ≡ bank_word bank ∷ decimal pointer ∷ last ∷ []
-
-placed_op : (op : Op) → op_field_count (op_kind op) ≡ 3 → IsLegalOp op → AtPlace op
-placed_op (ops.Read bank pointer count) three is = record {
-  bank = bank;
-  pointer = pointer;
-  last = decimal count;
-  is = is.0;
-  filled = (number_text count (omega (arith, is.1))).filled;
-  fields = refl;
-}
-placed_op (ops.Write bank pointer word) three is = record {
-  bank = bank;
-  pointer = pointer;
-  last = hex_word word;
-  is = is.0;
-  filled = (one_word_is word).filled;
-  fields = refl;
-}
-placed_op (ops.BlockWrite bank pointer words) three is = record {
-  bank = bank;
-  pointer = pointer;
-  last = hex_words words;
-  is = is.0;
-  filled = (words_is words).filled;
-  fields = refl;
-}
-placed_op (ops.BlockErase bank pointer count) three is = record {
-  bank = bank;
-  pointer = pointer;
-  last = decimal count;
-  is = is.0;
-  filled = (number_text count (omega (arith, is.2))).filled;
-  fields = refl;
-}
-placed_op op three is = absurd (omega (arith, three))
-
-pub at_place : (op : Op) (kind : OpKind) → op_kind op ≡ kind → op_field_count kind ≡ 3 → IsLegalOp op → AtPlace op
-at_place op kind same three is = placed_op op (ap op_field_count same ∙ three) is
-
-pub bank_filled : (bank : Bank) → Filled (bank_word bank)
-bank_filled bank = (bank_is bank).filled
-
-pub pointer_filled : (pointer : ℕ) → pointer < 2 ^ 28 → Filled (decimal pointer)
-pointer_filled pointer is = (number_text pointer (omega (arith, is))).filled

@@ -1,7 +1,5 @@
 -- Fields spell a line, or there is a reason for which they spell none.
-use Rattle.std.proofs.Common.{◌≡◌, ◌≤◌, ◌*◌, ◌⊎◌, ℕ, Bool, true, false, List, [], ◌∷◌, length, refl, sym, ◌∙◌, ap, subst, inl, inr}
-use Rattle.std.specs.Prelude.{All}
-use Rattle.std.proofs.lemmas.List.Elements.{All-cons, All-head, All-nil, All-tail}
+use Rattle.std.proofs.Common.{◌≡◌, ◌≤◌, ◌*◌, ◌⊎◌, ℕ, Bool, true, false, List, [], ◌∷◌, refl, sym, ◌∙◌, ap, subst, inl, inr}
 use Rattle.tag_memory.specs.Image.{pc_fits}
 use Rattle.pie_line.specs.Link.{IsLegalLink, IsPw, LinkValue}
 use Rattle.pie_line.specs.LinkRefusal.{IsFirstBroken}
@@ -23,8 +21,9 @@ use Rattle.text_fields.specs.NamedFields.{AreFilled}
 use Rattle.text_fields.proofs.FilledFields.{Filled}
 use Rattle.scenario_lines.specs.Reading.{link_fault}
 use Rattle.scenario_lines.specs.Spelling.{copies_fields, line_fields, link_fields, tag_spec_fields, keyword_of}
-use Rattle.scenario_lines.proofs.Decisions.{Any, Decided, Spelled, both, le_decided, number_decided, same_answer}
+use Rattle.scenario_lines.proofs.Decisions.{Any, Decided, Spelled, both, le_decided, same_answer}
 use Rattle.scenario_lines.proofs.FieldsDecided.{named_decided}
+use Rattle.scenario_lines.proofs.KindsDecided.{filled_decided}
 use Rattle.scenario_lines.proofs.LinesDecided.{air_kind_decided, event_kind_decided, formed_behind, op_kind_decided}
 use Rattle.scenario_lines.proofs.ToldLines.{same_fields}
 use Rattle.scenario_lines.proofs.ToldNames.{air_word_told, event_word_told, op_word_told, keyword_told}
@@ -40,21 +39,9 @@ kind_decided keywords.Event (kind ∷ others) = same_answer (λ found. (found.0,
 kind_decided keywords.Op (kind ∷ others) = same_answer (λ found. (found.0, found.2)) (λ known. (known.0, tt, known.1)) (op_kind_decided kind)
 kind_decided keyword others = inl tt
 
--- so many fields, none of them empty
-filled_decided : (field : List ℕ) → Decided (Filled field)
-filled_decided [] = inr (λ filled. filled refl)
-filled_decided (byte ∷ bytes) = inl (λ same. cc)
-
-all_filled_decided : (fields : List (List ℕ)) → Decided (All Filled fields)
-all_filled_decided [] = inl (All-nil Filled)
-all_filled_decided (field ∷ fields) =
-    same_answer (λ (pair : Filled field × All Filled fields). All-cons Filled field fields pair.0 pair.1)
-    (λ all. (All-head Filled field fields all, All-tail Filled field fields all)) (both (filled_decided field) (all_filled_decided fields))
-
-count_decided : (count : ℕ) (fields : List (List ℕ)) → Decided (AreFilled count fields)
-count_decided count fields =
-    same_answer (λ (pair : (length fields ≡ count) × All Filled fields). record { number = pair.0; filled = pair.1 }) (λ are. (are.number, are.filled))
-    (both (number_decided (length fields) count) (all_filled_decided fields))
+field_filled : (field : List ℕ) → Decided (Filled field)
+field_filled [] = inr (λ filled. filled refl)
+field_filled (byte ∷ bytes) = inl (λ same. cc)
 
 same_air_kind : (kind : List ℕ) (known other : AirKind) → kind ≡ air_word known → kind ≡ air_word other → other ≡ known
 same_air_kind kind known other is is' = air_word_told other known (sym is' ∙ is)
@@ -64,7 +51,7 @@ air_shape_decided exchange kind others = elim (air_kind_decided kind) [
   | inr unknown ↦ inr (λ shape. unknown (shape.1, tt, shape.2))
   | inl known ↦ same_answer (λ (pair : Filled exchange × AreFilled (air_field_count known.0) others). (pair.0, known.0, known.2, pair.1))
       (λ shape. (shape.0, subst (λ other. AreFilled (air_field_count other) others) (same_air_kind kind known.0 shape.1 known.2 shape.2) shape.3))
-      (both (filled_decided exchange) (count_decided (air_field_count known.0) others))
+      (both (field_filled exchange) (filled_decided (air_field_count known.0) others))
 ]
 
 event_shape_decided : (kind : List ℕ) (others : List (List ℕ)) → Decided (HasShape keywords.Event (kind ∷ others))
@@ -72,7 +59,7 @@ event_shape_decided kind others = elim (event_kind_decided kind) [
   | inr unknown ↦ inr (λ shape. unknown (shape.0, tt, shape.1))
   | inl known ↦ same_answer (λ (are : AreFilled (event_field_count known.0) others). (known.0, known.2, are))
       (λ shape. subst (λ other. AreFilled (event_field_count other) others) (event_word_told shape.0 known.0 (sym shape.1 ∙ known.2)) shape.2)
-      (count_decided (event_field_count known.0) others)
+      (filled_decided (event_field_count known.0) others)
 ]
 
 op_shape_decided : (kind : List ℕ) (others : List (List ℕ)) → Decided (HasShape keywords.Op (kind ∷ others))
@@ -80,27 +67,27 @@ op_shape_decided kind others = elim (op_kind_decided kind) [
   | inr unknown ↦ inr (λ shape. unknown (shape.0, tt, shape.1))
   | inl known ↦ same_answer (λ (are : AreFilled (op_field_count known.0) others). (known.0, known.2, are))
       (λ shape. subst (λ other. AreFilled (op_field_count other) others) (op_word_told shape.0 known.0 (sym shape.1 ∙ known.2)) shape.2)
-      (count_decided (op_field_count known.0) others)
+      (filled_decided (op_field_count known.0) others)
 ]
 
 shape_decided : (first : Keyword) (others : List (List ℕ)) → Decided (HasShape first others)
-shape_decided keywords.Version others = count_decided 1 others
-shape_decided keywords.Link others = count_decided 7 others
-shape_decided keywords.Default others = count_decided 1 others
-shape_decided keywords.Tag others = count_decided 7 others
-shape_decided keywords.Copies others = count_decided 8 others
+shape_decided keywords.Version others = filled_decided 1 others
+shape_decided keywords.Link others = filled_decided 7 others
+shape_decided keywords.Default others = filled_decided 1 others
+shape_decided keywords.Tag others = filled_decided 7 others
+shape_decided keywords.Copies others = filled_decided 8 others
 shape_decided keywords.Air [] = inr (λ shape. shape)
 shape_decided keywords.Air (exchange ∷ []) = inr (λ shape. shape)
 shape_decided keywords.Air (exchange ∷ kind ∷ others) = air_shape_decided exchange kind others
-shape_decided keywords.Select others = count_decided 5 others
-shape_decided keywords.Nak others = count_decided 0 others
+shape_decided keywords.Select others = filled_decided 5 others
+shape_decided keywords.Nak others = filled_decided 0 others
 shape_decided keywords.Event [] = inr (λ shape. shape)
 shape_decided keywords.Event (kind ∷ others) = event_shape_decided kind others
-shape_decided keywords.Round others = count_decided 6 others
-shape_decided keywords.Only others = count_decided 1 others
+shape_decided keywords.Round others = filled_decided 6 others
+shape_decided keywords.Only others = filled_decided 1 others
 shape_decided keywords.Op [] = inr (λ shape. shape)
 shape_decided keywords.Op (kind ∷ others) = op_shape_decided kind others
-shape_decided keywords.End others = count_decided 0 others
+shape_decided keywords.End others = filled_decided 0 others
 
 -- Some keyword of a scenario stands at the head of fields, with a kind that is known where a kind is there, or none does.
 pub some_keyword : (fields : List (List ℕ)) → ((keyword : Keyword) × BeginsWithKeyword fields keyword) ⊎ IsFaultyLine fields WordFault

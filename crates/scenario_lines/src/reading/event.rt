@@ -1,5 +1,5 @@
 //! Event lines, read, and the events of air lines.
-ghost use Rattle.std.specs.Prelude.{◌≡◌, ℕ, ◌≤◌, IfOk, IfErr, IsOkAnd, [], ◌∷◌};
+ghost use Rattle.std.specs.Prelude.{◌≡◌, ◌≤◌, IfOk, IfErr, [], ◌∷◌};
 ghost use Rattle.std.specs.Fmt.{decimal};
 ghost use Rattle.air_events.specs.declared.Event.{Event};
 ghost use Rattle.scenario_lines.specs.LineForm.{IsEvent};
@@ -19,7 +19,6 @@ pub(crate) const MOST_PLACE: u32 = 4_095;
 /// The number up to `most` that the one field that is left spells.
 pub(crate) fn one_number(fields: Fields, most: u32) -> Result<u32, FaultReason>
     ensures ok { IfOk result (λ n. (fields.entry ≡ decimal n ∷ []) × (n ≤ most)) }
-    ensures only { (n : ℕ) → n ≤ most → fields.entry ≡ decimal n ∷ [] → result ≡ Ok n }
     ensures refused { IfErr result (MisreadsNumber most fields.entry) }
 {
     let Some(field) = one_field(fields) else {
@@ -34,8 +33,6 @@ pub(crate) fn one_number(fields: Fields, most: u32) -> Result<u32, FaultReason>
 /// The end of a flag's persistence, which the fields behind `expire` spell, and the number of its tag.
 fn read_expire(fields: Fields) -> Result<(Event, u32), FaultReason>
     ensures ok { IfOk result (λ it. IsEventText EventKind.Expire fields.entry it.0 it.1) }
-    ensures only { (event : Event) → (tag : ℕ) → IsEventText EventKind.Expire fields.entry event tag
-        → IsOkAnd result (λ it. (it.0 ≡ event) × (it.1 ≡ tag)) }
     ensures refused { IfErr result (MisreadsEvent EventKind.Expire fields.entry) }
 {
     let Some((flag, tag)) = two_fields(fields) else {
@@ -53,8 +50,6 @@ fn read_expire(fields: Fields) -> Result<(Event, u32), FaultReason>
 /// The event of a kind and the number of its tag, which the fields behind the kind spell.
 pub(crate) fn event_behind(kind: EventKind, fields: Fields) -> Result<(Event, u32), FaultReason>
     ensures ok { IfOk result (λ it. IsEventText kind fields.entry it.0 it.1) }
-    ensures only { (event : Event) → (tag : ℕ) → IsEventText kind fields.entry event tag
-        → IsOkAnd result (λ it. (it.0 ≡ event) × (it.1 ≡ tag)) }
     ensures refused { IfErr result (MisreadsEvent kind fields.entry) }
 {
     match kind {
@@ -70,9 +65,6 @@ pub(crate) fn read_event(mut others: Fields) -> Result<(Event, u32), FaultReason
     ensures ok { IfOk result
         (λ it. (others.entry ≡ event_word (event_kind it.0) ∷ event_fields it.0 it.1)
         × IsEvent it.0 it.1) }
-    ensures only { (event : Event) → (tag : ℕ) → IsEvent event tag
-        → others.entry ≡ event_word (event_kind event) ∷ event_fields event tag
-        → IsOkAnd result (λ it. (it.0 ≡ event) × (it.1 ≡ tag)) }
     ensures refused { IfErr result (MisreadsEventLine others.entry) }
 {
     let Some(kind) = others.next() else {

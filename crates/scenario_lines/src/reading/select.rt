@@ -1,5 +1,5 @@
 //! Select lines, read.
-ghost use Rattle.std.specs.Prelude.{◌≡◌, IfOk, IfErr, IsOkAnd};
+ghost use Rattle.std.specs.Prelude.{◌≡◌, IfOk, IfErr};
 ghost use Rattle.scenario_lines.specs.declared.line.Selection.{Selection};
 ghost use Rattle.scenario_lines.specs.LineForm.{IsSelection};
 ghost use Rattle.scenario_lines.specs.Spelling.{select_fields};
@@ -14,9 +14,6 @@ use text_fields::{Fields, action_of, five_fields, pointer_of};
 /// What the fields behind `select` name.
 pub(crate) fn read_select(others: Fields) -> Result<Selection, FaultReason>
     ensures ok { IfOk result (λ it. (others.entry ≡ select_fields it) × IsSelection it) }
-    ensures only { (selection : Selection) → IsSelection selection
-        → others.entry ≡ select_fields selection
-        → IsOkAnd result (λ it. it ≡ selection) }
     ensures refused { IfErr result (Misreads (AreFilled 5) select_fields IsSelection others.entry) }
 {
     let Some((target, action, bank, pointer, mask)) = five_fields(others) else {

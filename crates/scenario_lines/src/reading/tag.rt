@@ -130,9 +130,6 @@ pub fn read_tag<'a>(others: Fields<'a>) -> Result<TagText<'a>, FaultReason>
 pub(crate) fn read_copies<'a>(mut others: Fields<'a>) -> Result<(u32, TagText<'a>), FaultReason>
     ensures ok { IfOk result
         (λ it. (others.entry ≡ copies_fields it.0 it.1) × IsCopyCount it.0 × IsTag it.1) }
-    ensures only { (count : ℕ) → (tag : TagSpec) → IsCopyCount count → IsTag tag
-        → others.entry ≡ copies_fields count tag
-        → IsOkAnd result (λ it. (it.0 ≡ count) × (it.1 ≡ tag)) }
     ensures refused { IfErr result (MisreadsCopies others.entry) }
 {
     let Some(count) = others.next() else {

@@ -1,16 +1,9 @@
 -- The fields of an air line.
-use Rattle.std.proofs.Common.{◌≡◌, ◌≢◌, [], ◌∷◌, ◌∙◌, List, ℕ, ap, arith, length, rules, sym}
-use Rattle.std.proofs.lemmas.Bool.{eqb-false, eqb-true}
-use Rattle.std.proofs.lemmas.List.{nil_from_length}
+use Rattle.std.proofs.Common.{◌≡◌, ◌≢◌, [], ◌∷◌, ◌∙◌, List, ℕ, ap, length, rules, sym}
+use Rattle.std.proofs.lemmas.Bool.{eqb-false}
 use Rattle.scenario_lines.proofs.AirFields.{air_shape}
-use Rattle.scenario_lines.proofs.FirstNumbers.{first_number, no_empty_number, not_found}
+use Rattle.scenario_lines.proofs.FirstNumbers.{first_number, not_found}
 use Rattle.scenario_lines.proofs.reading.air.read_air.Goals as goal
-
-pub returns-then-is_empty-clause-only : goal.returns-then-is_empty-clause-only
-returns-then-is_empty-clause-only c = λ exchange happening is is' spells.
-    let next : c.args.others ≡ c.in-Some.exchange.now ∷ c.next.new.self = search rules in
-    let empty = nil_from_length c.in-Some.exchange.now (eqb-true (length c.in-Some.exchange.now) 0 (sym c.is_empty.ensures ∙ c.if-is_empty.true)) in
-    no_empty_number c.in-Some.exchange.now c.next.new.self _ exchange (omega (arith, is.1)) next empty spells
 
 pub returns-in-None-clause-refused : goal.returns-in-None-clause-refused
 returns-in-None-clause-refused c =

@@ -1,18 +1,10 @@
 -- A number, and behind it the fields of a tag.
 use Rattle.std.proofs.Common.{◌≡◌, ◌≢◌, [], ◌∷◌, ◌∙◌, ap, arith, length, rules, sym}
-use Rattle.std.proofs.lemmas.Bool.{eqb-false, eqb-true}
-use Rattle.std.proofs.lemmas.List.{nil_from_length}
+use Rattle.std.proofs.lemmas.Bool.{eqb-false}
 use Rattle.std.proofs.lemmas.Result.{err_from_is_err_and}
 use Rattle.scenario_lines.proofs.CopiesFields.{copies_filled, copies_misread}
-use Rattle.scenario_lines.proofs.FirstNumbers.{first_number, no_empty_number, not_found}
-use Rattle.scenario_lines.proofs.TagFields.{some_same}
+use Rattle.scenario_lines.proofs.FirstNumbers.{first_number, not_found}
 use Rattle.scenario_lines.proofs.reading.tag.read_copies.Goals as goal
-
-pub returns-then-is_empty-clause-only : goal.returns-then-is_empty-clause-only
-returns-then-is_empty-clause-only c = λ count tag number is spells.
-    let first : c.args.others ≡ c.in-Some.count.now ∷ c.next.new.self = search rules in
-    let empty = nil_from_length c.in-Some.count.now (eqb-true (length c.in-Some.count.now) 0 (sym c.is_empty.ensures ∙ c.if-is_empty.true)) in
-    no_empty_number c.in-Some.count.now c.next.new.self _ count (omega (arith, number.1)) first empty spells
 
 pub returns-in_err-parts-clause-refused : goal.returns-in_err-parts-clause-refused
 returns-in_err-parts-clause-refused c =
@@ -21,12 +13,6 @@ returns-in_err-parts-clause-refused c =
     eqb-false (length c.in-Some.count.now) 0 (sym c.is_empty.ensures ∙ c.if-is_empty.false) (ap length none) in
     let p = err_from_is_err_and c.from_residual.result c.from_residual.ensures.1 in
     rw (p.1, p.2, first) (copies_misread c.in-Some.count.now c.next.new.self _ filled c.in_err-parts.ensures.refused)
-
-pub returns-in_default-number_from-clause-only : goal.returns-in_default-number_from-clause-only
-returns-in_default-number_from-clause-only c = λ count tag number is spells.
-    let first : c.args.others ≡ c.in-Some.count.now ∷ c.next.new.self = search rules in
-    let same = first_number c.in-Some.count.now c.next.new.self _ count first spells in
-    not_found (c.in_default-number_from.ensures.only count number.0 (omega (arith, number.1, c.from.ensures)) same.0)
 
 pub returns-in_default-number_from-clause-refused : goal.returns-in_default-number_from-clause-refused
 returns-in_default-number_from-clause-refused c =
@@ -37,12 +23,4 @@ returns-in_default-number_from-clause-refused c =
       rw first (copies_filled c.in-Some.count.now c.next.new.self _ filled parts.0 parts.1),
       λ count tag number form spells.
           not_found (c.in_default-number_from.ensures.only count number.0 (omega (arith, number.1, c.from.ensures)) (first_number c.in-Some.count.now c.next.new.self _ count first spells).0),
-    )
-
-pub returns-clause-only : goal.returns-clause-only
-returns-clause-only c = λ count tag number is spells.
-    let first : c.args.others ≡ c.in-Some.count.now ∷ c.next.new.self = search rules in
-    let same = first_number c.in-Some.count.now c.next.new.self _ count first spells in (
-      some_same (c.in-Some-number_from.ensures.only count number.0 (omega (arith, number.1, c.from.ensures)) same.0),
-      c.in_ok-whole_tag.ensures.ok.0 ∙ c.in_ok-parts.ensures.only tag is.form same.1,
     )
