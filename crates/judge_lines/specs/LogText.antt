@@ -40,6 +40,7 @@ pub data LogStanding : Type 0 where
 abbrev pub with_word : List (List ℕ) → List (List ℕ)
 with_word fields = fields ++ codes "0000" ∷ []
 
+-- what a log knows of its tag: the memory and the locks
 abbrev pub logged_tag : TagSpec → LoggedTag
 logged_tag tag = record { image = tag.image; locks = tag.locks }
 
@@ -144,6 +145,7 @@ abbrev pub unended_log_reason : LogStanding → FaultReason
 unended_log_reason (ended tag log) = Extra
 unended_log_reason standing = End
 
+-- the rules of the text of a log
 abbrev pub log_rules : TextRules LogStanding FaultReason
 log_rules = record { start = start; leads = LogGoesTo; is_faulty = IsFaultyLogLine; may_end = LogMayEnd; unended = unended_log_reason }
 

@@ -11,6 +11,7 @@ ghost use Rattle.judge_lines.specs.Reading.{HasReadLog};
 
 use crate::entry::{Rooms, SaidEntry, read_entry};
 use crate::tag_line::read_logged_tag;
+use bit_strings::OutOfMemory;
 use checked_lines::{FaultReason, Unread, unread_at};
 use log_judge::{Judge, Verdict};
 use scenario_lines::{TagSpec, tag_lines_fit_memories};
@@ -46,6 +47,16 @@ fn read_tag(alloc: Global, text: &[u8]) -> Result<(TagSpec, &[u8]), Unread>
     Ok((tag, behind))
 }
 
+/// A judge that has heard nothing of the log of a tag.
+fn new_judge(alloc: Global, tag: TagSpec) -> Result<Judge, OutOfMemory>
+    requires { IsTag tag }
+    ensures { IfOk result (HasHeard (logged_tag tag) []) }
+{
+    // By this law a memory can be made of the tag.
+    tag_lines_fit_memories();
+    Judge::new(alloc, &tag.image, tag.locks)
+}
+
 /// A judge that has heard nothing of the log that a text says, the room for its entries, and what stands behind the line of the tag.
 fn begin(alloc: Global, text: &[u8]) -> Result<(Judge, Rooms, &[u8]), Unread>
     ensures ok { IfOk result
@@ -53,11 +64,9 @@ fn begin(alloc: Global, text: &[u8]) -> Result<(Judge, Rooms, &[u8]), Unread>
         × HasHeard tag [] it.0) }
     ensures refused { IfErr result (IsRefusedFor text.now) }
 {
-    // By this law a memory can be made of the tag.
-    tag_lines_fit_memories();
     let (tag, behind) = read_tag(alloc, text)?;
     let rooms = Rooms::new(alloc)?;
-    let judge = Judge::new(alloc, &tag.image, tag.locks)?;
+    let judge = new_judge(alloc, tag)?;
     Ok((judge, rooms, behind))
 }
 

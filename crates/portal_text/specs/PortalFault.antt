@@ -12,6 +12,7 @@ use Rattle.scenario_lines.specs.declared.version.Version.TheVariants.{One, Two}
 use Rattle.scenario_lines.specs.declared.line.Line.{Line}
 use Rattle.scenario_lines.specs.declared.line.Line.TheVariants as lines
 
+-- the channel gives one of several replies
 abbrev pub captures : Several → Bool
 captures severals.Break = false
 captures severals.Capture = true

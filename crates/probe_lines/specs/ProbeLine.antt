@@ -39,6 +39,7 @@ probe_event_fields kinds.Off = 0
 probe_event_fields kinds.On = 0
 probe_event_fields kinds.Expire = 1
 
+-- the fields behind the kind of an event: the flag of an expiry
 abbrev pub other_event_fields : Event → List (List ℕ)
 other_event_fields events.Timeout = []
 other_event_fields events.Off = []

@@ -46,12 +46,14 @@ pub record IsEvent (event : Event) (tag : ℕ) : Type 0 where
   pub expires : event ≢ Expire S0
   pub place : IsPlace tag
 
+-- the number of a reply, the place of a level or the levels of a stream are such as a choice may name
 abbrev pub IsChoice : Choice → Type 0
 IsChoice (Pick reply) = IsPlace reply
 IsChoice Silent = Unit {0}
 IsChoice (Break place) = place ≤ most_level
 IsChoice (Raw levels) = HasStreamLength levels
 
+-- what an air line says of its exchange is within its ranges
 abbrev pub IsHappening : Happening → Type 0
 IsHappening (happenings.Event event tag) = IsEvent event tag
 IsHappening (happenings.Miss tag) = IsPlace tag

@@ -47,6 +47,7 @@ all_keywords =
     keywords.Version ∷ keywords.Link ∷ keywords.Default ∷ keywords.Tag ∷ keywords.Copies ∷ keywords.Air ∷ keywords.Select ∷ keywords.Nak
     ∷ keywords.Event ∷ keywords.Round ∷ keywords.Only ∷ keywords.Op ∷ keywords.End ∷ []
 
+-- no two keywords have one word
 pub keyword_found : EachFound keyword_text all_keywords
 keyword_found keywords.Version = refl
 keyword_found keyword = refl
@@ -95,6 +96,7 @@ op_word op_kinds.Kill = codes "kill"
 abbrev pub all_op_kinds : List OpKind
 all_op_kinds = op_kinds.Read ∷ op_kinds.Write ∷ op_kinds.BlockWrite ∷ op_kinds.BlockErase ∷ op_kinds.Lock ∷ op_kinds.Access ∷ op_kinds.Kill ∷ []
 
+-- no two kinds of operations have one word
 pub op_found : EachFound op_word all_op_kinds
 op_found op_kinds.Read = refl
 op_found kind = refl
@@ -112,6 +114,7 @@ abbrev pub all_air_kinds : List AirKind
 all_air_kinds =
     airs.Event Timeout ∷ airs.Event Off ∷ airs.Event On ∷ airs.Event Expire ∷ airs.Miss ∷ airs.Pick ∷ airs.Silent ∷ airs.Break ∷ airs.Raw ∷ []
 
+-- no two kinds of air lines have one word
 pub air_found : EachFound air_word all_air_kinds
 air_found (airs.Event Timeout) = refl
 air_found kind = refl

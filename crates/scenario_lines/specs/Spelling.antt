@@ -33,11 +33,13 @@ use Rattle.scenario_lines.specs.Names.{keyword_text, several_text, version_digit
 abbrev pub flag_text : Bool → List ℕ
 flag_text bit = binary_digit bit ∷ []
 
+-- the fields behind `link`
 abbrev pub link_fields : LinkValue → List (List ℕ)
 link_fields link =
     decimal link.tari ∷ decimal link.rtcal ∷ decimal link.trcal ∷ decimal link.pw ∷ flag_text link.dr ∷ code_word link.code
     ∷ flag_text link.trext ∷ []
 
+-- the fields behind `tag`
 abbrev pub tag_spec_fields : TagSpec → List (List ℕ)
 tag_spec_fields tag =
     password_text tag.image.kill ∷ password_text tag.image.access ∷ locks_text tag.locks ∷ hex_words tag.image.epc
@@ -61,11 +63,13 @@ happening_fields (happenings.Choice choices.Silent) = []
 happening_fields (happenings.Choice (choices.Break place)) = decimal place ∷ []
 happening_fields (happenings.Choice (choices.Raw levels)) = binary levels ∷ []
 
+-- the fields behind `select`
 abbrev pub select_fields : Selection → List (List ℕ)
 select_fields selection =
     flag_word selection.target ∷ decimal selection.action ∷ mask_bank_word selection.bank ∷ decimal selection.pointer
     ∷ binary selection.mask ∷ []
 
+-- the fields behind `round`, as a version spells them
 abbrev pub round_fields : Version → SpecValue → List (List ℕ)
 round_fields version spec =
     sel_text spec.sel ∷ decimal spec.session ∷ side_word spec.target ∷ decimal spec.q ∷ rule_text version spec.rule ∷ decimal spec.limit ∷ []

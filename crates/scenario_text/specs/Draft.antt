@@ -26,6 +26,7 @@ pub record DraftValue : Type 0 where
   pub air : AirLinesValue
   pub steps : StepLinesValue
 
+-- behind the head nothing is said yet
 abbrev pub new_draft : HeadValue → DraftValue
 new_draft head = record { head = head; groups = []; air = no_air_lines; steps = no_step_lines }
 
