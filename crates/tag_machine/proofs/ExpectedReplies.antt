@@ -14,7 +14,7 @@ use Rattle.tag_machine.specs.laws.Extended.{has_half}
 use Rattle.tag_machine.specs.laws.Replies.{IsRn16Answer, IsHandleAnswer, IsReadReply, IsReadAnswer, IsHeaderOrError, IsDelayedAnswer, IsKillAnswer, IsAnswerTo, expect_of_read, expect_of_kill, expect_of}
 use Rattle.tag_machine.specs.Step.{step}
 use Rattle.tag_machine.proofs.ReplyRanges.{sent_answers}
-use Rattle.tag_machine.proofs.SentReplies.{sent_fits}
+use Rattle.tag_machine.proofs.StepFacts.{step_facts}
 
 -- what is sent carries the handle that is expected, and answers
 abbrev Meets : Sent → Expect → Type 0
@@ -89,5 +89,5 @@ reply_meets (commands.BlockErase bank pointer count rn) state body sent legal is
 
 pub sent_expected : (command : Command) (state : StateValue) (body : BodyValue) (sent : Sent) → IsLegalTag (record { state = state; body = body }) → (step command state body).answer ≡ Some sent → IsSomeAnd (expect_of command state) (λ expect. Carries expect sent.handle × AnswersExpected sent.reply expect (bits_sent (Some sent)))
 sent_expected command state body sent before is =
-    let fits = sent_fits command state body before sent is in
+    let fits = ((step_facts command state body).sent sent is).fits before in
     reply_meets command state body sent fits.1 fits.0

@@ -10,7 +10,7 @@ use Rattle.tag_machine.specs.Draws.{begin_reply, enter, body_after_inversion, cl
 use Rattle.tag_machine.specs.Inventory.{slot_below, count_down, q_after_adjust, end_turn}
 use Rattle.tag_machine.specs.Slots.{session_of, slot_of, is_beyond_arbitrate}
 use Rattle.tag_machine.specs.Step.{step}
-use Rattle.tag_machine.proofs.SentReplies.{Sends, nothing, chosen, same_number, past_half}
+use Rattle.tag_machine.proofs.OutcomeFacts.{either, past_half, same_number}
 
 same : (number : ℕ) → (number == number) ≡ true
 same number =
@@ -74,8 +74,12 @@ other_adjust session updn UnpoweredState body apart = refl
 abbrev IsInSlot : ℕ → StateValue → Type 0
 IsInSlot session state = (session_of state ≡ Some session) × (slot_of state ≡ Some 1)
 
-silent_now : (session : ℕ) (before after : StateValue) (body : BodyValue) → Sends (λ sent. IsInSlot session before) (silent after body)
-silent_now session before after body = nothing (λ sent. IsInSlot session before) after body
+-- what is sent comes from a tag of the session whose slot is next
+abbrev FromSlot : ℕ → StateValue → Outcome → Type 0
+FromSlot session before outcome = (sent : Sent) → outcome.answer ≡ Some sent → IsInSlot session before
+
+silent_now : (session : ℕ) (before after : StateValue) (body : BodyValue) → FromSlot session before (silent after body)
+silent_now session before after body = λ sent is. absurd (cc)
 
 last_slot : (slot : ℕ) → slot_below slot ≡ 0 → slot ≡ 1
 last_slot slot is =
@@ -88,25 +92,25 @@ in_slot : (own session slot : ℕ) → (own == session) ≡ true → (slot_below
 in_slot own session slot same_session last =
     (ap (λ n. Some n) (same_number own session same_session), ap (λ n. Some n) (last_slot slot (same_number (slot_below slot) 0 last)))
 
-of_session : (own session : ℕ) (before : StateValue) (body : BodyValue) (outcome : Outcome) → Sends (λ sent. IsInSlot session before) outcome → Sends (λ sent. IsInSlot session before) (if own == session then outcome else silent before body)
+of_session : (own session : ℕ) (before : StateValue) (body : BodyValue) (outcome : Outcome) → FromSlot session before outcome → FromSlot session before (if own == session then outcome else silent before body)
 of_session own session before body outcome given =
-    chosen (λ sent. IsInSlot session before) (own == session) outcome (silent before body) (λ is. given) (silent_now session before before body)
+    either (FromSlot session before) (own == session) outcome (silent before body) (λ same. given) (λ apart. silent_now session before before body)
 
-turn_ended : (session : ℕ) (before : StateValue) (held : Held) (body : BodyValue) → Sends (λ sent. IsInSlot session before) (end_turn session held body)
+turn_ended : (session : ℕ) (before : StateValue) (held : Held) (body : BodyValue) → FromSlot session before (end_turn session held body)
 turn_ended session before held body =
-    past_half (λ sent. IsInSlot session before) held.half (back session held.q body) (close session body)
+    past_half (FromSlot session before) held.half (back session held.q body) (close session body)
     (silent_now session before (ArbitrateState session held.q 0) body) (silent_now session before ReadyState (body_after_inversion session body))
 
-pub answers_in_slot : (session : ℕ) (state : StateValue) (body : BodyValue) → Sends (λ sent. IsInSlot session state) (step (commands.QueryRep session) state body)
+pub answers_in_slot : (session : ℕ) (state : StateValue) (body : BodyValue) → FromSlot session state (step (commands.QueryRep session) state body)
 answers_in_slot session ReadyState body = silent_now session ReadyState ReadyState body
 answers_in_slot session (ArbitrateState own q slot) body =
     let state = ArbitrateState own q slot in
-    let P : Sent → Type 0 = λ sent. IsInSlot session state in
-    chosen P (own == session) (count_down session q slot body) (silent state body)
-    (λ same_session. chosen P (slot_below slot == 0) (begin_reply session q body) (silent (ArbitrateState session q (slot_below slot)) body)
+    either (FromSlot session state) (own == session) (count_down session q slot body) (silent state body)
+    (λ same_session.
+    either (FromSlot session state) (slot_below slot == 0) (begin_reply session q body) (silent (ArbitrateState session q (slot_below slot)) body)
     (λ last. λ sent is. in_slot own session slot same_session last)
-    (silent_now session state (ArbitrateState session q (slot_below slot)) body))
-    (silent_now session state state body)
+    (λ later. silent_now session state (ArbitrateState session q (slot_below slot)) body))
+    (λ apart. silent_now session state state body)
 answers_in_slot session (ReplyState own q rn) body =
     let state = ReplyState own q rn in
     of_session own session state body (silent (ArbitrateState session q 0x7FFF) body) (silent_now session state (ArbitrateState session q 0x7FFF) body)

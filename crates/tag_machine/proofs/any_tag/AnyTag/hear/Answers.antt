@@ -3,13 +3,13 @@ use Rattle.tag_machine.specs.TagValue.{TagValue}
 use Rattle.tag_machine.specs.Answers.{Outcome}
 use Rattle.tag_machine.specs.Hearing.{tag_value_of, mark_of}
 use Rattle.tag_machine.proofs.AbsentTags.{absent}
-use Rattle.tag_machine.proofs.PreamblesAndErrors.{answers_as, marked}
-use Rattle.tag_machine.proofs.SessionIsolation.{isolated}
+use Rattle.tag_machine.proofs.Marks.{marked}
+use Rattle.tag_machine.proofs.StepFacts.{step_facts}
 use Rattle.tag_machine.proofs.any_tag.AnyTag.hear.Goals as goal
 
 pub returns-clause-isolated : goal.returns-clause-isolated
 returns-clause-isolated g c =
-    rw c.take.ensures.tag (isolated c.args.command.now (tag_value_of c.args.self).state (tag_value_of c.args.self).body)
+    rw c.take.ensures.tag (step_facts c.args.command.now (tag_value_of c.args.self).state (tag_value_of c.args.self).body).isolated
 
 pub returns-clause-marked : goal.returns-clause-marked
 returns-clause-marked g c =
@@ -18,7 +18,7 @@ returns-clause-marked g c =
 pub returns-clause-refused : goal.returns-clause-refused
 returns-clause-refused g c = λ sent code is error.
     ap (λ (tag : TagValue). tag.body) c.take.ensures.tag
-    ∙ (answers_as c.args.command.now (tag_value_of c.args.self).state (tag_value_of c.args.self).body).refused sent code is error
+    ∙ ((step_facts c.args.command.now (tag_value_of c.args.self).state (tag_value_of c.args.self).body).sent sent is).refused code error
 
 pub returns-clause-absent : goal.returns-clause-absent
 returns-clause-absent g c = λ gone.
