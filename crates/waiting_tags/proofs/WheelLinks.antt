@@ -1,8 +1,8 @@
 -- The links of tags that stand on places, where one is put on a place or taken from it.
-use Rattle.std.proofs.Common.{◌≡◌, ◌≢◌, ℕ, zero, suc, ◌+◌, ◌<◌, ◌≤◌, ◌==◌, ◌⊎◌, inl, inr, List, length, Option, Some, None, get_or, set, replicate, refl, sym, ap, ◌∙◌, subst, arith, if◌then◌else◌, is_some, true}
+use Rattle.std.proofs.Common.{◌≡◌, ◌≢◌, ℕ, zero, suc, ◌+◌, ◌<◌, ◌≤◌, ◌==◌, ◌⊎◌, inl, inr, List, length, Option, Some, None, get_or, set, replicate, refl, sym, ap, ◌∙◌, subst, arith, if◌then◌else◌, is_some, true, false}
 use Rattle.std.proofs.lemmas.Bool.{cases_lt}
 use Rattle.std.proofs.lemmas.Bool.Decides.{eqb_tells}
-use Rattle.std.proofs.lemmas.List.{get_or-set_same, get_or-set_other, get_or_past, get_or_default, get_or-replicate, length-replicate, length-set, set-set}
+use Rattle.std.proofs.lemmas.List.{get_or-set_same, get_or-set_other, get_or_past, get_or_default, get_or-replicate, length-replicate, length-set, set-get_or, set-set}
 use Rattle.std.proofs.lemmas.Option.{same_Some}
 use Rattle.std.proofs.lemmas.Grind.{get_or_default_zero}
 use Rattle.air_events.specs.TagNumbers.{most_tags}
@@ -509,32 +509,34 @@ pub place_inside : (w : Linking) (number place : ℕ) (stands : Option ℕ) → 
 place_inside w number place stands within is some = w.linked.inside number place (sym (place_read w.places number stands within is) ∙ some)
 
 -- a tag that stands somewhere has a place
-pub has_place : (stands : Option ℕ) → is_some stands ≡ true → (place : ℕ) × (stands ≡ Some place)
+has_place : (stands : Option ℕ) → is_some stands ≡ true → (place : ℕ) × (stands ≡ Some place)
 has_place None some = absurd cc
 has_place (Some place) some = (place, refl)
+
+has_none : (stands : Option ℕ) → is_some stands ≡ false → stands ≡ None
+has_none None none = refl
+has_none (Some place) none = absurd cc
 
 -- what is read where a tag that stands on a place is taken from it
 pub record TakenRead (w : Linking) : Type 0 where
   pub number : ℕ
-  pub stands : Option ℕ
   pub next : ℕ
   pub back : ℕ
   pub within : number < length w.places
-  pub read : stands ≡ get_or w.places number stands
-  pub some : is_some stands ≡ true
+  pub some : is_some (wheel_place_of w.places number) ≡ true
   pub next_is : next ≡ get_or w.links (most_places + number) next
   pub back_is : back ≡ get_or w.backs number back
 
 abbrev taking : (w : Linking) (r : TakenRead w) → Taking w
 taking w r =
-    let there = has_place r.stands r.some in
+    let there = has_place (wheel_place_of w.places r.number) r.some in
     let linked = w.linked in
     record {
       number = r.number;
       place = there.0;
       next = r.next;
       back = r.back;
-      stands = sym (place_read w.places r.number r.stands r.within r.read) ∙ there.1;
+      stands = there.1;
       next_is = sym (r.next_is ∙ get_or_default_zero w.links (most_places + r.number) r.next (omega (arith, linked.size, linked.few, r.within)));
       back_is = sym (r.back_is ∙ get_or_default_zero w.backs r.number r.back (omega (arith, linked.backs_size, linked.few, r.within)));
     }
@@ -545,20 +547,26 @@ take_linked w r = taken w (taking w r)
 pub take_back_inside : (w : Linking) (r : TakenRead w) → r.back < length w.links
 take_back_inside w r = (taking_links w (taking w r)).room
 
--- a tag is put on a place that it was taken from, or on another
-pub put_on : (old : List (Option ℕ)) (w : Linking) (number place first : ℕ) → w.places ≡ set old number None → number < length old
-    → place < most_places → first ≡ get_or w.links place first
-    → IsLinked (set w.places number (Some place)) (set (set w.links (most_places + number) first) place number) (set (set w.backs first (most_places + number)) number place)
-put_on old w number place first nowhere room below read =
-    put_there w record {
+-- ... or it stands nowhere
+pub take_nowhere : (w : Linking) (number : ℕ) → is_some (wheel_place_of w.places number) ≡ false → IsLinked (set w.places number None) w.links w.backs
+take_nowhere w number none =
+    let nowhere = has_none (wheel_place_of w.places number) none in
+    let same : set w.places number None ≡ w.places = sym (ap (λ (s : Option ℕ). set w.places number s) nowhere) ∙ set-get_or w.places number None in
+    rw same w.linked
+
+-- a tag that was taken from its place is put on this one, whose first tag is read
+pub put_on : (places : List (Option ℕ)) (links backs : List ℕ) (number place first : ℕ) → IsLinked (set places number None) links backs → number < length places → place < most_places
+    → first ≡ get_or links place first
+    → IsLinked (set places number (Some place)) (set (set links (most_places + number) first) place number) (set (set backs first (most_places + number)) number place)
+put_on places links backs number place first linked room below read =
+    let w : Linking = record { places = set places number None; links = links; backs = backs; linked = linked } in
+    rw (← set-set places number None (Some place))
+    (put_there w (record {
       number = number;
       place = place;
       first = first;
-      within = rw (nowhere, length-set old number None) room;
-      nowhere = ap (λ (l : List (Option ℕ)). wheel_place_of l number) nowhere ∙ is_set old number None room;
+      within = rw (length-set places number None) room;
+      nowhere = is_set places number None room;
       below = below;
-      first_is = sym (read ∙ get_or_default_zero w.links place first (omega (arith, w.linked.size, below)));
-    }
-
-pub put_again : (old places : List (Option ℕ)) (number : ℕ) (stands : Option ℕ) → places ≡ set old number None → set places number stands ≡ set old number stands
-put_again old places number stands nowhere = ap (λ (l : List (Option ℕ)). set l number stands) nowhere ∙ set-set old number None stands
+      first_is = sym (read ∙ get_or_default_zero links place first (omega (arith, linked.size, below)));
+    }))

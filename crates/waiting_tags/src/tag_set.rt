@@ -61,10 +61,6 @@ impl TagSet {
         ensures others { (other : ℕ) → other ≢ number
             → bit_in_set self.new other ≡ bit_in_set self.old other }
     {
-        // Most often it is not in the set: a tag that only waits is removed at each command that all hear.
-        if !self.contains(number) {
-            return;
-        }
         let number = number.index();
         let at = number / WORD;
         let word = self.words[at] & !(1 << (number % WORD));

@@ -1,8 +1,9 @@
 //! Which tags wait for their slots, and which are called.
-ghost use Rattle.std.specs.Prelude.{◌≡◌, ℕ, ◌+◌, ◌<◌, ◌≤◌, Some, None, length, map, replicate, slice_set, IfOk};
+ghost use Rattle.std.specs.Prelude.{◌≡◌, ◌≢◌, ℕ, ◌+◌, ◌<◌, ◌≤◌, Some, None, length, map, replicate, slice_set, IfOk};
 ghost use Rattle.std.specs.Option.{is_some};
 ghost use Rattle.air_events.specs.TagNumbers.{most_tags};
-ghost use Rattle.waiting_tags.specs.Waiting.{AreSlots, IsDue, IsLegalParticipation, IsNextCalled, counted_down, waiting_slot, slot_place, participation_at, waits_in};
+ghost use Rattle.waiting_tags.specs.TagSets.{IsIn, bit_in_set};
+ghost use Rattle.waiting_tags.specs.Waiting.{AreSlots, IsDue, IsLegalParticipation, IsNextCalled, called_place, counted_down, waiting_slot, slot_place, participation_at, waits_in};
 
 use crate::tag_set::TagSet;
 use crate::wheel::Wheel;
@@ -110,8 +111,8 @@ impl Waiting {
         match participation {
             Some(participation) => self.put_on_place(number, participation),
             None => {
-                self.wheel.take(number);
-                self.called.remove(number);
+                let stood = self.wheel.take(number);
+                uncall(&mut self.called, number, stood);
             }
         }
     }
@@ -127,8 +128,8 @@ impl Waiting {
         match participation {
             Participation::Waits(session, slot) => {
                 let place = slot_place(self.bases[usize::from(session)], session, slot);
-                self.wheel.put(number, place);
-                self.called.remove(number);
+                let stood = self.wheel.put(number, place);
+                uncall(&mut self.called, number, stood);
             }
             Participation::Called => {
                 // A tag beyond arbitrate is called to each command.
@@ -182,4 +183,17 @@ fn slot_place(base: u16, session: u8, slot: u16) -> usize
     ensures { result ≡ slot_place base session slot }
 {
     usize::from(session) * SLOTS + (usize::from(base) + usize::from(slot)) % SLOTS
+}
+
+/// Removes a tag from the set of those that are called, where it stood on the place for them.
+#[inline(always)]
+fn uncall(called: &mut TagSet, number: TagNumber, stood: Option<usize>)
+    requires { IsIn called.old number → stood ≡ Some called_place }
+    ensures there { bit_in_set called.new number ≡ 0 }
+    ensures others { (other : ℕ) → other ≢ number
+        → bit_in_set called.new other ≡ bit_in_set called.old other }
+{
+    if let Some(CALLED) = stood {
+        called.remove(number);
+    }
 }

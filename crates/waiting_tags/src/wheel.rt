@@ -1,7 +1,7 @@
 //! Places on which tags stand, and the links between the tags of one place.
 ghost use Rattle.std.specs.Prelude.{◌≡◌, ◌<◌, ◌≤◌, ℕ, Some, None, length, replicate, slice_set, IfOk};
 ghost use Rattle.air_events.specs.TagNumbers.{most_tags};
-ghost use Rattle.waiting_tags.specs.Wheel.{most_places, wheel_place_of, IsTagOn};
+ghost use Rattle.waiting_tags.specs.Wheel.{most_places, wheel_place_of, IsLinked, IsTagOn};
 
 use air_events::{MOST_TAGS, TagNumber};
 use bit_strings::OutOfMemory;
@@ -75,15 +75,17 @@ impl Wheel {
         }
     }
 
-    /// Lets a tag stand on a place, and nowhere else.
+    /// Lets a tag stand on a place, and nowhere else, and answers where it stood.
     #[inline(always)]
-    pub(crate) fn put(&mut self, number: TagNumber, place: usize)
+    pub(crate) fn put(&mut self, number: TagNumber, place: usize) -> Option<usize>
         requires number { number < length self.old }
         requires place { place < most_places }
-        ensures { self.new ≡ slice_set self.old number (Some place) }
+        ensures places { self.new ≡ slice_set self.old number (Some place) }
+        ensures stood { result ≡ wheel_place_of self.old number }
     {
-        self.take(number);
         let at = number.index();
+        let stood = self.places[at];
+        unlink(self.places.as_slice(), &mut self.links, &mut self.backs, at);
         let behind = PLACES + at;
         let first = self.links[place];
         self.links[behind] = first;
@@ -91,20 +93,34 @@ impl Wheel {
         self.links[place] = number.get();
         self.backs[at] = place;
         self.places[at] = Some(place);
+        stood
     }
 
-    /// Lets a tag stand nowhere.
-    pub(crate) fn take(&mut self, number: TagNumber)
+    /// Lets a tag stand nowhere, and answers where it stood.
+    pub(crate) fn take(&mut self, number: TagNumber) -> Option<usize>
         requires { number < length self.old }
-        ensures { self.new ≡ slice_set self.old number None }
+        ensures places { self.new ≡ slice_set self.old number None }
+        ensures stood { result ≡ wheel_place_of self.old number }
     {
         let at = number.index();
-        if self.places[at].is_some() {
-            let next = self.links[PLACES + at];
-            let back = self.backs[at];
-            self.links[back] = next;
-            self.backs[usize::from(next)] = back;
-            self.places[at] = None;
-        }
+        let stood = self.places[at];
+        unlink(self.places.as_slice(), &mut self.links, &mut self.backs, at);
+        self.places[at] = None;
+        stood
+    }
+}
+
+/// Takes a tag out of the links of its place, where it stands on one.
+#[inline(always)]
+fn unlink(places: &[Option<usize>], links: &mut Vec<u16>, backs: &mut Vec<usize>, at: usize)
+    requires at { at < length places.now }
+    requires linked { IsLinked places.now links.old.items backs.old.items }
+    ensures { IsLinked (slice_set places.now at None) links.new.items backs.new.items }
+{
+    if places[at].is_some() {
+        let next = links[PLACES + at];
+        let back = backs[at];
+        links[back] = next;
+        backs[usize::from(next)] = back;
     }
 }

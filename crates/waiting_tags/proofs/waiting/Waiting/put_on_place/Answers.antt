@@ -13,10 +13,10 @@ returns-in-Waits-clause-participations c =
     let range : IsLegalParticipation (Some (Waits session slot)) = subst (λ (p : Participation). IsLegalParticipation (Some p)) c.in-Waits.is c.requires.legal in
     let there : c.slot_place-place.result ≡ slot_place (get_or c.self.inside.bases session 0) session slot =
     c.slot_place-place.ensures ∙ ap (λ n. slot_place (get_or c.self.inside.bases n 0) session slot) c.from.ensures in
-    rw c.in-Waits.is (put_waits c.args.self.now on c.put.new.self c.args.number session slot range.0 range.1 (rw (← there) c.put.ensures))
+    rw c.in-Waits.is (put_waits c.args.self.now on c.put-stood.new.self c.args.number session slot range.0 range.1 (rw (← there) c.put-stood.ensures.places))
 
 pub returns-in-Waits-clause-slots : goal.returns-in-Waits-clause-slots
-returns-in-Waits-clause-slots c = are_slots c.self.inside.bases c.put.new.self _ refl
+returns-in-Waits-clause-slots c = are_slots c.self.inside.bases c.put-stood.new.self _ refl
 
 pub returns-then-contains-clause-participations : goal.returns-then-contains-clause-participations
 returns-then-contains-clause-participations c =
@@ -29,15 +29,15 @@ returns-then-contains-clause-slots c = are_slots c.self.inside.bases c.self.insi
 pub returns-else-contains-clause-participations : goal.returns-else-contains-clause-participations
 returns-else-contains-clause-participations c =
     let on : OnPlaces c.args.self.now = record { bases = c.self.inside.bases; places = c.self.inside.wheel; are = c.self.invariant.0; same = c.self.view_is } in
-    rw c.in-Called.is (put_called c.args.self.now on c.put-in-Called.new.self c.args.number c.put-in-Called.ensures)
+    rw c.in-Called.is (put_called c.args.self.now on c.put.new.self c.args.number c.put.ensures.places)
 
 pub returns-else-contains-clause-slots : goal.returns-else-contains-clause-slots
-returns-else-contains-clause-slots c = are_slots c.self.inside.bases c.put-in-Called.new.self _ refl
+returns-else-contains-clause-slots c = are_slots c.self.inside.bases c.put.new.self _ refl
 
 pub invariant_of-self-in-Called : goal.invariant_of-self-in-Called
 invariant_of-self-in-Called c = (
   c.self.invariant.0,
-  rw c.put-in-Called.ensures
+  rw c.put.ensures.places
       (called_placed c.self.inside.called c.insert.new.self c.self.inside.wheel c.args.number c.self.invariant.1
       (rw (length-participations c.self.inside.bases c.self.inside.wheel c.args.self.now c.self.view_is) c.requires.number) c.insert.ensures.there c.insert.ensures.others),
 )
