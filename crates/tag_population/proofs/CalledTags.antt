@@ -1,9 +1,10 @@
 -- Tags are called to a QueryRep: those that miss it, and those whose slot comes next.
 use Rattle.std.proofs.Common.{◌≡◌, ◌≢◌, ℕ, zero, suc, ◌+◌, ◌-◌, ◌<◌, ◌≤◌, ◌==◌, ◌⊎◌, inl, inr, Bool, true, false, ◌||◌, cond, List, [], ◌∷◌, length, drop, Option, Some, None, get_or, set, sym, ap, ◌∙◌, arith}
 use Rattle.std.specs.List.{list_any, All}
-use Rattle.std.proofs.lemmas.Bool.{cases_lt}
+use Rattle.std.proofs.lemmas.Bool.{cases_lt, eq-eqb}
 use Rattle.std.proofs.lemmas.Bool.Decides.{eqb_tells}
-use Rattle.std.proofs.lemmas.List.{get_or-set_same, get_or-set_other, get_or_past, length-set}
+use Rattle.std.proofs.lemmas.List.{get_or-set_same, get_or-set_other, get_or_past, length-set, drop-drop}
+use Rattle.std.proofs.lemmas.List.Folds.{list_any_at}
 use Rattle.air_events.specs.TagNumbers.{most_tags}
 use Rattle.air_events.specs.declared.Entry.{Entry}
 use Rattle.tag_machine.specs.Exchange.{is_missed}
@@ -90,20 +91,7 @@ pub record MissedBelow (session : ℕ) (entry : Entry) (before : FloorValue) (st
   pub each : (number : ℕ) → IsMissedBelow session entry index number (participation_at before.parts number) (participation_at now.parts number)
 
 any_missed : (number index : ℕ) (missed : List ℕ) → index < length missed → get_or missed index 0 ≡ number → list_any (λ tag. tag == number) missed ≡ true
-any_missed number index [] within is = absurd (omega (arith, within))
-any_missed number zero (tag ∷ missed) within is =
-    elim (eqb_tells tag number) [
-      | inl w ↦ ap (λ (b : Bool). b || list_any (λ tag. tag == number) missed) w.0
-      | inr w ↦ absurd (w.1 is)
-    ]
-any_missed number (suc index) (tag ∷ missed) within is =
-    elim (eqb_tells tag number) [
-      | inl w ↦ ap (λ (b : Bool). b || list_any (λ tag. tag == number) missed) w.0
-      | inr w ↦ ap (λ (b : Bool). b || list_any (λ tag. tag == number) missed) w.0 ∙ any_missed number index missed (omega (arith, within)) is
-    ]
-
-not_waiting : (session : ℕ) (part : Option Participation) → part ≡ Some Called → waits_in session part ≡ false
-not_waiting session part is = ap (λ (p : Option Participation). waits_in session p) is
+any_missed number index missed within is = list_any_at (λ tag. tag == number) missed index 0 within (eq-eqb (get_or missed index 0) number is)
 
 -- one name more, of a tag that doesn't wait in the session
 left_index : (session : ℕ) (entry : Entry) (index number : ℕ) (before after : Option Participation) → IsMissedBelow session entry index number before after
@@ -219,12 +207,6 @@ counted_here [] number is = cc
 counted_here (participation ∷ participations) zero is = ap (λ (s : Option Participation). cond (is_called s) 1 0 + called_in participations) is
 counted_here (participation ∷ participations) (suc number) is = counted_here participations number is
 
-zero_sum : (n : ℕ) → 0 + n ≡ n
-zero_sum n = omega arith
-
-suc_sum : (m n : ℕ) → suc m + n ≡ suc (m + n)
-suc_sum m n = omega arith
-
 called_later : (participations : List (Option Participation)) (from : ℕ) → called_in (drop from participations) ≤ called_in participations
 called_later [] zero = omega arith
 called_later [] (suc from) = omega arith
@@ -232,6 +214,4 @@ called_later (participation ∷ participations) zero = omega arith
 called_later (participation ∷ participations) (suc from) = omega (arith, called_later participations from)
 
 pub called_further : (participations : List (Option Participation)) (from more : ℕ) → called_in (drop (from + more) participations) ≤ called_in (drop from participations)
-called_further participations zero more = rw (zero_sum more) (called_later participations more)
-called_further [] (suc from) more = rw (suc_sum from more) (omega arith)
-called_further (participation ∷ participations) (suc from) more = rw (suc_sum from more) (called_further participations from more)
+called_further participations from more = rw (← drop-drop more from participations) (called_later (drop from participations) more)

@@ -285,10 +285,10 @@ heard_end command entry before start next now answers steps same so_far is =
 abbrev heard_at : ℕ → Command → Entry → List TagValue → ℕ → Outcome
 heard_at start command entry tags number = outcome_unless (is_missed (start + number) entry) command (get_or tags number no_tag)
 
-no_more : (start : ℕ) → start + 0 ≡ start
+pub no_more : (start : ℕ) → start + 0 ≡ start
 no_more start = omega arith
 
-later : (start number : ℕ) → start + suc number ≡ start + 1 + number
+pub later : (start number : ℕ) → start + suc number ≡ start + 1 + number
 later start number = omega arith
 
 tag_heard : (start number : ℕ) (command : Command) (entry : Entry) (tags : List TagValue) → number < length tags

@@ -1,22 +1,24 @@
 -- Which tags a command has to reach, and what comes of it where those alone are called.
 use Rattle.std.proofs.Common.{◌≡◌, ◌≢◌, ℕ, zero, suc, ◌+◌, ◌<◌, ◌≤◌, ◌==◌, ◌⊎◌, inl, inr, Bool, true, false, ◌||◌, List, [], ◌∷◌, length, map, Option, Some, None, get_or, refl, sym, ap, ◌∙◌, subst, arith, if◌then◌else◌}
 use Rattle.std.specs.Option.{is_some}
-use Rattle.std.proofs.lemmas.Bool.{eq-eqb, ne_eqb}
+use Rattle.std.proofs.lemmas.Bool.{eq-eqb, or_left, or_right}
 use Rattle.std.proofs.lemmas.Bool.Decides.{eqb_tells}
+use Rattle.std.proofs.Math.ListN.{get_or-map}
 use Rattle.std.proofs.lemmas.List.{length-map}
+use Rattle.std.proofs.lemmas.Option.{same_Some}
 use Rattle.air_events.specs.declared.Entry.{Entry}
 use Rattle.command_fields.specs.declared.choices.UpDn.{UpDn}
 use Rattle.command_grammar.specs.declared.commands.Command.{Command}
 use Rattle.command_grammar.specs.declared.commands.Command.TheVariants as commands
+use Rattle.tag_machine.proofs.QueryRepLaws.{waits, other_rep}
 use Rattle.tag_machine.specs.Answers.{Outcome, silent}
-use Rattle.tag_machine.specs.Draws.{begin_reply}
 use Rattle.tag_machine.specs.Exchange.{outcome_unless, is_missed, is_busy, busy_from}
 use Rattle.tag_machine.specs.Inventory.{slot_below, count_down}
 use Rattle.tag_machine.specs.Reach.{reaches_waiting}
 use Rattle.tag_machine.specs.Slots.{is_beyond_arbitrate}
 use Rattle.tag_machine.specs.Step.{step}
 use Rattle.tag_machine.specs.TagValue.{StateValue, ReadyState, ArbitrateState, ReplyState, AcknowledgedState, OpenState, SecuredState, KilledState, UnpoweredState, BodyValue, TagValue}
-use Rattle.tag_population.proofs.HeardTags.{StaysSilent}
+use Rattle.tag_population.proofs.HeardTags.{StaysSilent, no_more, later}
 use Rattle.tag_population.proofs.SeatedTags.{length-tags_of, tag_at, participation_of_tag}
 use Rattle.tag_population.specs.Floor.{tag_seated, participation_in, participations_of, called_in, no_tag, counted_floor, FloorValue, AreCalledFor, CallsTags, IsMissedCalled, IsDueCalled, IsPassedOver, outcome_each}
 use Rattle.waiting_tags.proofs.SlotPlaces.{same_waits}
@@ -112,21 +114,6 @@ rep_from session misses start middle participation tag is (inl missed) (inl due)
       λ same. due.1 (sym due.0 ∙ same),
     )
 
-true_false : (b : Bool) → b ≡ true → b ≡ false → ⊥
-true_false true is none = cc
-true_false false is none = cc
-
-below_other : (slot : ℕ) → slot ≢ 1 → slot_below slot ≢ 0
-below_other slot apart =
-    elim (eqb_tells slot 0) [
-      | inl w ↦ rw w.0 (omega arith)
-      | inr w ↦ rw w.0 (omega (arith, w.1, apart))
-    ]
-
-waits_on : (session q slot : ℕ) (body : BodyValue) → slot ≢ 1 → count_down session q slot body ≡ silent (ArbitrateState session q (slot_below slot)) body
-waits_on session q slot body apart =
-    ap (λ (b : Bool). if b then begin_reply session q body else silent (ArbitrateState session q (slot_below slot)) body) (ne_eqb (slot_below slot) 0 (below_other slot apart))
-
 arbitrate_rep : (session : ℕ) (misses : Bool) (own q slot : ℕ) (body : BodyValue) → (misses ≡ true → (own == session) ≡ false) → Some (Waits own slot) ≢ Some (Waits session 1)
     → silent (ArbitrateState own q (if own == session then slot_below slot else slot)) body ≡ outcome_unless misses (commands.QueryRep session) (record { state = ArbitrateState own q slot; body = body })
 arbitrate_rep session true own q slot body missed apart =
@@ -136,11 +123,11 @@ arbitrate_rep session false own q slot body missed apart =
       | inl w ↦
           ap (λ (b : Bool). silent (ArbitrateState own q (if b then slot_below slot else slot)) body) w.0
           ∙ ap (λ n. silent (ArbitrateState n q (slot_below slot)) body) w.1
-          ∙ sym (waits_on session q slot body (λ one. apart (ap (λ n. Some (Waits n slot)) w.1 ∙ ap (λ n. Some (Waits session n)) one)))
-          ∙ sym (ap (λ (b : Bool). if b then count_down session q slot body else silent (ArbitrateState own q slot) body) w.0)
+          ∙ sym (waits session q slot body (λ one. apart (ap (λ n. Some (Waits n slot)) w.1 ∙ ap (λ n. Some (Waits session n)) one)))
+          ∙ ap (λ n. step (commands.QueryRep session) (ArbitrateState n q slot) body) (sym w.1)
       | inr w ↦
           ap (λ (b : Bool). silent (ArbitrateState own q (if b then slot_below slot else slot)) body) w.0
-          ∙ sym (ap (λ (b : Bool). if b then count_down session q slot body else silent (ArbitrateState own q slot) body) w.0)
+          ∙ sym (other_rep session (ArbitrateState own q slot) body (λ is. w.1 (same_Some own session is)))
     ]
 
 rep_state : (session : ℕ) (misses : Bool) (state : StateValue) (body : BodyValue) → (misses ≡ true → waits_in session (participation_in state) ≡ false) → participation_in state ≢ Some (Waits session 1)
@@ -176,9 +163,7 @@ rep_settled session misses part tag (inr others) apart =
     ∙ ap (λ (p : Option Participation). participation_in (tag_seated (counted_down session p) tag).state) (sym others.0)
 
 counted_at : (session : ℕ) (participations : List (Option Participation)) (number : ℕ) → participation_at (map (counted_down session) participations) number ≡ counted_down session (participation_at participations number)
-counted_at session [] number = refl
-counted_at session (participation ∷ participations) zero = refl
-counted_at session (participation ∷ participations) (suc number) = counted_at session participations number
+counted_at session participations number = get_or-map (counted_down session) participations number None
 
 -- the tags are called that a QueryRep has to reach: first those that miss it, then those whose slot comes next
 pub record RepCalls (session : ℕ) (entry : Entry) (before called : FloorValue) : Type 0 where
@@ -238,21 +223,6 @@ rep_called_for session entry before called calls =
     }
 
 -- no more tags are called than it keeps busy
-or_first : (a b c : Bool) → a ≡ true → (a || b || c) ≡ true
-or_first true b c is = refl
-or_first false b c is = absurd (cc)
-
-or_second : (a b c : Bool) → b ≡ true → (a || b || c) ≡ true
-or_second true true c is = refl
-or_second false true c is = refl
-or_second a false c is = absurd (cc)
-
-or_third : (a b c : Bool) → c ≡ true → (a || b || c) ≡ true
-or_third true b true is = refl
-or_third false true true is = refl
-or_third false false true is = refl
-or_third a b false is = absurd (cc)
-
 beyond_called : (state : StateValue) → participation_in state ≡ Some Called → is_beyond_arbitrate state ≡ true
 beyond_called (ReplyState session q rn) is = refl
 beyond_called (AcknowledgedState session q rn) is = refl
@@ -281,11 +251,11 @@ called_busy session entry before called calls number here =
     let beyond : Bool = is_beyond_arbitrate tag.state in
     let answers : Bool = is_some (step (commands.QueryRep session) tag.state tag.body).answer in
     elim (calls.missed number) [
-      | inr missed ↦ or_first misses beyond answers missed.1
+      | inr missed ↦ or_left (misses || beyond) answers (or_left misses beyond missed.1)
       | inl missed ↦
           elim (calls.due number) [
-            | inr due ↦ or_third misses beyond answers (answers_next session tag.state tag.body (sym start ∙ sym missed.0 ∙ due.1))
-            | inl due ↦ or_second misses beyond answers (beyond_called tag.state (sym start ∙ sym missed.0 ∙ sym due.0 ∙ here))
+            | inr due ↦ or_right (misses || beyond) answers (answers_next session tag.state tag.body (sym start ∙ sym missed.0 ∙ due.1))
+            | inl due ↦ or_left (misses || beyond) answers (or_right misses beyond (beyond_called tag.state (sym start ∙ sym missed.0 ∙ sym due.0 ∙ here)))
           ]
     ]
 
@@ -293,13 +263,7 @@ one_busy : (participation : Option Participation) (busy : Bool) → (participati
 one_busy None busy is = omega arith
 one_busy (Some (Waits session slot)) busy is = omega arith
 one_busy (Some Called) true is = omega arith
-one_busy (Some Called) false is = absurd (true_false false (is refl) refl)
-
-no_more : (number : ℕ) → number + 0 ≡ number
-no_more number = omega arith
-
-later : (start number : ℕ) → start + suc number ≡ start + 1 + number
-later start number = omega arith
+one_busy (Some Called) false is = absurd (let busy : false ≡ true = is refl in cc)
 
 busy_most : (number : ℕ) (command : Command) (entry : Entry) (participations : List (Option Participation)) (tags : List TagValue) → length participations ≡ length tags
     → ((k : ℕ) → k < length tags → participation_at participations k ≡ Some Called → is_busy (number + k) command entry (get_or tags k no_tag) ≡ true)

@@ -1,9 +1,9 @@
 -- Tags in their seats: what they are seen as, and how a slot counter is written back.
 use Rattle.std.proofs.Common.{◌≡◌, ◌≢◌, ℕ, zero, suc, ◌+◌, ◌<◌, ◌≤◌, ◌==◌, List, [], ◌∷◌, ◌++◌, length, map, take, drop, Option, Some, None, get_or, set, refl, sym, ap, ◌∙◌, subst, arith, if◌then◌else◌}
 use Rattle.std.specs.Prelude.{slice_get}
+use Rattle.std.proofs.Math.ListN.{get_or-map}
 use Rattle.std.proofs.lemmas.List.{get_or-set_same, get_or_default, set-get_or, set-set, length-set, length-map, map-set, ext_get_or}
 use Rattle.std.proofs.lemmas.Option.{same_Some}
-use Rattle.std.proofs.Math.Seq.{take-append_seam}
 use Rattle.air_events.specs.TagNumbers.{most_tags}
 use Rattle.tag_machine.specs.Exchange.{AreLegalTags}
 use Rattle.tag_machine.specs.Inventory.{slot_below}
@@ -79,9 +79,7 @@ legal_tags (participation ∷ participations) (seat ∷ seats) slots legal =
     (legal_seated participation seat (λ slot is. slots 0 slot is) legal.0, legal_tags participations seats (λ number slot is. slots (suc number) slot is) legal.1)
 
 pub participation_of_tag : (tags : List TagValue) (number : ℕ) → participation_at (participations_of tags) number ≡ participation_in (get_or tags number no_tag).state
-participation_of_tag [] number = refl
-participation_of_tag (tag ∷ tags) zero = refl
-participation_of_tag (tag ∷ tags) (suc number) = participation_of_tag tags number
+participation_of_tag tags number = get_or-map (λ (tag : TagValue). participation_in tag.state) tags number no_tag
 
 -- the tags below a number take part as their states say
 pub record SettledBelow (seats : List TagValue) (number : ℕ) (participations : List (Option Participation)) : Type 0 where
@@ -147,26 +145,20 @@ pub record Back : Type 0 where
   pub are : AreSeated parts items
   pub within : number < length items
   pub back_is : seated ≡ seats_written_back parts number items
-  pub legal : AreLegalTags items → AreLegalTags seated
+  pub behind : AreSeated parts seated
 
-abbrev pub written : (parts : List (Option Participation)) (items slice seated : List TagValue) (number : ℕ) (floor : FloorValue) → AreSeated parts items → floor_of parts items ≡ floor → number < length floor.tags
-    → slice ≡ items → seated ≡ seats_written_back parts number slice → (AreLegalTags slice → AreLegalTags seated) → Back
-written parts items slice seated number floor are is within same back legal = record {
+abbrev pub written : (parts : List (Option Participation)) (items seated : List TagValue) (number : ℕ) (floor : FloorValue) → AreSeated parts items → floor_of parts items ≡ floor → number < length floor.tags
+    → seated ≡ seats_written_back parts number items → AreSeated parts seated → Back
+written parts items seated number floor are is within back behind = record {
   parts = parts;
   items = items;
   seated = seated;
   number = number;
   are = are;
   within = seats_within parts items floor number are is within;
-  back_is = back ∙ ap (λ (l : List TagValue). seats_written_back parts number l) same;
-  legal = λ all. legal (subst (λ (l : List TagValue). AreLegalTags l) (sym same) all);
+  back_is = back;
+  behind = behind;
 }
-
--- seats that were written all at once are those that were written
-pub all_written : (b : Back) (len : ℕ) → len ≡ length b.items → take len (b.seated ++ drop (length b.seated) b.items) ≡ b.seated
-all_written b len is =
-    ap (λ n. take n (b.seated ++ drop (length b.seated) b.items)) (is ∙ sym (ap (λ (l : List TagValue). length l) b.back_is ∙ length-set b.items b.number (tag_seated (participation_at b.parts b.number) (get_or b.items b.number no_tag))))
-    ∙ take-append_seam b.seated (drop (length b.seated) b.items)
 
 abbrev written_seat : Back → TagValue
 written_seat b = tag_seated (participation_at b.parts b.number) (get_or b.items b.number no_tag)
@@ -182,11 +174,10 @@ back_at b =
     ∙ sym (tag_at b.parts b.items b.number no_tag b.are.whole b.within)
 
 -- the tag that is read from the seats then
-pub back_read : (b : Back) (floor : FloorValue) (at : ℕ) (seat : TagValue) → floor_of b.parts b.items ≡ floor → at ≡ b.number → seat ≡ get_or b.seated at seat → seat ≡ get_or floor.tags b.number no_tag
-back_read b floor at seat is same read =
+pub back_read : (b : Back) (floor : FloorValue) (seat : TagValue) → floor_of b.parts b.items ≡ floor → seat ≡ get_or b.seated b.number seat → seat ≡ get_or floor.tags b.number no_tag
+back_read b floor seat is read =
     let here : b.number < length b.seated = rw (back_long b) b.within in
     read
-    ∙ ap (λ n. get_or b.seated n seat) same
     ∙ get_or_default b.seated b.number seat no_tag here
     ∙ back_at b
     ∙ ap (λ (f : FloorValue). get_or f.tags b.number no_tag) is
@@ -200,14 +191,6 @@ back_tags b =
     ∙ ap (λ (t : TagValue). set (seated_tags b.parts b.items) b.number t)
     (seated_twice (participation_at b.parts b.number) (get_or b.items b.number no_tag) ∙ sym (tag_at b.parts b.items b.number no_tag b.are.whole b.within))
     ∙ set-get_or (seated_tags b.parts b.items) b.number no_tag
-
-pub back_seated : (b : Back) → AreSeated b.parts b.seated
-back_seated b = record {
-  few = omega (arith, back_long b, b.are.few);
-  whole = b.are.whole ∙ sym (back_long b);
-  legal = b.legal b.are.legal;
-  slots = b.are.slots;
-}
 
 -- ... and then the tag was called
 called_tags : (b : Back) → seated_tags (set b.parts b.number (Some Called)) b.seated ≡ seated_tags b.parts b.items
@@ -225,9 +208,9 @@ called_is b after floor is put =
 
 pub called_seated : (b : Back) (after : List (Option Participation)) → AreSlots after → after ≡ set b.parts b.number (Some Called) → AreSeated after b.seated
 called_seated b after slots put = record {
-  few = omega (arith, back_long b, b.are.few);
-  whole = ap (λ (l : List (Option Participation)). length l) put ∙ length-set b.parts b.number (Some Called) ∙ b.are.whole ∙ sym (back_long b);
-  legal = b.legal b.are.legal;
+  few = b.behind.few;
+  whole = ap (λ (l : List (Option Participation)). length l) put ∙ length-set b.parts b.number (Some Called) ∙ b.behind.whole;
+  legal = b.behind.legal;
   slots = slots;
 }
 
@@ -241,43 +224,32 @@ pub record Becomes (b : Back) : Type 0 where
   pub slots : AreSlots after
   pub legal : IsLegalTag new
 
-pub becomes_floor : (b : Back) (n : Becomes b) (floor : FloorValue) (at : ℕ) → floor_of b.parts b.items ≡ floor → at ≡ b.number → floor_of n.after (set b.seated at n.new) ≡ floor_with floor b.number n.new
-becomes_floor b n floor at is same =
+pub becomes_floor : (b : Back) (n : Becomes b) (floor : FloorValue) → floor_of b.parts b.items ≡ floor → floor_of n.after (set b.seated b.number n.new) ≡ floor_with floor b.number n.new
+becomes_floor b n floor is =
     let after_is : n.after ≡ set b.parts b.number (participation_in n.new.state) = n.put ∙ ap (λ (p : Option Participation). set b.parts b.number p) n.takes in
-    let seats_are : set b.seated b.number n.new ≡ set b.items b.number n.new =
-    ap (λ (l : List TagValue). set l b.number n.new) b.back_is ∙ set-set b.items b.number (written_seat b) n.new in
-    let tags_are : seated_tags (set b.parts b.number (participation_in n.new.state)) (set b.items b.number n.new) ≡ set (seated_tags b.parts b.items) b.number n.new =
-    tags-set b.parts b.items b.number (participation_in n.new.state) n.new b.are.whole ∙ ap (λ (t : TagValue). set (seated_tags b.parts b.items) b.number t) (seated_as_is n.new) in
-    ap (λ m. floor_of n.after (set b.seated m n.new)) same
-    ∙ ap (λ (l : List TagValue). floor_of n.after l) seats_are
-    ∙ ap (λ (l : List (Option Participation)). floor_of l (set b.items b.number n.new)) after_is
+    let tags_are : seated_tags (set b.parts b.number (participation_in n.new.state)) (set b.seated b.number n.new) ≡ set (seated_tags b.parts b.items) b.number n.new =
+    tags-set b.parts b.seated b.number (participation_in n.new.state) n.new b.behind.whole
+    ∙ ap (λ (t : TagValue). set (seated_tags b.parts b.seated) b.number t) (seated_as_is n.new)
+    ∙ ap (λ (l : List TagValue). set l b.number n.new) (back_tags b) in
+    ap (λ (l : List (Option Participation)). floor_of l (set b.seated b.number n.new)) after_is
     ∙ ap (λ (l : List TagValue). let changed : FloorValue = record { tags = l; parts = set b.parts b.number (participation_in n.new.state) } in changed) tags_are
     ∙ ap (λ (f : FloorValue). floor_with f b.number n.new) is
 
-then_seated : (b : Back) (n : Becomes b) → AreSeated n.after (set b.seated b.number n.new)
-then_seated b n =
-    let long : length (set b.seated b.number n.new) ≡ length b.items = length-set b.seated b.number n.new ∙ back_long b in
+pub becomes_seated : (b : Back) (n : Becomes b) → AreSeated n.after (set b.seated b.number n.new)
+becomes_seated b n =
+    let long : length (set b.seated b.number n.new) ≡ length b.seated = length-set b.seated b.number n.new in
     record {
-      few = omega (arith, long, b.are.few);
-      whole = ap (λ (l : List (Option Participation)). length l) n.put ∙ length-set b.parts b.number n.participation ∙ b.are.whole ∙ sym long;
-      legal = legal-set b.seated b.number n.new (b.legal b.are.legal) n.legal;
+      few = omega (arith, long, b.behind.few);
+      whole = ap (λ (l : List (Option Participation)). length l) n.put ∙ length-set b.parts b.number n.participation ∙ b.behind.whole ∙ sym long;
+      legal = legal-set b.seated b.number n.new b.behind.legal n.legal;
       slots = n.slots;
     }
-
-pub becomes_seated : (b : Back) (n : Becomes b) (at : ℕ) → at ≡ b.number → AreSeated n.after (set b.seated at n.new)
-becomes_seated b n at same =
-    subst (λ m. AreSeated n.after (set b.seated m n.new)) (sym same) (then_seated b n)
 
 -- slot counters were counted down
 pub counted_tags : (session : ℕ) (parts : List (Option Participation)) (seats : List TagValue) → seated_tags (map (counted_down session) parts) seats ≡ seated_tags (map (counted_down session) parts) (seated_tags parts seats)
 counted_tags session [] seats = refl
 counted_tags session (part ∷ parts) [] = refl
 counted_tags session (part ∷ parts) (seat ∷ seats) = rw (← reseated session part seat, ← counted_tags session parts seats) refl
-
-pub slice_at : (tags : List TagValue) (number : ℕ) (d : TagValue) → number < length tags → slice_get tags number ≡ Some (get_or tags number d)
-slice_at [] number d within = absurd (omega (arith, within))
-slice_at (tag ∷ tags) zero d within = refl
-slice_at (tag ∷ tags) (suc number) d within = slice_at tags number d (omega (arith, within))
 
 pub counted_is : (session : ℕ) (parts after : List (Option Participation)) (items : List TagValue) (floor : FloorValue) → floor_of parts items ≡ floor → after ≡ map (counted_down session) parts
     → floor_of after items ≡ counted_floor session floor

@@ -8,7 +8,7 @@ ghost use Rattle.tag_machine.specs.Exchange.{AreLegalTags, outcome_unless, reply
 ghost use Rattle.tag_machine.specs.Hearing.{tag_value_of};
 ghost use Rattle.tag_machine.specs.TagValue.{IsLegalTag};
 ghost use Rattle.tag_population.specs.Answers.{answers_of};
-ghost use Rattle.tag_population.specs.Floor.{floor_with, calling, counted_floor, no_tag, participations_of, seats_written_back, steps_back};
+ghost use Rattle.tag_population.specs.Floor.{AreSeated, floor_with, calling, counted_floor, no_tag, participations_of, seats_written_back, steps_back};
 ghost use Rattle.tag_population.specs.Lent.{KeepsFloor};
 ghost use Rattle.waiting_tags.specs.Waiting.{IsDue, IsNextCalled, participation_at, waits_in};
 
@@ -75,7 +75,7 @@ impl Floor {
         ensures legal { IsLegalTag (tag_value_of result.now) }
         ensures counted { steps.new ≤ steps.old + 1 }
     {
-        write_back(self.seats.as_mut_slice(), &self.waiting, number, steps);
+        write_back(&mut self.seats, &self.waiting, number, steps);
         let at = number.index();
         self.seats[at].tag()
     }
@@ -94,7 +94,7 @@ impl Floor {
             (get_or self.old.tags number no_tag).body) }
         ensures counted { steps.new ≤ steps.old + 1 }
     {
-        write_back(self.seats.as_mut_slice(), &self.waiting, number, steps);
+        write_back(&mut self.seats, &self.waiting, number, steps);
         let at = number.index();
         let seat = &mut self.seats[at];
         seat.befall(event);
@@ -125,7 +125,7 @@ impl Floor {
         ensures counted { steps.new ≤ steps.old + 1
             + steps_back (participation_at self.old.parts number) }
     {
-        write_back(self.seats.as_mut_slice(), &self.waiting, number, steps);
+        write_back(&mut self.seats, &self.waiting, number, steps);
         let at = number.index();
         let seat = &mut self.seats[at];
         seat.hear(number, misses, command, answers, steps);
@@ -140,7 +140,7 @@ impl Floor {
         ensures counted { steps.new ≤ steps.old
             + steps_back (participation_at self.old.parts number) }
     {
-        write_back(self.seats.as_mut_slice(), &self.waiting, number, steps);
+        write_back(&mut self.seats, &self.waiting, number, steps);
         self.waiting.put(number, Some(Participation::Called));
     }
 
@@ -215,16 +215,16 @@ fn settle(seats: &[Seat], waiting: &mut Waiting)
 
 /// Writes the slot counter of a tag that waits back into its seat.
 fn write_back<L: Ledger>(
-    seats: &mut [Seat],
+    seats: &mut Vec<Seat>,
     waiting: &Waiting,
     number: TagNumber,
     steps: &mut Steps<L>,
 )
-    requires whole { length waiting.now ≡ length seats.old }
-    requires number { number < length seats.old }
-    ensures seats { seats.new ≡ seats_written_back waiting.now number seats.old }
+    requires number { number < length seats.old.items }
+    requires seated { AreSeated waiting.now seats.old.items }
+    ensures seats { seats.new.items ≡ seats_written_back waiting.now number seats.old.items }
+    ensures seated { AreSeated waiting.now seats.new.items }
     ensures counted { steps.new ≤ steps.old + steps_back (participation_at waiting.now number) }
-    ensures legal { AreLegalTags seats.old → AreLegalTags seats.new }
 {
     if let Some(slot) = waiting.slot(number) {
         seats[number.index()].set_slot(slot, steps);

@@ -14,7 +14,7 @@ use air_events::TagNumber;
 use command_grammar::Command;
 use std::marker::Model;
 use std::sync::ledger::Ledger;
-use tag_machine::{AnyTag, Event, StateName, Steps};
+use tag_machine::{AnyTag, Event, StateName, StateNumbers, Steps};
 use waiting_tags::Participation;
 
 /// A seat of a population. It has a tag at all times, but while that tag hears or an event befalls it.
@@ -62,12 +62,12 @@ impl Seat {
         ensures value { result ≡ participation_in self.now.state }
         ensures legal { IsLegalParticipation result }
     {
-        let tag = self.tag();
-        match tag.state() {
-            StateName::Arbitrate => Some(wait_of(tag)),
-            StateName::InReply | StateName::Acknowledged | StateName::Opened | StateName::Secured =>
-                Some(Participation::Called),
-            StateName::Ready | StateName::Killed | StateName::Unpowered => None,
+        match self.tag().numbers() {
+            StateNumbers::Waiting { session, slot, .. } => {
+                Some(Participation::Waits(session.get(), slot))
+            }
+            StateNumbers::Replied { .. } | StateNumbers::Held(_) => Some(Participation::Called),
+            StateNumbers::None => None,
         }
     }
 
@@ -149,18 +149,6 @@ impl Seat {
             return true;
         }
         tag.hear_in_place(command, steps)
-    }
-}
-
-/// How a tag waits in arbitrate.
-fn wait_of(tag: &AnyTag) -> Participation
-    requires { typed_name_of tag.now ≡ StateName.Arbitrate }
-    ensures value { Some result ≡ participation_in (tag_value_of tag.now).state }
-    ensures legal { IsLegalParticipation (Some result) }
-{
-    match tag {
-        AnyTag::Arbitrate(tag) => Participation::Waits(tag.session().get(), tag.slot()),
-        _ => unreachable!(),
     }
 }
 

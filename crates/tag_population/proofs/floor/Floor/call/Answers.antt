@@ -1,22 +1,18 @@
-use Rattle.std.proofs.Common.{◌∙◌, ap, subst, sym, List}
-use Rattle.tag_machine.specs.TagValue.{TagValue}
-use Rattle.tag_population.proofs.SeatedTags.{Back, all_written, floor_of, written, called_is, called_seated, parts_within, seats_within}
-use Rattle.tag_population.specs.Floor.{AreSeated}
+use Rattle.tag_population.proofs.SeatedTags.{Back, written, called_is, called_seated, parts_within, seats_within}
 use Rattle.tag_population.proofs.floor.Floor.call.Goals as goal
 
 pub write_back-requires-clause-number : goal.write_back-requires-clause-number
-write_back-requires-clause-number g c = rw c.as_mut_slice.ensures.value (seats_within c.self.inside.waiting c.self.inside.seats.items c.args.self.now c.args.number c.self.invariant c.self.view_is c.requires)
+write_back-requires-clause-number g c = seats_within c.self.inside.waiting c.self.inside.seats.items c.args.self.now c.args.number c.self.invariant c.self.view_is c.requires
 
 pub put-requires-clause-number : goal.put-requires-clause-number
 put-requires-clause-number g c = parts_within c.self.inside.waiting c.self.inside.seats.items c.args.self.now c.args.number c.self.invariant c.self.view_is c.requires
 
 pub invariant_of-self : goal.invariant_of-self
 invariant_of-self g c =
-    let b : Back = written c.self.inside.waiting c.self.inside.seats.items c.as_mut_slice.result.now c.write_back.new.seats c.args.number c.args.self.now c.self.invariant c.self.view_is c.requires c.as_mut_slice.ensures.value c.write_back.ensures.seats c.write_back.ensures.legal in
-    subst (λ (l : List TagValue). AreSeated c.put.new.self l) (sym (all_written b c.self.inside.seats.len c.self.inside.seats.ok.0)) (called_seated b c.put.new.self c.put.ensures.slots c.put.ensures.participations)
+    let b : Back = written c.self.inside.waiting c.self.inside.seats.items c.write_back.new.seats.items c.args.number c.args.self.now c.self.invariant c.self.view_is c.requires c.write_back.ensures.seats c.write_back.ensures.seated in
+    called_seated b c.put.new.self c.put.ensures.slots c.put.ensures.participations
 
 pub returns-clause-floor : goal.returns-clause-floor
 returns-clause-floor g c =
-    let b : Back = written c.self.inside.waiting c.self.inside.seats.items c.as_mut_slice.result.now c.write_back.new.seats c.args.number c.args.self.now c.self.invariant c.self.view_is c.requires c.as_mut_slice.ensures.value c.write_back.ensures.seats c.write_back.ensures.legal in
-    ap (λ (l : List TagValue). floor_of c.put.new.self l) (all_written b c.self.inside.seats.len c.self.inside.seats.ok.0)
-    ∙ called_is b c.put.new.self c.args.self.now c.self.view_is c.put.ensures.participations
+    let b : Back = written c.self.inside.waiting c.self.inside.seats.items c.write_back.new.seats.items c.args.number c.args.self.now c.self.invariant c.self.view_is c.requires c.write_back.ensures.seats c.write_back.ensures.seated in
+    called_is b c.put.new.self c.args.self.now c.self.view_is c.put.ensures.participations

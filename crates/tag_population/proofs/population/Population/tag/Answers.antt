@@ -1,5 +1,5 @@
 use Rattle.std.proofs.Common.{◌<◌, ◌∙◌, ap, arith, refl, length}
-use Rattle.tag_population.proofs.SeatedTags.{slice_at}
+use Rattle.std.proofs.lemmas.Option.{slice_get-get_or}
 use Rattle.tag_population.specs.Floor.{FloorValue, no_tag}
 use Rattle.tag_population.proofs.population.Population.tag.Goals as goal
 
@@ -21,7 +21,7 @@ returns g c = (
     same = tt;
     value =
         rw (← c.self.view_is, ← c.of.ensures, c.tag.ensures.value)
-        (slice_at c.self.inside.floor.tags c.of.result no_tag (rw (c.of.ensures, c.self.view_is) c.requires));
+        (slice_get-get_or c.self.inside.floor.tags c.of.result no_tag (rw (c.of.ensures, c.self.view_is) c.requires));
     legal = c.tag.ensures.legal;
     counted = c.tag.ensures.counted;
   },
