@@ -1,6 +1,7 @@
 -- What is known of the outcomes of Req_RN and of the access commands, state by state.
 use Rattle.std.proofs.Common.{◌≡◌, ℕ, zero, suc, ◌^◌, ◌<◌, ◌==◌, Bool, true, false, List, [], ◌∷◌, Option, Some, None, Result, Ok, Err, IfOk, is_some, if◌then◌else◌, refl, sym, ◌∙◌, ap, subst, arith}
 use Rattle.std.proofs.lemmas.Nat.{xor_of_16}
+use Rattle.std.proofs.lemmas.Bool.{eqb-true}
 use Rattle.std.proofs.lemmas.List.Elements.{All-cons, All-nil, All-from_recursion}
 use Rattle.command_fields.specs.declared.choices.Bank.{Bank}
 use Rattle.command_grammar.specs.declared.commands.Command.{Command}
@@ -31,7 +32,7 @@ use Rattle.tag_machine.specs.laws.Extended.{has_half, is_extended}
 use Rattle.tag_machine.specs.laws.Replies.{rn_or_handle_of, IsHandleAnswer, IsReadReply, IsDelayedAnswer, IsHeaderOrError, IsKillAnswer, IsAnswerTo}
 use Rattle.tag_machine.proofs.BodyFacts.{IsLegalAt, same_body, with_memory, with_locks, drawn, word_drawn, sound_of}
 use Rattle.tag_machine.proofs.LegalMemory.{written_sound, erased_sound}
-use Rattle.tag_machine.proofs.OutcomeFacts.{SentFacts, Facts, either, past_half, same_number, answering, stays, goes_back}
+use Rattle.tag_machine.proofs.OutcomeFacts.{SentFacts, Facts, either, past_half, answering, stays, goes_back}
 use Rattle.tag_machine.proofs.ReadWords.{BringsWords, brought}
 
 -- open and secured
@@ -90,7 +91,7 @@ numbered {state} {body} own rn after_state number draws legal_after =
     either (Facts (commands.ReqRn rn) state body) (own == rn) (plain_answer after_state (body_after_draw body) (Handle (draw_of body)) 0) (silent state body)
     (λ same.
     let one : (if own == rn then 1 else 0) ≡ 1 = rw same refl in
-    new_number (number ∙ ap (λ n. Some n) (same_number own rn same)) (draws ∙ one) legal_after)
+    new_number (number ∙ ap (λ n. Some n) (eqb-true own rn same)) (draws ∙ one) legal_after)
     (λ other.
     let none : (if own == rn then 1 else 0) ≡ 0 = rw other refl in
     stays (draws ∙ none))
@@ -127,7 +128,7 @@ heeded {command} rn brought_half level held body outcome none given =
     let P = Facts command (held_state level held) body in
     either P (held.handle == rn) (unless_ended brought_half held body outcome) (silent (held_state level held) body)
     (λ is.
-    let same = same_number held.handle rn is in
+    let same = eqb-true held.handle rn is in
     let own : Carries rn (held_state level held) body held =
     record { number = number_held level held ∙ ap (λ n. Some n) same; same = same; legal = λ before. held_of level held before.state } in
     past_ended P brought_half held body outcome (held_back own none) (given own))

@@ -2,6 +2,7 @@
 use Rattle.std.proofs.Common.{◌≡◌, ℕ, ◌^◌, ◌<◌, ◌≤◌, ◌==◌, Bool, true, false, List, drop, length, Some, if◌then◌else◌, refl, ◌∙◌, ap, arith, inl, inr, length-drop}
 use Rattle.std.proofs.lemmas.Bool.Decides.{eqb_tells}
 use Rattle.std.proofs.lemmas.List.{length-take-le}
+use Rattle.std.proofs.lemmas.Bool.{eqb-true}
 use Rattle.std.proofs.lemmas.List.Elements.{All-take, All-drop, All-get_or}
 use Rattle.bit_strings.specs.declared.code.Code.{Code}
 use Rattle.command_fields.specs.declared.choices.FlagName.{FlagName}
@@ -25,7 +26,7 @@ use Rattle.tag_machine.specs.Inventory.{unless_half, take_part, query, end_turn,
 use Rattle.tag_machine.specs.laws.DrawCounts.{draws_in, draws_to_enter, draws_to_take_part}
 use Rattle.tag_machine.specs.laws.Replies.{rn_or_handle_of, IsEpcAnswer}
 use Rattle.tag_machine.proofs.BodyFacts.{IsLegalAt, BodyFacts, same_body, with_flags, inverted, word_drawn, behind_draw}
-use Rattle.tag_machine.proofs.OutcomeFacts.{InRange, Facts, AnswersRn16, either, past_half, same_number, silently, answering, stays, goes_back, closes, turn_ends, of_session, begun, entered}
+use Rattle.tag_machine.proofs.OutcomeFacts.{InRange, Facts, AnswersRn16, either, past_half, silently, answering, stays, goes_back, closes, turn_ends, of_session, begun, entered}
 
 -- Query and QueryAdjust draw the slot before the RN16
 second_drawn : (body : BodyValue) → IsLegalBody body → draw_of (body_after_draw body) < 2 ^ 16
@@ -167,7 +168,7 @@ acked {state} {body} rn own session q behind number in_range legal_behind =
     (λ same.
     answering (record { reply = epc_reply body; handle = 0; extended = false }) same_body refl (λ of_command legal. legal_behind legal)
     (record {
-      fits = λ legal. epc_fits rn state body (number ∙ ap (λ n. Some n) (same_number own rn same)) legal.body;
+      fits = λ legal. epc_fits rn state body (number ∙ ap (λ n. Some n) (eqb-true own rn same)) legal.body;
       marked = refl;
       refused = λ code is. refl;
     }))

@@ -1,8 +1,7 @@
 -- What is known of each outcome of a step: the tag after it, and what it sends.
-use Rattle.std.proofs.Common.{◌≡◌, ℕ, suc, ◌%◌, ◌^◌, ◌<◌, ◌≤◌, ◌==◌, Bool, true, false, Option, Some, None, unwrap_or, if◌then◌else◌, refl, sym, ◌∙◌, ap, subst, arith, inl, inr}
+use Rattle.std.proofs.Common.{◌≡◌, ℕ, suc, ◌%◌, ◌^◌, ◌<◌, ◌≤◌, ◌==◌, Bool, true, false, Option, Some, None, unwrap_or, if◌then◌else◌, refl, sym, ◌∙◌, ap, subst, arith}
 use Rattle.std.proofs.Math.Nat.{one-le-pow, pow-le-pow_right}
 use Rattle.std.proofs.lemmas.Nat.{mod_below}
-use Rattle.std.proofs.lemmas.Bool.Decides.{eqb_tells}
 use Rattle.command_grammar.specs.declared.commands.Command.{Command}
 use Rattle.command_grammar.specs.Commands.{IsLegalCommand}
 use Rattle.reply_grammar.specs.declared.expected.Reply.TheVariants.{Rn16, Error}
@@ -50,13 +49,6 @@ either P false x y of_x of_y = of_y refl
 pub past_half : (P : Outcome → Type 0) (half : Option Half) (instead outcome : Outcome) → P instead → P outcome → P (unless_half half instead outcome)
 past_half P None instead outcome of_instead given = given
 past_half P (Some half) instead outcome of_instead given = of_instead
-
-pub same_number : (a b : ℕ) → (a == b) ≡ true → a ≡ b
-same_number a b is =
-    elim (eqb_tells a b) [
-      | inl w ↦ w.1
-      | inr w ↦ absurd (cc)
-    ]
 
 facts_of : {command : Command} {state after_state : StateValue} {before after : BodyValue} {draws : ℕ} (answer : Option Sent) → BodyFacts command state before after draws → draws_in command state before ≡ draws → Keeps command state before after_state → ((sent : Sent) → answer ≡ Some sent → SentFacts command state before after sent) → Facts command state before (record { tag = record { state = after_state; body = after }; answer = answer })
 facts_of {command} {state} {after_state} {before} answer of_body draws keeps of_sent = record {

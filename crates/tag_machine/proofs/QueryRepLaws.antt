@@ -1,5 +1,6 @@
 -- A tag in arbitrate whose slot has not come waits, and a tag outside the session of a command is silent.
-use Rattle.std.proofs.Common.{◌≡◌, ◌≢◌, ℕ, ◌==◌, Bool, true, false, Option, Some, None, if◌then◌else◌, refl, ◌∙◌, ap, arith, inl, inr}
+use Rattle.std.proofs.Common.{◌≡◌, ◌≢◌, ℕ, ◌==◌, true, Option, Some, None, if◌then◌else◌, refl, ap, arith, inl, inr}
+use Rattle.std.proofs.lemmas.Bool.{eq-eqb, eqb-true, ne_eqb}
 use Rattle.std.proofs.lemmas.Bool.Decides.{eqb_tells}
 use Rattle.command_fields.specs.declared.choices.UpDn.{UpDn}
 use Rattle.command_grammar.specs.declared.commands.Command.TheVariants as commands
@@ -10,29 +11,7 @@ use Rattle.tag_machine.specs.Draws.{begin_reply, enter, body_after_inversion, cl
 use Rattle.tag_machine.specs.Inventory.{slot_below, count_down, q_after_adjust, end_turn}
 use Rattle.tag_machine.specs.Slots.{session_of, slot_of, is_beyond_arbitrate}
 use Rattle.tag_machine.specs.Step.{step}
-use Rattle.tag_machine.proofs.OutcomeFacts.{either, past_half, same_number}
-
-same : (number : ℕ) → (number == number) ≡ true
-same number =
-    elim (eqb_tells number number) [
-      | inl w ↦ w.0
-      | inr w ↦ absurd (w.1 refl)
-    ]
-
-differ : (a b : ℕ) → a ≢ b → (a == b) ≡ false
-differ a b apart =
-    elim (eqb_tells a b) [
-      | inl w ↦ absurd (apart w.1)
-      | inr w ↦ w.0
-    ]
-
-if_true : (test : Bool) (x y : Outcome) → test ≡ true → (if test then x else y) ≡ x
-if_true true x y is = refl
-if_true false x y is = absurd (cc)
-
-if_false : (test : Bool) (x y : Outcome) → test ≡ false → (if test then x else y) ≡ y
-if_false true x y is = absurd (cc)
-if_false false x y is = refl
+use Rattle.tag_machine.proofs.OutcomeFacts.{either, past_half}
 
 not_yet : (slot : ℕ) → slot ≢ 1 → slot_below slot ≢ 0
 not_yet slot later =
@@ -42,13 +21,11 @@ not_yet slot later =
     ]
 
 pub waits : (session q slot : ℕ) (body : BodyValue) → slot ≢ 1 → step (commands.QueryRep session) (ArbitrateState session q slot) body ≡ silent (ArbitrateState session q (slot_below slot)) body
-waits session q slot body later =
-    if_true (session == session) (count_down session q slot body) (silent (ArbitrateState session q slot) body) (same session)
-    ∙ if_false (slot_below slot == 0) (begin_reply session q body) (silent (ArbitrateState session q (slot_below slot)) body) (differ (slot_below slot) 0 (not_yet slot later))
+waits session q slot body later = rw (eq-eqb session session refl, ne_eqb (slot_below slot) 0 (not_yet slot later)) refl
 
 -- a command of another session
 other : (own session : ℕ) (outcome stays : Outcome) → Some own ≢ Some session → (if own == session then outcome else stays) ≡ stays
-other own session outcome stays apart = if_false (own == session) outcome stays (differ own session (λ is. apart (ap (λ n. Some n) is)))
+other own session outcome stays apart = rw (ne_eqb own session (λ is. apart (ap (λ n. Some n) is))) refl
 
 pub other_rep : (session : ℕ) (state : StateValue) (body : BodyValue) → session_of state ≢ Some session → step (commands.QueryRep session) state body ≡ silent state body
 other_rep session ReadyState body apart = refl
@@ -90,7 +67,7 @@ last_slot slot is =
 
 in_slot : (own session slot : ℕ) → (own == session) ≡ true → (slot_below slot == 0) ≡ true → (Some own ≡ Some session) × (Some slot ≡ Some 1)
 in_slot own session slot same_session last =
-    (ap (λ n. Some n) (same_number own session same_session), ap (λ n. Some n) (last_slot slot (same_number (slot_below slot) 0 last)))
+    (ap (λ n. Some n) (eqb-true own session same_session), ap (λ n. Some n) (last_slot slot (eqb-true (slot_below slot) 0 last)))
 
 of_session : (own session : ℕ) (before : StateValue) (body : BodyValue) (outcome : Outcome) → FromSlot session before outcome → FromSlot session before (if own == session then outcome else silent before body)
 of_session own session before body outcome given =

@@ -1,8 +1,9 @@
 -- Places and slot counters.
-use Rattle.std.proofs.Common.{◌≡◌, ◌≢◌, ℕ, zero, suc, ◌+◌, ◌/◌, ◌%◌, ◌<◌, ◌≤◌, ◌==◌, inl, inr, Bool, List, [], ◌∷◌, length, map, Option, Some, None, get_or, set, replicate, refl, sym, ap, ◌∙◌, subst, arith, if◌then◌else◌}
+use Rattle.std.proofs.Common.{◌≡◌, ◌≢◌, ℕ, zero, suc, ◌+◌, ◌/◌, ◌%◌, ◌<◌, ◌≤◌, inl, inr, Bool, List, [], ◌∷◌, length, map, Option, Some, None, get_or, set, replicate, refl, sym, ap, ◌∙◌, subst, arith, if◌then◌else◌}
 use Rattle.std.proofs.lemmas.Bool.Decides.{eqb_tells}
 use Rattle.std.proofs.lemmas.Bool.{ne_eqb}
-use Rattle.std.proofs.lemmas.List.{get_or-set_same, get_or-set_other, set-get_or, length-map, length-replicate, length-set}
+use Rattle.std.proofs.Math.ListN.{get_or-map}
+use Rattle.std.proofs.lemmas.List.{map-set, get_or-set_same, get_or-set_other, set-get_or, length-map, length-replicate, length-set}
 use Rattle.std.proofs.lemmas.Option.{same_Some}
 use Rattle.air_events.specs.TagNumbers.{most_tags}
 use Rattle.tag_body.specs.RoundNumbers.{slot_below}
@@ -15,15 +16,11 @@ use Rattle.waiting_tags.specs.Waiting.{participation_at, IsNextCalled, IsDue, co
 
 -- the participation of the tag on a place
 pub participation_of_place : (bases : List ℕ) (places : List (Option ℕ)) (number : ℕ) → participation_at (participations_on bases places) number ≡ participation_on bases (wheel_place_of places number)
-participation_of_place bases [] number = refl
-participation_of_place bases (place ∷ places) zero = refl
-participation_of_place bases (place ∷ places) (suc number) = participation_of_place bases places number
+participation_of_place bases places number = get_or-map (participation_on bases) places number None
 
 pub participations-set : (bases : List ℕ) (places : List (Option ℕ)) (number : ℕ) (place : Option ℕ)
     → participations_on bases (set places number place) ≡ set (participations_on bases places) number (participation_on bases place)
-participations-set bases [] number place = refl
-participations-set bases (first ∷ places) zero place = refl
-participations-set bases (first ∷ places) (suc number) place = ap (λ (l : List (Option Participation)). participation_on bases first ∷ l) (participations-set bases places number place)
+participations-set bases places number place = map-set (participation_on bases) places number place
 
 pub map-none : (f : Option ℕ → Option Participation) (count : ℕ) → f None ≡ None → map f (replicate count None) ≡ replicate count None
 map-none f zero none = refl
@@ -55,9 +52,6 @@ counter_falls base place below =
       | inl w ↦ rw w.0 (omega (arith, w.1))
       | inr w ↦ rw w.0 (omega (arith, w.1))
     ]
-
-raised : (bases : List ℕ) (session base : ℕ) → List ℕ
-raised bases session base = set bases session ((base + 1) % 32768)
 
 counted_place : (bases : List ℕ) (session : ℕ) (place : ℕ) → AreBases bases → session < length bases
     → participation_on (set bases session ((get_or bases session 0 + 1) % 32768)) (Some place) ≡ counted_down session (participation_on bases (Some place))

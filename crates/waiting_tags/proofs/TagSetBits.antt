@@ -1,5 +1,5 @@
 -- The bits that the words of a set have for numbers.
-use Rattle.std.proofs.Common.{◌≡◌, ◌≢◌, ℕ, ◌+◌, ◌*◌, ◌/◌, ◌%◌, ◌^◌, ◌<◌, ◌≤◌, ◌==◌, ◌-◌, ◌↔◌, suc, Bool, true, false, ◌||◌, List, [], ◌∷◌, length, Some, None, get_or, set, replicate, bit_and, bit_or, refl, sym, ap, ◌∙◌, arith, min, inl, inr}
+use Rattle.std.proofs.Common.{◌≡◌, ◌≢◌, ℕ, ◌+◌, ◌*◌, ◌/◌, ◌%◌, ◌^◌, ◌<◌, ◌≤◌, ◌==◌, ◌-◌, ◌↔◌, suc, Bool, true, ◌||◌, List, [], ◌∷◌, length, Some, None, get_or, set, replicate, bit_and, bit_or, sym, ap, ◌∙◌, arith, min, inl, inr}
 use Rattle.std.specs.Int.{bit_at, bit_not, trailing_zeros, w64}
 use Rattle.std.specs.List.{list_any}
 use Rattle.std.proofs.lemmas.Bool.{cases_lt, eq-eqb}
@@ -147,20 +147,9 @@ next_one_there word from mask bit is low =
 bit_in : (words : List ℕ) (number at : ℕ) → number / 64 ≡ at → bit_in_set words number ≡ bit_at (get_or words at 0) (number % 64)
 bit_in words number at there = ap (λ n. bit_at (get_or words n 0) (number % 64)) there
 
--- ... or it isn't
-further : (words : List ℕ) (at from number : ℕ) → IsNextOne (get_or words at 0) from None → at * 64 + from ≤ number → number < (at + 1) * 64 → bit_in_set words number ≡ 0
-further words at from number none least below =
-    let here : number / 64 ≡ at = omega (arith, least, below) in
-    bit_in words number at here ∙ none (number % 64) (omega (arith, here, least)) (omega arith)
-
 -- from a word on
 empty_word : (filled : ℕ) (words : List ℕ) (at bit : ℕ) → IsFilled filled words → at < 64 → bit_at filled at ≡ 0 → bit_at (get_or words at 0) bit ≡ 0
 empty_word filled words at bit is below out = no_bit (get_or words at 0) bit ((is at below).0 out)
-
-pub no_word : (filled : ℕ) (words : List ℕ) (from : ℕ) → IsFilled filled words → IsNextOne filled from None → IsNextIn words (from * 64) None
-no_word filled words from is none = λ number least small.
-    let below : number / 64 < 64 = omega (arith, small) in
-    empty_word filled words (number / 64) (number % 64) is below (none (number / 64) (omega (arith, least)) below)
 
 -- a word that has a bit is one of the words
 pub word_within : (filled : ℕ) (words : List ℕ) (at : ℕ) → IsFilled filled words → at < 64 → bit_at filled at ≡ 1 → at < length words
@@ -269,8 +258,3 @@ pub emptied_none : (words numbers : List ℕ) → IsSetOf words numbers → Empt
 emptied_none words numbers is = record {
   left = λ number one. let found = number_index number numbers ((is number).0 one) in (found.0, omega arith, found.1, found.2);
 }
-
-pub same_true : (left right : Bool) → (left ≡ true → right ≡ true) → (right ≡ true → left ≡ true) → left ≡ right
-same_true true right there back = sym (there refl)
-same_true false true there back = back refl
-same_true false false there back = refl

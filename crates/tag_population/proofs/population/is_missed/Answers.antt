@@ -1,8 +1,13 @@
-use Rattle.std.proofs.Common.{ℕ, ◌==◌, List, ap, sym}
+use Rattle.std.proofs.Common.{◌≡◌, ℕ, ◌==◌, Bool, true, false, List, refl, ap, sym}
 use Rattle.std.specs.List.{list_any}
-use Rattle.waiting_tags.proofs.TagSetBits.{same_true}
 use Rattle.tag_machine.specs.Exchange.{is_missed}
 use Rattle.tag_population.proofs.population.is_missed.Goals as goal
+
+-- tests that tell the same
+same_true : (left right : Bool) → (left ≡ true → right ≡ true) → (right ≡ true → left ≡ true) → left ≡ right
+same_true true right there back = sym (there refl)
+same_true false true there back = back refl
+same_true false false there back = refl
 
 pub returns-then-is_empty : goal.returns-then-is_empty
 returns-then-is_empty c = ap (λ (l : List ℕ). list_any (λ missed. missed == c.args.number) l) (sym (c.is_empty.ensures.0 c.if-is_empty.true))
