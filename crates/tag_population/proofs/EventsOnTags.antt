@@ -12,7 +12,7 @@ use Rattle.tag_machine.specs.Events.{tag_after_event}
 use Rattle.tag_machine.specs.Hearing.{tag_value_of}
 use Rattle.tag_machine.specs.TagValue.{TagValue, IsLegalTag}
 use Rattle.tag_machine.specs.declared.any_tag.AnyTag.{AnyTag}
-use Rattle.tag_machine.proofs.SentReplies.{sent_fits}
+use Rattle.tag_machine.proofs.StepFacts.{step_facts}
 use Rattle.tag_machine.specs.Answers.{IsSent, Sent}
 use Rattle.tag_machine.specs.Exchange.{AreLegalTags, Replied, is_missed, outcome_unless, replies_from, reply_of, tag_after_own_event, tags_after_event, tags_after}
 use Rattle.tag_population.specs.Hearing.{tags_after_events, hearing_from}
@@ -108,7 +108,7 @@ sent_one number (Some sent) each = all_one (λ (replied : Replied). IsSent (Some
 
 sent_unless : (misses : Bool) (command : Command) (tag : TagValue) (sent : Sent) → IsLegalTag tag → (outcome_unless misses command tag).answer ≡ Some sent → IsSent (Some sent)
 sent_unless true command tag sent legal is = absurd cc
-sent_unless false command tag sent legal is = (sent_fits command tag.state tag.body legal sent is).1
+sent_unless false command tag sent legal is = (((step_facts command tag.state tag.body).sent sent is).fits legal).1
 
 pub sent_all : (start : ℕ) (command : Command) (entry : Entry) (tags : List TagValue) → AreLegalTags tags → All (λ replied. IsSent (Some replied.sent)) (replies_from start (hearing_from start command entry tags))
 sent_all start command entry [] legal = All-nil (λ (replied : Replied). IsSent (Some replied.sent))
