@@ -11,9 +11,11 @@ draw_of body = slice_index body.words body.next_draw
 abbrev pub place_behind : ℕ → ℕ → ℕ
 place_behind count place = (if place + 1 == count then 0 else place + 1)
 
+-- the place of the draw behind the next one
 abbrev pub place_after : BodyValue → ℕ
 place_after body = place_behind (length body.words) body.next_draw
 
+-- a draw moves the place on, and changes nothing else
 abbrev pub body_after_draw : BodyValue → BodyValue
 body_after_draw body = record body { next_draw = place_after body }
 

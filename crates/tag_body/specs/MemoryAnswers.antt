@@ -25,6 +25,7 @@ abbrev pub change_answer : {T : Type 0} → Result T ErrorCode → Reply
 change_answer (Ok new) = Header
 change_answer (Err code) = Error (error_number code)
 
+-- what stands afterwards: the new, or where the change was refused the old
 abbrev pub changed_or : {T : Type 0} → T → Result T ErrorCode → T
 changed_or old (Ok new) = new
 changed_or old (Err code) = old

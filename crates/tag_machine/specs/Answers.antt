@@ -17,6 +17,7 @@ pub record Outcome : Type 0 where
   pub tag : TagValue
   pub answer : Option Sent
 
+-- no reply
 abbrev pub silent : StateValue → BodyValue → Outcome
 silent state body = record { tag = record { state = state; body = body }; answer = None }
 

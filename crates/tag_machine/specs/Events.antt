@@ -13,6 +13,7 @@ use Rattle.air_events.specs.declared.Event.TheVariants as events
 use Rattle.tag_machine.specs.TagValue.{StateValue, ReadyState, ArbitrateState, ReplyState, AcknowledgedState, OpenState, SecuredState, KilledState, UnpoweredState, BodyValue, TagValue}
 pub use Rattle.tag_body.specs.BodyFlags.{body_after_expiry}
 
+-- a tag in this state
 abbrev pub tag_at : StateValue → BodyValue → TagValue
 tag_at state body = record { state = state; body = body }
 
@@ -26,6 +27,7 @@ after_timeout other body = tag_at other body
 abbrev pub tag_without_power : BodyValue → TagValue
 tag_without_power body = tag_at UnpoweredState (record body { flags = flags_after_power_loss body.flags })
 
+-- ... unless the tag is killed, which it stays
 abbrev pub after_off : StateValue → BodyValue → TagValue
 after_off KilledState body = tag_at KilledState body
 after_off other body = tag_without_power body

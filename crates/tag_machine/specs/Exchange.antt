@@ -49,6 +49,7 @@ pub record Replied : Type 0 where
   pub number : ℕ
   pub sent : Sent
 
+-- what the tag of a number sent: one reply, or none
 abbrev pub reply_of : ℕ → Option Sent → List Replied
 reply_of number None = []
 reply_of number (Some sent) = record { number = number; sent = sent } ∷ []
@@ -66,6 +67,7 @@ outcomes_in command entry tags = outcomes_from 0 command entry tags
 abbrev pub replies_in : Command → Entry → List TagValue → List Replied
 replies_in command entry tags = replies_from 0 (outcomes_in command entry tags)
 
+-- the command is a QueryRep, of some session
 abbrev pub IsQueryRep : Command → Type 0
 IsQueryRep command = (session : ℕ) × (command ≡ commands.QueryRep session)
 

@@ -113,6 +113,7 @@ nak (SecuredState held) body = back held.session held.q body
 nak KilledState body = silent KilledState body
 nak UnpoweredState body = silent UnpoweredState body
 
+-- a Select changes its flag, and the tag is ready
 abbrev pub selected_ready : FlagName → ℕ → MaskBank → ℕ → List Bool → BodyValue → Outcome
 selected_ready target action bank pointer mask body = silent ReadyState (selected_body target action bank pointer mask body)
 

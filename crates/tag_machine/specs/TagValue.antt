@@ -17,6 +17,7 @@ pub data StateValue : Type 0 where
   KilledState : StateValue
   UnpoweredState : StateValue
 
+-- a tag: its state, and what it holds in every state
 pub record TagValue : Type 0 where
   pub state : StateValue
   pub body : BodyValue
@@ -26,10 +27,12 @@ abbrev pub IsWordOrNone : Option ℕ → Type 0
 IsWordOrNone None = Unit {0}
 IsWordOrNone (Some word) = word < 2 ^ 16
 
+-- a half of a password, which has 16 bits, or none
 abbrev pub IsHalfOrNone : Option Half → Type 0
 IsHalfOrNone None = Unit {0}
 IsHalfOrNone (Some half) = half.value < 2 ^ 16
 
+-- each number of open and secured is in its range
 pub record IsLegalHeld (held : Held) : Type 0 where
   pub session : held.session ≤ 3
   pub q : held.q ≤ 15
@@ -48,6 +51,7 @@ IsLegalState (SecuredState held) = IsLegalHeld held
 IsLegalState KilledState = Unit {0}
 IsLegalState UnpoweredState = Unit {0}
 
+-- the state and what is held besides have their numbers in their ranges
 pub record IsLegalTag (tag : TagValue) : Type 0 where
   pub state : IsLegalState tag.state
   pub body : IsLegalBody tag.body

@@ -19,6 +19,7 @@ lock_field_at Epc place = EpcField
 lock_field_at Tid place = TidField
 lock_field_at User place = UserField
 
+-- a word may be read, by the lock bits of its field
 abbrev pub may_read_word : Locks → Level → Bank → ℕ → Bool
 may_read_word locks level bank place = may locks (lock_field_at bank place) level Reading
 
@@ -64,6 +65,7 @@ words_read banks locks level bank pointer count =
 abbrev pub with_words_at : List ℕ → ℕ → List ℕ → List ℕ
 with_words_at old pointer words = take pointer old ++ words ++ drop (pointer + length words) old
 
+-- the memory with these words in a bank, from a place on
 abbrev pub banks_with_words_at : Banks → Bank → ℕ → List ℕ → Banks
 banks_with_words_at banks bank pointer words = with_bank banks bank (with_words_at (bank_of banks bank) pointer words)
 

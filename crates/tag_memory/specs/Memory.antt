@@ -10,6 +10,7 @@ use Rattle.command_fields.specs.declared.choices.Bank.TheVariants.{Reserved, Epc
 use Rattle.command_fields.specs.declared.choices.MaskBank.{MaskBank}
 use Rattle.command_fields.specs.declared.choices.MaskBank.TheVariants.{Epc as EpcMask, Tid as TidMask, User as UserMask}
 
+-- the words of each bank
 pub record Banks : Type 0 where
   -- kill password and access password, the upper half of each first (6.3.2.1.1)
   pub reserved : List ℕ
@@ -18,6 +19,7 @@ pub record Banks : Type 0 where
   pub tid : List ℕ
   pub user : List ℕ
 
+-- the words of the bank that is named
 abbrev pub bank_of : Banks → Bank → List ℕ
 bank_of banks Reserved = banks.reserved
 bank_of banks Epc = banks.epc
@@ -30,6 +32,7 @@ bank_named EpcMask = Epc
 bank_named TidMask = Tid
 bank_named UserMask = User
 
+-- the memory with these words in the bank that is named
 abbrev pub with_bank : Banks → Bank → List ℕ → Banks
 with_bank banks Reserved words = record banks { reserved = words }
 with_bank banks Epc words = record banks { epc = words }
@@ -47,6 +50,7 @@ access_word_of banks = slice_index banks.reserved 2 * 2 ^ 16 + slice_index banks
 abbrev pub pc_of : Banks → ℕ
 pc_of banks = slice_index banks.epc 1
 
+-- how many words of EPC a PC announces
 abbrev pub length_in : ℕ → ℕ
 length_in pc = pc / 2 ^ 11
 
@@ -54,6 +58,7 @@ length_in pc = pc / 2 ^ 11
 abbrev pub epc_fits : ℕ → ℕ → Bool
 epc_fits pc count = nat_le (2 + length_in pc) count
 
+-- the EPC: as many words as PC announces, behind StoredCRC and PC
 abbrev pub epc_of : Banks → List ℕ
 epc_of banks = take (length_in (pc_of banks)) (drop 2 banks.epc)
 

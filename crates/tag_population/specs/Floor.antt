@@ -45,6 +45,7 @@ tag_seated None seat = seat
 tag_seated (Some (Waits session slot)) seat = record seat { state = with_slot slot seat.state }
 tag_seated (Some Called) seat = seat
 
+-- the tags in their seats, each of which takes part so
 abbrev pub seated_tags : List (Option Participation) → List TagValue → List TagValue
 seated_tags [] seats = []
 seated_tags (participation ∷ participations) [] = []
@@ -61,6 +62,7 @@ participation_in (SecuredState held) = Some Called
 participation_in KilledState = None
 participation_in UnpoweredState = None
 
+-- ... for each tag
 abbrev pub participations_of : List TagValue → List (Option Participation)
 participations_of tags = map (λ tag. participation_in tag.state) tags
 

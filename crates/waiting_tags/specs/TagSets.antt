@@ -8,6 +8,7 @@ use Rattle.air_events.specs.TagNumbers.{most_tags}
 abbrev pub bit_in_set : List ℕ → ℕ → ℕ
 bit_in_set words number = bit_at (get_or words (number / 64) 0) (number % 64)
 
+-- a number is in the set
 abbrev pub IsIn : List ℕ → ℕ → Type 0
 IsIn words number = bit_in_set words number ≡ 1
 

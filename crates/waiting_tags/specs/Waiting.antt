@@ -24,6 +24,7 @@ waits_in session None = false
 waits_in session (Some (Waits own slot)) = own == session
 waits_in session (Some Called) = false
 
+-- a tag is called
 abbrev pub is_called : Option Participation → Bool
 is_called None = false
 is_called (Some (Waits session slot)) = false
@@ -68,6 +69,7 @@ slot_place base session slot = session * 32768 + (base + slot) % 32768
 abbrev pub slot_behind : ℕ → ℕ → ℕ
 slot_behind base place = (place % 32768 + 32768 - base) % 32768
 
+-- how a tag takes part that stands on a place
 abbrev pub participation_there : List ℕ → ℕ → Participation
 participation_there bases place =
     (if place == called_place then Called else Waits (place / 32768) (slot_behind (get_or bases (place / 32768) 0) place))
@@ -77,6 +79,7 @@ abbrev pub participation_on : List ℕ → Option ℕ → Option Participation
 participation_on bases None = None
 participation_on bases (Some place) = Some (participation_there bases place)
 
+-- ... for each tag
 abbrev pub participations_on : List ℕ → List (Option ℕ) → List (Option Participation)
 participations_on bases places = map (λ place. participation_on bases place) places
 

@@ -55,6 +55,7 @@ IsReadReply count (Epc pc epc) = ⊥
 IsReadReply count (Handle rn) = ⊥
 IsReadReply count Header = ⊥
 
+-- ... with the handle that the Read carries
 pub record IsReadAnswer (count rn : ℕ) (state : StateValue) (sent : Sent) : Type 0 where
   pub number : rn_or_handle_of state ≡ Some rn
   pub reply : IsReadReply count sent.reply
@@ -67,6 +68,7 @@ IsHeaderOrError Header = Unit {0}
 IsHeaderOrError (Error code) = Unit {0}
 IsHeaderOrError other = ⊥
 
+-- ... with the handle that the command carries
 pub record IsDelayedAnswer (rn : ℕ) (state : StateValue) (sent : Sent) : Type 0 where
   pub number : rn_or_handle_of state ≡ Some rn
   pub reply : IsHeaderOrError sent.reply
