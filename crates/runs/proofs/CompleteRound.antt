@@ -1,10 +1,10 @@
 -- What an honest round says of the tags that it lists, in the history of a run.
-use Rattle.std.proofs.Common.{◌≡◌, ℕ, zero, suc, ◌+◌, ◌≤◌, ◌==◌, ◌&&◌, not, Bool, true, false, ◌⊎◌, inl, inr, List, [], ◌∷◌, ◌++◌, length, Option, Some, None, slice_get, if◌then◌else◌, refl, ap, sym, ◌∙◌, subst, append-nil, arith, add-one, eq-eqb}
+use Rattle.std.proofs.Common.{◌≡◌, ℕ, zero, suc, ◌+◌, ◌≤◌, ◌==◌, ◌&&◌, not, Bool, true, false, ◌⊎◌, inl, inr, List, [], ◌∷◌, ◌++◌, length, Option, Some, None, slice_get, if◌then◌else◌, refl, ap, sym, ◌∙◌, subst, arith, add-one, eq-eqb}
 use Rattle.access_ops.specs.declared.OpList.{OpList}
-use Rattle.air_model.specs.Past.{Start, Item, ended, tag_behind, rounds_in}
+use Rattle.air_model.specs.Past.{Start, Item, ended, tag_behind}
 use Rattle.air_events.specs.declared.Several.TheVariants as severals
 use Rattle.runs.specs.Headline.{AreLegalSteps, rounds_of}
-use Rattle.runs.specs.History.{past_behind_step, past_behind, history_of}
+use Rattle.runs.specs.History.{history_of}
 use Rattle.runs.specs.Complete.{HasNumber, IsMatchedTag, ListsNoTagTwice, StepsFlags, IsQuietComplete, EndsByLimit, CompleteInventory}
 use Rattle.runs.specs.Counted.{is_spoken_to, CountedRound}
 use Rattle.runs.specs.Honest.{IsHonest, IsApart}
@@ -12,7 +12,9 @@ use Rattle.runs.specs.Listed.{is_of_round, is_of_slot, tags_listed_in, tags_list
 use Rattle.runs.specs.Moments.{Ending, ending_of, past_after_query, tag_after_query, is_matched_in, flags_after_query}
 use Rattle.runs.specs.TagAtEnd.{StandsAtQuiet, StandsAtEnd, IsListedOnce}
 use Rattle.runs.specs.TagInRound.{is_matched, flags_in_round}
-use Rattle.runs.proofs.OtherRounds.{AllRecords, records-at, records-behind, records-all, AreOfOthers, of-others, listed-others, query-others, ending-others, records-others, Adds, step-adds, steps-add}
+use Rattle.runs.proofs.Records.{AllRecords, records-at, records-behind, records-all}
+use Rattle.runs.proofs.RoundsAmong.{RoundAmong, steps_around, played, stands-among}
+use Rattle.runs.proofs.OtherRounds.{AreOfOthers, listed-others, query-others, ending-others, records-others}
 use Rattle.runs.proofs.Growth.{RoundsKeepLimit}
 use Rattle.runs.proofs.PlayedRounds.{PlayedRound, number_of, past_behind_played}
 use Rattle.runs.proofs.Members.{Member, StandsBefore}
@@ -27,7 +29,6 @@ use Rattle.q_round.specs.SpecValue.{SpecValue, IsLegalSpec}
 use Rattle.q_round.specs.declared.round.RoundEnd.{RoundEnd}
 use Rattle.q_round.specs.declared.round.RoundEnd.TheVariants as ends
 use Rattle.scenario.specs.declared.values.Step.{Step}
-use Rattle.scenario.specs.declared.values.Step.TheVariants as steps
 use Rattle.tag_machine.specs.TagValue.{TagValue}
 
 -- The round as the whole history tells it: in slots before the last one and in the last one a number was listed or not, and each tag
@@ -284,16 +285,6 @@ module _ (round : PlayedRound) (last : LastSlot) (history : List Item) (by : IsT
     },
   )
 
--- steps follow one another
-pub past_behind-append : (start : Start) (before after : List Step) (past : List Item)
-    → past_behind start (before ++ after) past ≡ past_behind start after (past_behind start before past)
-past_behind-append start [] after past = refl
-past_behind-append start (step ∷ before) after past = past_behind-append start before after (past_behind_step start step past)
-
-pub legal-split : (before after : List Step) → AreLegalSteps (before ++ after) → AreLegalSteps before × AreLegalSteps after
-legal-split [] after legal = (tt, legal)
-legal-split (step ∷ before) after legal = let rest = legal-split before after legal.1 in ((legal.0, rest.0), rest.1)
-
 -- a law of rounds: what an inventory goes by of the rule for Q
 abbrev pub RoundsHaveFacts : Type 0
 RoundsHaveFacts = (spec : SpecValue) (link : LinkValue) → IsLegalSpec spec → RoundFacts spec link
@@ -319,34 +310,10 @@ told-behind round later others unsaid over =
       behind_is = over.is;
     }
 
--- a round among the steps of a run
-pub record RoundAmong : Type 0 where
-  pub start : Start
-  pub before : List Step
-  pub after : List Step
-  pub spec : SpecValue
-  pub operations : OpList
-
--- these steps
-abbrev pub steps_around : RoundAmong → List Step
-steps_around among = among.before ++ steps.Round among.spec among.operations ∷ among.after
-
--- the round as it is played
-abbrev pub played : RoundAmong → PlayedRound
-played among = record { start = among.start; operations = among.operations; spec = among.spec; before = past_behind among.start among.before [] }
-
 -- a round of a history is honest, and where the channel captures one of several replies no two tags answer alike in it
 pub record IsFairRound (start : Start) (history : List Item) (round : ℕ) (operations : OpList) : Type 0 where
   pub honest : IsHonest history round operations
   pub apart : start.several ≡ severals.Capture → IsApart history round
-
--- its number is that of the rounds before it and one
-pub number-among : RoundsKeepLimit → (among : RoundAmong) → AreLegalSteps (steps_around among) → number_of (played among) ≡ rounds_of among.before + 1
-number-among keeps among legal =
-    let (legal_before, legal_after) = legal-split among.before (steps.Round among.spec among.operations ∷ among.after) legal in
-    let first : Adds [] (past_behind among.start among.before []) (rounds_of among.before) = steps-add keeps among.start among.before [] legal_before in
-    let count : rounds_in (past_behind among.start among.before []) ≡ rounds_of among.before = first.rounds_are ∙ omega arith in
-    ap (λ n. n + 1) count
 
 pub history-told : RoundsKeepLimit → RoundsHaveFacts → (among : RoundAmong) → AreLegalSteps (steps_around among)
     → IsFairRound among.start (history_of among.start (steps_around among)) (rounds_of among.before + 1) among.operations
@@ -355,31 +322,17 @@ history-told keeps facts among legal fair =
     let start = among.start in
     let round = played among in
     let number : ℕ = number_of round in
-    let history = history_of start (steps_around among) in
-    let own_step = steps.Round among.spec among.operations in
-    let (legal_before, legal_after) = legal-split among.before (own_step ∷ among.after) legal in
-    let past = past_behind start among.before [] in
-    let behind = past_behind_played round in
-    let first : Adds [] past (rounds_of among.before) = steps-add keeps start among.before [] legal_before in
-    let own : Adds past behind 1 = step-adds keeps start own_step past legal_after.0 in
-    let rest : Adds behind (past_behind start among.after behind) (rounds_of among.after) = steps-add keeps start among.after behind legal_after.1 in
-    let same_number : number ≡ rounds_of among.before + 1 = number-among keeps among legal in
-    let all_before : first.own ≡ past = sym (append-nil first.own) ∙ sym first.is in
-    let none_before : AreOfOthers number past =
-    subst (AreOfOthers number) all_before (of-others 0 (0 + rounds_of among.before) number first.own (omega arith) (inr (omega (arith, same_number))) first.of) in
-    let none_behind : AreOfOthers number rest.own =
-    of-others (rounds_in behind) (rounds_in behind + rounds_of among.after) number rest.own (omega arith) (inl (omega (arith, own.rounds_are))) rest.of in
-    let here : history ≡ rest.own ++ behind = past_behind-append start among.before (own_step ∷ among.after) [] ∙ rest.is in
-    let each_fair : AllRecords (IsFairIn start number) history =
-    subst (λ n. AllRecords (IsFairIn start n) history) (sym same_number)
-    (records-all (IsFairIn start (rounds_of among.before + 1)) history
+    let stands = stands-among keeps among legal in
+    let each_fair : AllRecords (IsFairIn start number) (history_of start (steps_around among)) =
+    subst (λ n. AllRecords (IsFairIn start n) (history_of start (steps_around among))) (sym stands.number_is)
+    (records-all (IsFairIn start (rounds_of among.before + 1)) (history_of start (steps_around among))
     (λ sent earlier recorded same. record {
       unsaid = fair.honest.unsaid sent earlier recorded same;
       apart = λ captures begins. (fair.apart captures).apart sent earlier recorded same begins;
     })) in
-    subst (λ (items : List Item). IsTold round items) (sym here)
-    (told-behind round rest.own none_behind (subst (AllRecords (IsFairIn start number)) here each_fair)
-    (round-stands round keeps legal_after.0.legal (facts among.spec start.link legal_after.0.legal) fair.honest.no_operations none_before))
+    subst (λ (items : List Item). IsTold round items) (sym stands.is)
+    (told-behind round stands.later stands.later_others (subst (AllRecords (IsFairIn start number)) stands.is each_fair)
+    (round-stands round keeps stands.legal.legal (facts among.spec start.link stands.legal.legal) fair.honest.no_operations stands.before_others))
 
 -- ... also where the steps of the run are called by a name
 pub taken-told : RoundsKeepLimit → RoundsHaveFacts → (among : RoundAmong) (taken : List Step) → AreLegalSteps taken → taken ≡ steps_around among
@@ -395,7 +348,7 @@ pub complete-inventory : RoundsKeepLimit → RoundsHaveFacts → (among : RoundA
 complete-inventory keeps facts among taken legal is fair =
     let history = history_of among.start taken in
     let told = taken-told keeps facts among taken legal is fair in
-    subst (λ n. CompleteInventory among.start history n among.spec.session) (number-among keeps among (subst AreLegalSteps is legal))
+    subst (λ n. CompleteInventory among.start history n among.spec.session) (stands-among keeps among (subst AreLegalSteps is legal)).number_is
     (told-complete (played among) told.last history told.by)
 
 pub counted-round : RoundsKeepLimit → RoundsHaveFacts → (among : RoundAmong) (taken : List Step) → AreLegalSteps taken → taken ≡ steps_around among
@@ -404,5 +357,5 @@ pub counted-round : RoundsKeepLimit → RoundsHaveFacts → (among : RoundAmong)
 counted-round keeps facts among taken legal is fair =
     let history = history_of among.start taken in
     let told = taken-told keeps facts among taken legal is fair in
-    subst (λ n. CountedRound among.start history n among.spec) (number-among keeps among (subst AreLegalSteps is legal))
+    subst (λ n. CountedRound among.start history n among.spec) (stands-among keeps among (subst AreLegalSteps is legal)).number_is
     (told-counted (played among) told.last history told.by)

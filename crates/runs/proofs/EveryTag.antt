@@ -9,7 +9,7 @@ use Rattle.std.specs.Prelude.{nat_eq}
 use Rattle.access_ops.specs.declared.OpList.{OpList}
 use Rattle.air_model.specs.Channel.{Given, silence, whole, broken, raw, IsOfReplies}
 use Rattle.tag_machine.specs.Exchange.{Replied}
-use Rattle.air_model.specs.Past.{Start, Record, Item, befell, exchanged, operated, ended, tag_behind, next_entry}
+use Rattle.air_model.specs.Past.{Start, Record, Item, exchanged, tag_behind, next_entry}
 use Rattle.air_model.specs.Reception.{is_expected, reception_of}
 use Rattle.air_events.specs.Entries.{no_entry, entry_at}
 use Rattle.air_events.specs.declared.Entry.{Entry}
@@ -24,9 +24,10 @@ use Rattle.runs.specs.EveryTag.{AllTakePart, HaveOwnEpcs, pairs_listed, ListsEve
 use Rattle.runs.specs.Listed.{listed_as, sender_where, sender_listed_by, is_of_round, tags_listed_where, tags_listed_in, times}
 use Rattle.runs.specs.Moments.{Ending, ending_of, tag_after_query}
 use Rattle.runs.specs.TagInRound.{is_matched, flags_behind_query}
-use Rattle.runs.proofs.CompleteRound.{IsTold, IsToldBy, RoundsHaveFacts, RoundAmong, played, IsFairRound, history-told, told-counted}
+use Rattle.runs.proofs.CompleteRound.{IsTold, IsToldBy, RoundsHaveFacts, IsFairRound, history-told, told-counted}
+use Rattle.runs.proofs.RoundsAmong.{RoundAmong, played}
 use Rattle.runs.proofs.MadeRecords.{made-record, none-given}
-use Rattle.runs.proofs.OtherRounds.{AllRecords, records-at, records-all}
+use Rattle.runs.proofs.Records.{AllRecords, records-at, records-all}
 use Rattle.runs.proofs.Growth.{RoundsKeepLimit}
 use Rattle.runs.proofs.Population.{tag_stepped, tag-steps}
 use Rattle.runs.proofs.TagQuery.{query-matched, query-memory}
@@ -61,7 +62,7 @@ one-round keeps start operations spec legal =
       slot = λ outcomes now command next holds. (refl, holds);
       no_answer = λ outcomes now command reception heard none holds. holds;
       ack = λ outcomes now command rn heard holds. (refl, holds);
-      operation = λ some outcomes now command holds. (refl, holds);
+      operation = λ some outcomes now command expect extended suits holds. (refl, holds);
       result = λ some outcomes now index result holds. holds;
       end = λ outcomes now end next holds. holds;
     })
@@ -70,12 +71,10 @@ one-round keeps start operations spec legal =
 -- so that all tags that are listed are listed in it
 all-in-round : (round : ℕ) (past : List Item) → AreOfRound round past → tags_listed_where (λ sent. true) past ≡ tags_listed_in round past
 all-in-round round [] all = refl
-all-in-round round (befell event number ∷ past) all = all-in-round round past all
 all-in-round round (exchanged sent ∷ past) all =
     ap (λ (tags : List ℕ). tags ++ sender_listed_by sent) (all-in-round round past all.1)
     ∙ ap (λ (passes : Bool). tags_listed_in round past ++ (if passes then sender_listed_by sent else [])) (sym (eq-eqb sent.round round all.0))
-all-in-round round (operated at slot index result ∷ past) all = all-in-round round past all
-all-in-round round (ended number end slots ∷ past) all = all-in-round round past all
+all-in-round round (item ∷ past) all = all-in-round round past all
 
 abbrev if_listed : List Listed → ℕ → List ℕ
 if_listed [] number = []
@@ -125,15 +124,13 @@ AreOfReplies past = AllRecords (λ sent earlier. IsOfReplies sent.given) past
 -- as many tags are listed as there are list lines
 listed-as-many : (past : List Item) → AreOfReplies past → length (tags_listed_where (λ sent. true) past) ≡ length (listing_of past)
 listed-as-many [] of = refl
-listed-as-many (befell event number ∷ past) of = listed-as-many past of
 listed-as-many (exchanged sent ∷ past) of =
     let before = listed-as-many past of.1 in
     let here = as-many (listed_by sent) (sender_listed_by sent) (lists sent (λ rn ack. of.0)) in
     length-append (tags_listed_where (λ sent. true) past) (sender_listed_by sent)
     ∙ omega (arith, before, here)
     ∙ sym (length-append (listing_of past) (listed_by sent))
-listed-as-many (operated at slot index result ∷ past) of = listed-as-many past of
-listed-as-many (ended number end slots ∷ past) of = listed-as-many past of
+listed-as-many (item ∷ past) of = listed-as-many past of
 
 -- the PC and the EPC of the tag of a number
 abbrev pub key_of : Option TagValue → ℕ × List ℕ
@@ -165,14 +162,12 @@ keys-of start listed senders (somebody one number listed_one sender) each = each
 -- so that the pairs that are listed are those of the tags that are
 pairs-are-keys : (start : Start) (past : List Item) → AreOfReplies past → AllRecords (ListsKey start) past → pairs_listed past ≡ map (key start) (tags_listed_where (λ sent. true) past)
 pairs-are-keys start [] of all = refl
-pairs-are-keys start (befell event number ∷ past) of all = pairs-are-keys start past of all
 pairs-are-keys start (exchanged sent ∷ past) of all =
     map-append pair_of (listing_of past) (listed_by sent)
     ∙ ap (λ pairs. pairs ++ map pair_of (listed_by sent)) (pairs-are-keys start past of.1 all.1)
     ∙ ap (λ pairs. map (key start) (tags_listed_where (λ sent. true) past) ++ pairs) (keys-of start (listed_by sent) (sender_listed_by sent) (lists sent (λ rn ack. of.0)) all.0)
     ∙ sym (map-append (key start) (tags_listed_where (λ sent. true) past) (sender_listed_by sent))
-pairs-are-keys start (operated at slot index result ∷ past) of all = pairs-are-keys start past of all
-pairs-are-keys start (ended number end slots ∷ past) of all = pairs-are-keys start past of all
+pairs-are-keys start (item ∷ past) of all = pairs-are-keys start past of all
 
 -- the numbers of a list stand in it once
 abbrev StandOnce : List ℕ → Type 0
@@ -260,13 +255,11 @@ listed-somewhere test [] sent earlier number passes sender =
     let one = times-one number number in
     let all = ap (times number) (lists-one test sent earlier number passes sender) ∙ times-append number (tags_listed_where test earlier) (number ∷ []) in
     omega (arith, here, one, all)
-listed-somewhere test (befell event befallen ∷ later) sent earlier number passes sender = listed-somewhere test later sent earlier number passes sender
 listed-somewhere test (exchanged other ∷ later) sent earlier number passes sender =
     let before = listed-somewhere test later sent earlier number passes sender in
     let all = times-append number (tags_listed_where test (later ++ exchanged sent ∷ earlier)) (if test other then sender_listed_by other else []) in
     omega (arith, before, all)
-listed-somewhere test (operated at slot index result ∷ later) sent earlier number passes sender = listed-somewhere test later sent earlier number passes sender
-listed-somewhere test (ended round end slots ∷ later) sent earlier number passes sender = listed-somewhere test later sent earlier number passes sender
+listed-somewhere test (item ∷ later) sent earlier number passes sender = listed-somewhere test later sent earlier number passes sender
 
 -- where the Query speaks to each tag, it speaks to as many as there are
 all-spoken-to : (spec : SpecValue) (round : ℕ) (history : List Item) (number : ℕ) (tags : List TagValue)

@@ -1,5 +1,5 @@
 -- A past only grows. What each command and each result of a dialogue keeps, the dialogue keeps; what holds after each slot of a
--- round and at both of its ends holds of the round; and what holds after each step holds of the run.
+-- round and at both of its ends holds of the round; what holds after each step holds of the run; and what each item keeps, all keep.
 use Rattle.std.proofs.Common.{◌≡◌, ℕ, zero, suc, ◌+◌, ◌≤◌, Bool, true, false, List, [], ◌∷◌, ◌++◌, length, None, refl, ap, sym, ◌∙◌, append_assoc, append-nil, arith}
 use Rattle.std.specs.List.{AllByRecursion}
 use Rattle.access_ops.proofs.DialogueLaws.{AwaitsReplies, dialogues-await}
@@ -7,7 +7,8 @@ use Rattle.access_ops.specs.laws.OperationLaws.{Expects}
 use Rattle.access_ops.specs.Operations.{Dialogue, sends, tells, done, dialogue_of}
 use Rattle.access_ops.specs.declared.OpList.{OpList}
 use Rattle.access_ops.specs.declared.op_next.OpResult.{OpResult}
-use Rattle.air_model.specs.Past.{Start, Item, exchanged, operated, ended, next_record, past_behind_command, rounds_in}
+use Rattle.air_events.specs.declared.Event.{Event}
+use Rattle.air_model.specs.Past.{Start, Item, befell, operated, ended, past_behind_command, rounds_in}
 use Rattle.reply_grammar.specs.Reception.{Reception, no_stream, whole_reply, no_such_reply}
 use Rattle.runs.specs.History.{outcome_of, operation_reception, past_behind_dialogue, dialogue_begun, past_behind_listing, ack_reception, past_behind_ack, past_behind_answer, slot_reception, past_behind_slot, past_behind_turn, past_behind_turns, past_behind_step, past_behind}
 use Rattle.runs.specs.NextItem.{rn_of}
@@ -36,17 +37,11 @@ pub record Grows (past behind : List Item) : Type 0 where
   pub own : List Item
   pub is : behind ≡ own ++ past
 
-pub grows-none : (past : List Item) → Grows past past
+grows-none : (past : List Item) → Grows past past
 grows-none past = record { own = []; is = refl }
 
 pub grows-more : (past behind : List Item) (item : Item) → Grows past behind → Grows past (item ∷ behind)
 grows-more past behind item grown = record { own = item ∷ grown.own; is = ap (λ items. item ∷ items) grown.is }
-
-pub grows-on : (past between behind : List Item) → Grows past between → Grows between behind → Grows past behind
-grows-on past between behind first then = record {
-  own = then.own ++ first.own;
-  is = then.is ∙ ap (λ items. then.own ++ items) first.is ∙ sym (append_assoc then.own first.own past);
-}
 
 -- What each command and each result of a dialogue keeps, and the end. `During` speaks of the number of the next result, what is
 -- left of the dialogue, and the past; `After` of the past behind the dialogue.
@@ -153,71 +148,64 @@ answer-keeps Holds at operations reception past kept ack holds =
     answer-holds Holds at operations reception past holds
     (λ rn is. ack-keeps Holds at operations rn past kept (ack rn holds))
 
-pub dialogue-grows : (start : Start) (round slot index : ℕ) (dialogue : Dialogue) (past : List Item)
-    → Grows past (past_behind_dialogue start round slot index dialogue past)
-dialogue-grows start round slot index dialogue past =
-    dialogue-holds (λ index left now. Grows past now) (λ now. Grows past now) (record { start = start; round = round; slot = slot })
-    (record {
-      command = λ index command expect extended go_on now grown. grows-more past now _ grown;
-      result = λ index result later now grown. grows-more past now _ grown;
-      end = λ index now grown. grown;
-    })
-    index dialogue past (grows-none past)
+-- What holds of a past, and each item that a run adds keeps.
+pub record KeptByItems (Holds : List Item → Type 0) (start : Start) : Type 0 where
+  pub command : (round slot : ℕ) (command : Command) (past : List Item) → Holds past → Holds (past_behind_command start round slot command past)
+  pub event : (event : Event) (number : ℕ) (past : List Item) → Holds past → Holds (befell event number ∷ past)
+  pub result : (round slot index : ℕ) (result : OpResult) (past : List Item) → Holds past → Holds (operated round slot index result ∷ past)
+  pub end : (round : ℕ) (end : RoundEnd) (slots : ℕ) (past : List Item) → Holds past → Holds (ended round end slots ∷ past)
 
-pub listing-grows : (start : Start) (operations : OpList) (round slot rn : ℕ) (reception : Reception) (past : List Item)
-    → Grows past (past_behind_listing start operations round slot rn reception past)
-listing-grows start operations round slot rn reception past = dialogue-grows start round slot 1 (dialogue_begun operations rn reception) past
+-- ... holds behind the turns of a round, a step and a run
+module _ (Holds : List Item → Type 0) (start : Start) (kept : KeptByItems Holds start) where
+  slot-always : (operations : OpList) (round slot : ℕ) (command : Command) (past : List Item) → Holds past → Holds (past_behind_slot start operations round slot command past)
+  slot-always operations round slot command past holds =
+      answer-keeps Holds (record { start = start; round = round; slot = slot }) operations (slot_reception start round slot command past)
+      (past_behind_command start round slot command past)
+      (record { command = λ command expect extended now suits. kept.command round slot command now; result = kept.result round slot })
+      (λ rn. kept.command round slot (commands.Ack rn) (past_behind_command start round slot command past))
+      (kept.command round slot command past holds)
 
-pub ack-grows : (start : Start) (operations : OpList) (round slot rn : ℕ) (past : List Item) → Grows past (past_behind_ack start operations round slot rn past)
-ack-grows start operations round slot rn past =
-    let sent = past_behind_command start round slot (commands.Ack rn) past in
-    grows-on past sent (past_behind_ack start operations round slot rn past)
-    (grows-more past past (exchanged (next_record start round slot (commands.Ack rn) past)) (grows-none past))
-    (listing-grows start operations round slot rn (ack_reception start round slot rn past) sent)
+  turn-always : (go_on : List Outcome → List Item → List Item) (operations : OpList) (round : ℕ) (outcomes : List Outcome) (past : List Item) (next : Next)
+      → ((outcomes : List Outcome) (past : List Item) → Holds past → Holds (go_on outcomes past)) → Holds past
+      → Holds (past_behind_turn go_on start operations round outcomes past next)
+  turn-always go_on operations round outcomes past (nexts.Send command) later holds =
+      later _ _ (slot-always operations round (length outcomes + 1) command past holds)
+  turn-always go_on operations round outcomes past nexts.Quiet later holds = kept.end round round_ends.Quiet (length outcomes) past holds
+  turn-always go_on operations round outcomes past nexts.Limit later holds = kept.end round round_ends.Limit (length outcomes) past holds
 
-pub answer-grows : (start : Start) (operations : OpList) (round slot : ℕ) (reception : Reception) (past : List Item)
-    → Grows past (past_behind_answer start operations round slot reception past)
-answer-grows start operations round slot reception past =
-    answer-holds (λ now. Grows past now) (record { start = start; round = round; slot = slot }) operations reception past (grows-none past)
-    (λ rn is. ack-grows start operations round slot rn past)
+  turns-always : (left : ℕ) (operations : OpList) (round : ℕ) (spec : SpecValue) (outcomes : List Outcome) (past : List Item) → Holds past
+      → Holds (past_behind_turns left start operations round spec outcomes past)
+  turns-always zero operations round spec outcomes past holds = holds
+  turns-always (suc left) operations round spec outcomes past holds =
+      turn-always (past_behind_turns left start operations round spec) operations round outcomes past (next_command spec start.link outcomes)
+      (turns-always left operations round spec) holds
 
-pub slot-grows : (start : Start) (operations : OpList) (round slot : ℕ) (command : Command) (past : List Item)
-    → Grows past (past_behind_slot start operations round slot command past)
-slot-grows start operations round slot command past =
-    let sent = past_behind_command start round slot command past in
-    grows-on past sent (past_behind_slot start operations round slot command past)
-    (grows-more past past (exchanged (next_record start round slot command past)) (grows-none past))
-    (answer-grows start operations round slot (slot_reception start round slot command past) sent)
+  step-always : (step : Step) (past : List Item) → Holds past → Holds (past_behind_step start step past)
+  step-always (steps.Select command) past holds = kept.command 0 0 command past holds
+  step-always steps.Nak past holds = kept.command 0 0 commands.Nak past holds
+  step-always (steps.Event event number) past holds = kept.event event number past holds
+  step-always (steps.Round spec operations) past holds = turns-always (suc spec.limit) operations (rounds_in past + 1) spec [] past holds
 
--- ... in a turn, where what follows it grows
-turn-grows : (go_on : List Outcome → List Item → List Item) (start : Start) (operations : OpList) (round : ℕ) (outcomes : List Outcome) (past : List Item) (next : Next)
-    → ((outcomes : List Outcome) (past : List Item) → Grows past (go_on outcomes past))
-    → Grows past (past_behind_turn go_on start operations round outcomes past next)
-turn-grows go_on start operations round outcomes past (nexts.Send command) later =
-    let slot : ℕ = length outcomes + 1 in
-    let behind = past_behind_slot start operations round slot command past in
-    grows-on past behind _ (slot-grows start operations round slot command past) (later (outcome_of (slot_reception start round slot command past) ∷ outcomes) behind)
-turn-grows go_on start operations round outcomes past nexts.Quiet later = grows-more past past _ (grows-none past)
-turn-grows go_on start operations round outcomes past nexts.Limit later = grows-more past past _ (grows-none past)
+  pub run-always : (steps : List Step) (past : List Item) → Holds past → Holds (past_behind start steps past)
+  run-always [] past holds = holds
+  run-always (step ∷ later) past holds = run-always later (past_behind_step start step past) (step-always step past holds)
+
+-- so a past only grows
+grows-items : (start : Start) (past : List Item) → KeptByItems (Grows past) start
+grows-items start past = record {
+  command = λ round slot command now grown. grows-more past now _ grown;
+  event = λ event number now grown. grows-more past now _ grown;
+  result = λ round slot index result now grown. grows-more past now _ grown;
+  end = λ round end slots now grown. grows-more past now _ grown;
+}
 
 pub turns-grow : (left : ℕ) (start : Start) (operations : OpList) (round : ℕ) (spec : SpecValue) (outcomes : List Outcome) (past : List Item)
     → Grows past (past_behind_turns left start operations round spec outcomes past)
-turns-grow zero start operations round spec outcomes past = grows-none past
-turns-grow (suc left) start operations round spec outcomes past =
-    turn-grows (past_behind_turns left start operations round spec) start operations round outcomes past (next_command spec start.link outcomes)
-    (turns-grow left start operations round spec)
-
-pub step-grows : (start : Start) (step : Step) (past : List Item) → Grows past (past_behind_step start step past)
-step-grows start (steps.Select command) past = grows-more past past _ (grows-none past)
-step-grows start steps.Nak past = grows-more past past _ (grows-none past)
-step-grows start (steps.Event event number) past = grows-more past past _ (grows-none past)
-step-grows start (steps.Round spec operations) past = turns-grow (suc spec.limit) start operations (rounds_in past + 1) spec [] past
+turns-grow left start operations round spec outcomes past =
+    turns-always (Grows past) start (grows-items start past) left operations round spec outcomes past (grows-none past)
 
 pub steps-grow : (start : Start) (steps : List Step) (past : List Item) → Grows past (past_behind start steps past)
-steps-grow start [] past = grows-none past
-steps-grow start (step ∷ steps) past =
-    let behind = past_behind_step start step past in
-    grows-on past behind (past_behind start steps behind) (step-grows start step past) (steps-grow start steps behind)
+steps-grow start steps past = run-always (Grows past) start (grows-items start past) steps past (grows-none past)
 
 -- the lines of what was added
 abbrev pub added_lines : LinkValue → List Item → List ReportLine
@@ -318,26 +306,6 @@ pub round-holds : (During : List Outcome → List Item → Type 0) (After : List
     → RoundsKeepLimit → IsLegalSpec round.spec → RoundSteps During After round → During [] round.before → After (past_behind_played round)
 round-holds During After round keeps legal each holds =
     turns-hold During After round keeps legal each (suc round.spec.limit) (record { outcomes = []; past = round.before; are = tt; holds = holds }) (omega arith)
-
--- what holds at each moment holds behind the turns that are left, however many
-turns-always : (Holds : List Item → Type 0) (round : PlayedRound) → RoundSteps (λ outcomes past. Holds past) Holds round
-    → (left : ℕ) (here : Moment (λ outcomes past. Holds past) round)
-    → Holds (past_behind_turns left round.start round.operations (number_of round) round.spec here.outcomes here.past)
-turns-always Holds round each zero here = here.holds
-turns-always Holds round each (suc left) here =
-    turn-holds (λ outcomes past. Holds past) Holds round each here
-    (record {
-      go_on = past_behind_turns left round.start round.operations (number_of round) round.spec;
-      leads = λ outcome behind more during.
-          turns-always Holds round each left (record { outcomes = outcome ∷ here.outcomes; past = behind; are = more; holds = during });
-    })
-    (next_command round.spec round.start.link here.outcomes) refl
-
--- ... and behind a whole round, also where its limit is none
-pub always-holds : (Holds : List Item → Type 0) (round : PlayedRound) → RoundSteps (λ outcomes past. Holds past) Holds round → Holds round.before
-    → Holds (past_behind_played round)
-always-holds Holds round each holds =
-    turns-always Holds round each (suc round.spec.limit) (record { outcomes = []; past = round.before; are = tt; holds = holds })
 
 -- what each step keeps, a run keeps
 pub steps-hold : (Holds : List Item → Type 0) (Can : Step → Type 0) (start : Start)

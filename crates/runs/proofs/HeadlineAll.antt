@@ -28,7 +28,7 @@ round-of-steps : RoundsKeepLimit → (start : Start) (taken before after : List 
     → KeepsLimit (history_of start taken) (run_lines start taken) (rounds_of before + 1) spec.limit
 round-of-steps keeps start taken before after spec operations legal is =
     subst (λ (of : List Step). KeepsLimit (history_of start of) (run_lines start of) (rounds_of before + 1) spec.limit) (sym is)
-    (round-keeps keeps start before after spec operations (subst AreLegalSteps is legal))
+    (round-keeps keeps (record { start = start; before = before; after = after; spec = spec; operations = operations }) (subst AreLegalSteps is legal))
 
 -- a mode keeps the lines for the ends of rounds
 limit-kept : (mode : Mode) (start : Start) (taken : List Step) (round limit : ℕ) → KeepsLimit (history_of start taken) (run_lines start taken) round limit

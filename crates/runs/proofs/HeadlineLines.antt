@@ -1,7 +1,6 @@
 -- Which lines of a report pass a test that only lines of listed EPCs, of results and of ends of rounds may pass.
 use Rattle.std.proofs.Common.{◌≡◌, ℕ, ◌+◌, Bool, true, false, ◌&&◌, List, [], ◌∷◌, ◌++◌, length, map, filter, refl, ap, ◌∙◌, append-nil, append_assoc}
 use Rattle.std.proofs.lemmas.List.Elements.{filter-append}
-use Rattle.access_ops.specs.declared.op_next.OpResult.{OpResult}
 use Rattle.air_model.specs.Channel.{heard_levels, wave_for}
 use Rattle.air_model.specs.Past.{Start, Record, Item, exchanged, tags_behind}
 use Rattle.runs.specs.Headline.{is_round_line, is_list_line}
@@ -10,7 +9,7 @@ use Rattle.runs.specs.Said.{answer_line, exchanged_by}
 use Rattle.runs.specs.Report.{exchange_lines, list_line, item_lines, past_lines, tag_lines, last_lines}
 use Rattle.report_lines.specs.Kept.{is_plain}
 use Rattle.pie_line.specs.Link.{LinkValue}
-use Rattle.report_lines.specs.ReportLine.{ReportLine, ExchangeLine, MissedLine, GivenLine, TxLine, RxLine, ListLine, OpLine, RoundLine, SeenLine, TagLine, DoneLine}
+use Rattle.report_lines.specs.ReportLine.{ReportLine, ExchangeLine, MissedLine, GivenLine, TxLine, RxLine, ListLine, RoundLine, SeenLine, TagLine, DoneLine}
 use Rattle.report_lines.specs.SeenCounts.{SeenCount, seen_counts}
 use Rattle.tag_machine.specs.TagValue.{TagValue}
 
@@ -96,18 +95,13 @@ sent-adds-none test few fails link sent past =
     ∙ ap (λ (lines : List ReportLine). filter test (past_lines link past) ++ lines) (no-listed test fails (listed_by sent))
     ∙ append-nil (filter test (past_lines link past))
 
--- an event has no line
-pub befell-passes : (test : ReportLine → Bool) (link : LinkValue) (past : List Item)
-    → filter test (past_lines link past ++ []) ≡ filter test (past_lines link past)
-befell-passes test link past = ap (λ (lines : List ReportLine). filter test lines) (append-nil (past_lines link past))
-
--- where the line of a result does not pass, the result adds nothing
-pub operated-passes : (test : ReportLine → Bool) (link : LinkValue) (round slot index : ℕ) (result : OpResult) (past : List Item)
-    → test (OpLine round slot index result) ≡ false
-    → filter test (past_lines link past ++ OpLine round slot index result ∷ []) ≡ filter test (past_lines link past)
-operated-passes test link round slot index result past fails =
-    filter-append test (past_lines link past) (OpLine round slot index result ∷ [])
-    ∙ rw fails (append-nil (filter test (past_lines link past)))
+-- an item whose lines don't pass adds none
+pub item-passes : (test : ReportLine → Bool) (link : LinkValue) (item : Item) (past : List Item) → filter test (item_lines link item) ≡ []
+    → filter test (past_lines link (item ∷ past)) ≡ filter test (past_lines link past)
+item-passes test link item past none =
+    filter-append test (past_lines link past) (item_lines link item)
+    ∙ ap (λ (lines : List ReportLine). filter test (past_lines link past) ++ lines) none
+    ∙ append-nil (filter test (past_lines link past))
 
 no-last : (test : ReportLine → Bool) → PassesFew test → (seen : List SeenCount) (number : ℕ) (tags : List TagValue)
     → filter test (map (λ seen. SeenLine seen.count seen.pc seen.epc) seen ++ tag_lines number tags ++ DoneLine ∷ []) ≡ []

@@ -1,32 +1,31 @@
 -- What came whole is listed once: the rounds and slots of ACKs rise along a history, so that each list line has its own.
-use Rattle.std.proofs.Common.{◌≡◌, ℕ, ◌+◌, ◌<◌, ◌==◌, ◌&&◌, Bool, true, false, ◌⊎◌, inl, inr, List, [], ◌∷◌, ◌++◌, length, map, filter, if◌then◌else◌, refl, ap, sym, ◌∙◌, subst, append-nil, arith, add-one, ne_eqb, eq-eqb}
-use Rattle.std.proofs.lemmas.List.Elements.{filter-append}
+use Rattle.std.proofs.Common.{◌≡◌, ℕ, suc, ◌+◌, ◌<◌, ◌==◌, ◌&&◌, Bool, true, false, ◌⊎◌, inl, inr, List, [], ◌∷◌, ◌++◌, length, map, filter, if◌then◌else◌, refl, ap, sym, ◌∙◌, subst, append-nil, arith, ne_eqb, eq-eqb}
 use Rattle.access_ops.specs.laws.OperationLaws.{Expects}
 use Rattle.access_ops.specs.declared.OpList.{OpList}
 use Rattle.air_model.specs.Channel.{Given, whole}
 use Rattle.tag_machine.specs.Exchange.{Replied}
-use Rattle.air_model.specs.Past.{Start, Record, Item, befell, exchanged, operated, ended, next_record, rounds_in}
+use Rattle.air_model.specs.Past.{Start, Record, Item, exchanged, past_behind_command, rounds_in}
 use Rattle.air_model.specs.Reception.{has_handle, is_expected, reception_of}
 use Rattle.reply_grammar.specs.Reception.{Reception, no_stream, whole_reply, no_such_reply}
 use Rattle.runs.specs.Headline.{IsSelect, IsLegalStep, AreLegalSteps, IsRecordOf, Acknowledges, IsGivenWhole, is_list_line, begins_slot}
-use Rattle.runs.specs.History.{past_behind_answer, slot_reception, past_behind_slot, past_behind_round, past_behind_step, history_of}
+use Rattle.runs.specs.History.{past_behind_round, past_behind_step, history_of}
 use Rattle.runs.specs.Listing.{Listed, reception_of_ack, listed_from, listed_by}
 use Rattle.runs.specs.Report.{list_line, past_lines, run_lines}
-use Rattle.runs.proofs.Growth.{RoundsKeepLimit, answer-holds, ack-keeps, round-holds, steps-hold}
-use Rattle.runs.proofs.PlayedRounds.{SlotOfRun}
-use Rattle.runs.proofs.HeadlineLines.{list-lines-pass, sent-passes, befell-passes, operated-passes, run-passes, and-false}
-use Rattle.runs.proofs.HeadlineSlots.{next-begins, slot-rounds}
+use Rattle.runs.proofs.Growth.{RoundsKeepLimit, steps-hold}
+use Rattle.runs.proofs.Records.{AllRecords, records-at, records-behind, records-weaker}
+use Rattle.runs.proofs.Turns.{round-holds}
+use Rattle.runs.proofs.HeadlineLines.{list-lines-pass, sent-passes, item-passes, run-passes, and-false}
+use Rattle.runs.proofs.HeadlineSlots.{next-begins}
 use Rattle.command_grammar.specs.declared.commands.Command.{Command}
 use Rattle.command_grammar.specs.declared.commands.Command.TheVariants as commands
 use Rattle.pie_line.specs.Link.{LinkValue}
 use Rattle.q_round.specs.SpecValue.{SpecValue, IsLegalSpec}
-use Rattle.q_round.specs.declared.round.RoundEnd.{RoundEnd}
 use Rattle.reply_grammar.specs.Table.{handle_of, suits}
 use Rattle.reply_grammar.specs.declared.expected.Expect.{Expect}
 use Rattle.reply_grammar.specs.declared.expected.Expect.TheVariants as expects
 use Rattle.reply_grammar.specs.declared.expected.Reply.{Reply}
 use Rattle.reply_grammar.specs.declared.expected.Reply.TheVariants as replies
-use Rattle.report_lines.specs.ReportLine.{ReportLine, ListLine, RoundLine}
+use Rattle.report_lines.specs.ReportLine.{ReportLine, ListLine}
 use Rattle.scenario.specs.declared.values.Step.{Step}
 use Rattle.scenario.specs.declared.values.Step.TheVariants as steps
 
@@ -78,70 +77,39 @@ not-itself a b c d same_round same_slot (inr less) = absurd (omega (arith, less.
 
 -- the ACKs of a past come before a round and slot
 abbrev pub AcksBefore : ℕ → ℕ → List Item → Type 0
-AcksBefore round slot [] = Unit {0}
-AcksBefore round slot (befell event number ∷ past) = AcksBefore round slot past
-AcksBefore round slot (exchanged sent ∷ past) = (is_ack sent.command ≡ true → IsEarlier sent.round sent.slot round slot) × AcksBefore round slot past
-AcksBefore round slot (operated number place index result ∷ past) = AcksBefore round slot past
-AcksBefore round slot (ended number end slots ∷ past) = AcksBefore round slot past
+AcksBefore round slot past = AllRecords (λ sent earlier. is_ack sent.command ≡ true → IsEarlier sent.round sent.slot round slot) past
 
 -- the rounds and slots of the ACKs of a past rise
 abbrev pub AcksRise : List Item → Type 0
-AcksRise [] = Unit {0}
-AcksRise (befell event number ∷ past) = AcksRise past
-AcksRise (exchanged sent ∷ past) = (is_ack sent.command ≡ true → AcksBefore sent.round sent.slot past) × AcksRise past
-AcksRise (operated number place index result ∷ past) = AcksRise past
-AcksRise (ended number end slots ∷ past) = AcksRise past
+AcksRise past = AllRecords (λ sent earlier. is_ack sent.command ≡ true → AcksBefore sent.round sent.slot earlier) past
 
 before-on : (round slot later_round later_slot : ℕ) (past : List Item) → IsEarlier round slot later_round later_slot
     → AcksBefore round slot past → AcksBefore later_round later_slot past
-before-on round slot later_round later_slot [] less before = tt
-before-on round slot later_round later_slot (befell event number ∷ past) less before = before-on round slot later_round later_slot past less before
-before-on round slot later_round later_slot (exchanged sent ∷ past) less before =
-    (λ ack. earlier-on sent.round sent.slot round slot later_round later_slot (before.0 ack) less, before-on round slot later_round later_slot past less before.1)
-before-on round slot later_round later_slot (operated number place index result ∷ past) less before =
-    before-on round slot later_round later_slot past less before
-before-on round slot later_round later_slot (ended number end slots ∷ past) less before = before-on round slot later_round later_slot past less before
+before-on round slot later_round later_slot past less =
+    records-weaker (λ sent earlier. is_ack sent.command ≡ true → IsEarlier sent.round sent.slot round slot)
+    (λ sent earlier. is_ack sent.command ≡ true → IsEarlier sent.round sent.slot later_round later_slot) past
+    (λ sent earlier before ack. earlier-on sent.round sent.slot round slot later_round later_slot (before ack) less)
 
--- the ACKs of a past rise, and come before a round and slot
-record Rise (round slot : ℕ) (past : List Item) : Type 0 where
+-- within a round: the ACKs of a past rise, and come before the next slot
+record RiseIn (round slot : ℕ) (past : List Item) : Type 0 where
+  pub rounds : rounds_in past + 1 ≡ round
   pub before : AcksBefore round slot past
   pub rise : AcksRise past
 
 -- a record with another command changes nothing
-rise-other : (round slot : ℕ) (sent : Record) (past : List Item) → is_ack sent.command ≡ false → Rise round slot past → Rise round slot (exchanged sent ∷ past)
+rise-other : (round slot : ℕ) (sent : Record) (past : List Item) → is_ack sent.command ≡ false → RiseIn round slot past → RiseIn round slot (exchanged sent ∷ past)
 rise-other round slot sent past other holds = record {
+  rounds = holds.rounds;
   before = (λ ack. absurd (cc), holds.before);
   rise = (λ ack. absurd (cc), holds.rise);
 }
 
-rise-more : (round slot : ℕ) (past : List Item) → Rise round slot past → Rise round (slot + 1) past
-rise-more round slot past holds = record {
-  before = before-on round slot round (slot + 1) past (inr (refl, omega arith)) holds.before;
+rise-later : (round slot later : ℕ) (past : List Item) → slot < later → RiseIn round slot past → RiseIn round later past
+rise-later round slot later past less holds = record {
+  rounds = holds.rounds;
+  before = before-on round slot round later past (inr (refl, less)) holds.before;
   rise = holds.rise;
 }
-
--- an ACK may come at that round and slot, and later ones behind it
-rise-answer : (start : Start) (operations : OpList) (round slot : ℕ) (reception : Reception) (past : List Item) → Rise round slot past
-    → Rise round (slot + 1) (past_behind_answer start operations round slot reception past)
-rise-answer start operations round slot reception past holds =
-    let at : SlotOfRun = record { start = start; round = round; slot = slot } in
-    let more : Rise round (slot + 1) past = rise-more round slot past holds in
-    answer-holds (Rise round (slot + 1)) at operations reception past more
-    (λ rn is. ack-keeps (Rise round (slot + 1)) at operations rn past
-    (record {
-      command = λ command expect extended now suits rises.
-          rise-other round (slot + 1) (next_record start round slot command now) now (expects-no-ack command expect extended suits) rises;
-      result = λ index result now rises. record { before = rises.before; rise = rises.rise };
-    })
-    (record {
-      before = (λ ack. inr (refl, omega arith), more.before);
-      rise = (λ ack. holds.before, holds.rise);
-    }))
-
--- within a round: its ACKs come before its next slot
-record RiseIn (round slot : ℕ) (past : List Item) : Type 0 where
-  pub rounds : rounds_in past + 1 ≡ round
-  pub rise : Rise round slot past
 
 -- between steps: they come before the next round
 abbrev pub AcksRiseBefore : List Item → Type 0
@@ -151,24 +119,23 @@ round-rise : RoundsKeepLimit → (start : Start) (operations : OpList) (spec : S
     → AcksRiseBefore (past_behind_round start operations spec past)
 round-rise keeps start operations spec past legal holds =
     let round : ℕ = rounds_in past + 1 in
-    round-holds (λ outcomes now. RiseIn round (length outcomes + 1) now) AcksRiseBefore
+    round-holds (λ outcomes now. RiseIn round (length outcomes + 1) now) (λ outcomes sent now. RiseIn round (length outcomes + 1) (exchanged sent ∷ now)) AcksRiseBefore
     (record { start = start; operations = operations; spec = spec; before = past }) keeps legal
     (record {
       slot = λ outcomes now command next inside.
-          let slot : ℕ = length outcomes + 1 in
-          let sent = next_record start round slot command now in
-          let other : is_ack command ≡ false = slot-no-ack command (next-begins spec start.link outcomes command next.is) in
-          let count : rounds_in (past_behind_slot start operations round slot command now) ≡ rounds_in now = slot-rounds start operations round slot command now in
-          record {
-            rounds = ap (λ n. n + 1) count ∙ inside.rounds;
-            rise = subst (λ n. Rise round (n + 1) (past_behind_slot start operations round slot command now)) (add-one (length outcomes))
-                (rise-answer start operations round slot (slot_reception start round slot command now) (exchanged sent ∷ now) (rise-other round slot sent now other inside.rise));
-          };
+          rise-other round (length outcomes + 1) _ now (slot-no-ack command (next-begins spec start.link outcomes command next.is)) inside;
+      no_answer = λ outcomes now command reception heard none inside. rise-later round (length outcomes + 1) (suc (length outcomes) + 1) _ (omega arith) inside;
+      ack = λ outcomes now command rn heard inside.
+          let more = rise-later round (length outcomes + 1) (suc (length outcomes) + 1) (past_behind_command start round (length outcomes + 1) command now) (omega arith) inside in
+          record { rounds = more.rounds; before = (λ ack. inr (refl, omega arith), more.before); rise = (λ ack. inside.before, more.rise) };
+      operation = λ some outcomes now command expect extended suits inside.
+          rise-other round (suc (length outcomes) + 1) _ now (expects-no-ack command expect extended suits) inside;
+      result = λ some outcomes now index result inside. record { rounds = inside.rounds; before = inside.before; rise = inside.rise };
       end = λ outcomes now end next inside.
           let last : rounds_in now + 1 ≡ round = inside.rounds in
-          (inside.rise.rise, before-on round (length outcomes + 1) (rounds_in now + 1 + 1) 1 now (inl (omega arith)) inside.rise.before);
+          (inside.rise, before-on round (length outcomes + 1) (rounds_in now + 1 + 1) 1 now (inl (omega arith)) inside.before);
     })
-    (record { rounds = refl; rise = record { before = holds.1; rise = holds.0 } })
+    (record { rounds = refl; before = holds.1; rise = holds.0 })
 
 step-rise : RoundsKeepLimit → (start : Start) (step : Step) (past : List Item) → IsLegalStep step → AcksRiseBefore past → AcksRiseBefore (past_behind_step start step past)
 step-rise keeps start (steps.Select command) past legal holds =
@@ -183,29 +150,15 @@ pub history-rises : RoundsKeepLimit → (start : Start) (steps : List Step) → 
 history-rises keeps start steps legal =
     (steps-hold AcksRiseBefore IsLegalStep start (step-rise keeps start) steps [] legal (tt, tt)).0
 
-pub rise-split : (item : Item) (past : List Item) → AcksRise (item ∷ past) → AcksRise past
-rise-split (befell event number) past rise = rise
-rise-split (exchanged sent) past rise = rise.1
-rise-split (operated number place index result) past rise = rise
-rise-split (ended number end slots) past rise = rise
-
+-- an ACK of a past that comes before a round and slot
 before-at : (round slot : ℕ) (later : List Item) (sent : Record) (earlier : List Item) → AcksBefore round slot (later ++ exchanged sent ∷ earlier)
     → is_ack sent.command ≡ true → IsEarlier sent.round sent.slot round slot
-before-at round slot [] sent earlier before ack = before.0 ack
-before-at round slot (befell event number ∷ later) sent earlier before ack = before-at round slot later sent earlier before ack
-before-at round slot (exchanged other ∷ later) sent earlier before ack = before-at round slot later sent earlier before.1 ack
-before-at round slot (operated number place index result ∷ later) sent earlier before ack = before-at round slot later sent earlier before ack
-before-at round slot (ended number end slots ∷ later) sent earlier before ack = before-at round slot later sent earlier before ack
+before-at round slot later sent earlier =
+    records-at (λ sent earlier. is_ack sent.command ≡ true → IsEarlier sent.round sent.slot round slot) later sent earlier
 
 -- the list lines of a round and slot among the lines of a past
 abbrev pub list_lines : LinkValue → ℕ → ℕ → List Item → List ReportLine
 list_lines link round slot past = filter (is_list_line round slot) (past_lines link past)
-
-no-end-line : (link : LinkValue) (round slot number : ℕ) (end : RoundEnd) (slots : ℕ) (past : List Item)
-    → list_lines link round slot (ended number end slots ∷ past) ≡ list_lines link round slot past
-no-end-line link round slot number end slots past =
-    filter-append (is_list_line round slot) (past_lines link past) (RoundLine number end slots ∷ [])
-    ∙ append-nil (list_lines link round slot past)
 
 -- no other command than an ACK lists anything
 lists-none : (sent : Record) (command : Command) → is_ack command ≡ false → listed_from sent (reception_of_ack sent command) ≡ []
@@ -244,29 +197,21 @@ passes-record link round slot sent past other =
 -- where all ACKs come before a round and slot, nothing is listed there
 none-before : (link : LinkValue) (round slot : ℕ) (past : List Item) → AcksBefore round slot past → list_lines link round slot past ≡ []
 none-before link round slot [] before = refl
-none-before link round slot (befell event number ∷ past) before = befell-passes (is_list_line round slot) link past ∙ none-before link round slot past before
 none-before link round slot (exchanged sent ∷ past) before =
     passes-record link round slot sent past (λ ack. other-place sent.round sent.slot round slot (before.0 ack))
     ∙ none-before link round slot past before.1
-none-before link round slot (operated number place index result ∷ past) before =
-    operated-passes (is_list_line round slot) link number place index result past refl ∙ none-before link round slot past before
-none-before link round slot (ended number end slots ∷ past) before = no-end-line link round slot number end slots past ∙ none-before link round slot past before
+none-before link round slot (item ∷ past) before = item-passes (is_list_line round slot) link item past refl ∙ none-before link round slot past before
 
 -- what follows an ACK lists nothing in its round and slot
 none-after : (link : LinkValue) (later : List Item) (sent : Record) (earlier : List Item) → AcksRise (later ++ exchanged sent ∷ earlier) → is_ack sent.command ≡ true
     → list_lines link sent.round sent.slot (later ++ exchanged sent ∷ earlier) ≡ list_lines link sent.round sent.slot (exchanged sent ∷ earlier)
 none-after link [] sent earlier rise ack = refl
-none-after link (befell event number ∷ later) sent earlier rise ack =
-    befell-passes (is_list_line sent.round sent.slot) link (later ++ exchanged sent ∷ earlier) ∙ none-after link later sent earlier rise ack
 none-after link (exchanged other ∷ later) sent earlier rise ack =
     passes-record link sent.round sent.slot other (later ++ exchanged sent ∷ earlier)
     (λ its. later-place other.round other.slot sent.round sent.slot (before-at other.round other.slot later sent earlier (rise.0 its) ack))
     ∙ none-after link later sent earlier rise.1 ack
-none-after link (operated number place index result ∷ later) sent earlier rise ack =
-    operated-passes (is_list_line sent.round sent.slot) link number place index result (later ++ exchanged sent ∷ earlier) refl
-    ∙ none-after link later sent earlier rise ack
-none-after link (ended number end slots ∷ later) sent earlier rise ack =
-    no-end-line link sent.round sent.slot number end slots (later ++ exchanged sent ∷ earlier) ∙ none-after link later sent earlier rise ack
+none-after link (item ∷ later) sent earlier rise ack =
+    item-passes (is_list_line sent.round sent.slot) link item (later ++ exchanged sent ∷ earlier) refl ∙ none-after link later sent earlier rise ack
 
 -- an EPC is expected
 epc-expected : (reply : Reply) (handle pc : ℕ) (epc : List ℕ) → reply ≡ replies.Epc pc epc
@@ -309,17 +254,13 @@ listed-at link later sent earlier listed tells rise before =
     (none-before link sent.round sent.slot earlier before)
     ∙ ap (λ (lines : List ReportLine). filter (is_list_line sent.round sent.slot) lines) (own-listed sent listed tells)
 
-rise-tail : (later past : List Item) → AcksRise (later ++ past) → AcksRise past
-rise-tail [] past rise = rise
-rise-tail (item ∷ later) past rise = rise-tail later past (rise-split item (later ++ past) rise)
-
 pub listed-once : RoundsKeepLimit → (start : Start) (steps : List Step) (listed : Listed) → AreLegalSteps steps → IsTold (history_of start steps) listed
     → filter (is_list_line listed.round listed.slot) (run_lines start steps) ≡ list_line listed ∷ []
 listed-once keeps start steps listed legal told =
     let history = history_of start steps in
     let sent = told.sent in
     let rise : AcksRise (told.recorded.later ++ exchanged sent ∷ told.earlier) = subst AcksRise told.recorded.is (history-rises keeps start steps legal) in
-    let own : AcksRise (exchanged sent ∷ told.earlier) = rise-tail told.recorded.later (exchanged sent ∷ told.earlier) rise in
+    let own : AcksRise (exchanged sent ∷ told.earlier) = records-behind (λ sent earlier. is_ack sent.command ≡ true → AcksBefore sent.round sent.slot earlier) told.recorded.later (exchanged sent ∷ told.earlier) rise in
     ap (λ (round : ℕ). filter (is_list_line round listed.slot) (run_lines start steps)) (sym told.tells.round_is)
     ∙ ap (λ (slot : ℕ). filter (is_list_line sent.round slot) (run_lines start steps)) (sym told.tells.slot_is)
     ∙ run-passes (is_list_line sent.round sent.slot) (list-lines-pass sent.round sent.slot) start history
@@ -355,7 +296,7 @@ same-record (item ∷ left_later) left left_earlier [] right right_earlier same 
 same-record (item ∷ left_later) left left_earlier (other ∷ right_later) right right_earlier same rise here =
     let tails : left_later ++ exchanged left ∷ left_earlier ≡ right_later ++ exchanged right ∷ right_earlier = cc in
     same-record left_later left left_earlier right_later right right_earlier tails
-    (rise-split item (left_later ++ exchanged left ∷ left_earlier) rise) here
+    (records-behind (λ sent earlier. is_ack sent.command ≡ true → AcksBefore sent.round sent.slot earlier) (item ∷ []) (left_later ++ exchanged left ∷ left_earlier) rise) here
 
 -- a record of a history sends an ACK in this round and slot
 pub record IsAckAt (history : List Item) (round slot : ℕ) : Type 0 where

@@ -6,12 +6,14 @@ use Rattle.access_ops.specs.Operations.{Dialogue, sends, tells, done}
 use Rattle.access_ops.specs.declared.OpList.{OpList}
 use Rattle.air_model.specs.Past.{Start, Record, Item, exchanged, operated, ended, next_record, past_behind_command, rounds_in}
 use Rattle.reply_grammar.specs.Reception.{Reception}
-use Rattle.runs.specs.Headline.{IsSelect, IsLegalStep, AreLegalSteps, begins_slot, begins_slot_of, slot_records}
+use Rattle.runs.specs.Headline.{IsSelect, IsLegalStep, AreLegalSteps, begins_slot, begins_slot_of, slot_records, rounds_of}
 use Rattle.runs.specs.History.{outcome_of, operation_reception, past_behind_dialogue, dialogue_begun, ack_reception, past_behind_ack, past_behind_answer, slot_reception, past_behind_round, past_behind_step, past_behind, history_of}
 use Rattle.runs.specs.NextItem.{finished_in, reception_of_slot, outcomes_of_round, rn_of, rn_received, item_by_rule, dialogue_behind_record, dialogue_behind_result, dialogue_behind_exchange, dialogue_left, results_behind_exchange, results_told_in, item_of_slots, item_in_round, item_of_step, next_item, GrowsByNext}
 use Rattle.runs.proofs.Growth.{RoundsKeepLimit, dialogue-holds, begun-awaits, answer-cases, next_at_end, round-holds}
 use Rattle.runs.proofs.HeadlineLines.{and-true}
-use Rattle.runs.proofs.HeadlineSlots.{Fresh, step-fresh, first-fresh, next-begins, expects-begins-none}
+use Rattle.runs.proofs.HeadlineSlots.{no-slots, next-begins, expects-begins-none}
+use Rattle.runs.proofs.OtherRounds.{Adds, adds-none, adds-on, step-adds}
+use Rattle.runs.proofs.RoundsAmong.{none-of-later}
 use Rattle.command_grammar.specs.declared.commands.Command.{Command}
 use Rattle.command_grammar.specs.declared.commands.Command.TheVariants as commands
 use Rattle.q_round.specs.SpecValue.{SpecValue, IsLegalSpec}
@@ -218,7 +220,8 @@ record Between (start : Start) (all : List Step) (finished : ℕ) (past : List I
   pub finished_is : finished_in past ≡ finished
   pub received_is : rn_received past ≡ None
   pub over : (operations : OpList) → dialogue_left start operations past ≡ done
-  pub fresh : Fresh start.link past
+  pub rounds : ℕ
+  pub added : Adds [] past rounds
 
 -- what a round leaves
 record Behind (start : Start) (all : List Step) (finished : ℕ) (past : List Item) : Type 0 where
@@ -265,7 +268,8 @@ round-grows keeps start all finished past spec operations legal (at, between) =
       grows = between.grows;
       finished_is = between.finished_is;
       rounds_are = refl;
-      outcomes_are = ap (λ (sents : List Record). map (λ sent. outcome_of (reception_of_slot sent)) sents) (between.fresh (rounds + 1) (omega arith)).slots;
+      outcomes_are = ap (λ (sents : List Record). map (λ sent. outcome_of (reception_of_slot sent)) sents)
+          (no-slots (rounds + 1) past (none-of-later past between.rounds (rounds + 1) between.added (omega (arith, between.added.rounds_are))));
       received_is = between.received_is;
       left_is = between.over operations;
     })
@@ -338,13 +342,14 @@ steps-grow-by-next keeps start all (step ∷ left) finished past legal at betwee
       finished_is = behind.finished_is;
       received_is = behind.received_is;
       over = behind.over;
-      fresh = step-fresh keeps start step past legal.0 between.fresh;
+      rounds = between.rounds + rounds_of (step ∷ []);
+      added = adds-on [] past now between.rounds (rounds_of (step ∷ [])) between.added (step-adds keeps start step past legal.0);
     })
 
 history-ends : RoundsKeepLimit → (start : Start) (all : List Step) → AreLegalSteps all → Ends start all (history_of start all)
 history-ends keeps start all legal =
     steps-grow-by-next keeps start all all 0 [] legal (λ place more is. ap (λ n. slice_get all n) (is ∙ omega arith))
-    (record { grows = tt; finished_is = refl; received_is = refl; over = λ operations. refl; fresh = first-fresh start.link })
+    (record { grows = tt; finished_is = refl; received_is = refl; over = λ operations. refl; rounds = 0; added = adds-none [] })
 
 pub history-grows : RoundsKeepLimit → (start : Start) (all : List Step) → AreLegalSteps all → GrowsByNext start all (history_of start all)
 history-grows keeps start all legal = (history-ends keeps start all legal).grows

@@ -1,16 +1,16 @@
 -- The lines for the results of operations in a report are those of its history.
-use Rattle.std.proofs.Common.{◌≡◌, List, [], ◌∷◌, ◌++◌, filter, refl, ap, ◌∙◌, append-nil}
+use Rattle.std.proofs.Common.{◌≡◌, List, [], ◌∷◌, ◌++◌, filter, refl, ap, ◌∙◌}
 use Rattle.std.proofs.lemmas.List.Elements.{filter-append}
-use Rattle.air_model.specs.Past.{Start, Item, befell, exchanged, operated, ended}
+use Rattle.air_model.specs.Past.{Start, Item, exchanged, operated}
 use Rattle.runs.specs.Headline.{is_op_line, op_lines}
 use Rattle.runs.specs.History.{history_of}
 use Rattle.runs.specs.Report.{past_lines, last_lines, run_lines, report_of}
 use Rattle.report_lines.specs.declared.mode.Mode.{Mode}
 use Rattle.runs.proofs.HeadlineKept.{kept-pass}
 use Rattle.scenario.specs.declared.values.Step.{Step}
-use Rattle.runs.proofs.HeadlineLines.{PassesNoTrace, PassesFew, sent-adds-none, befell-passes, run-passes}
+use Rattle.runs.proofs.HeadlineLines.{PassesNoTrace, PassesFew, sent-adds-none, item-passes, run-passes}
 use Rattle.pie_line.specs.Link.{LinkValue}
-use Rattle.report_lines.specs.ReportLine.{ReportLine, OpLine, RoundLine}
+use Rattle.report_lines.specs.ReportLine.{ReportLine, OpLine}
 
 op-no-trace : PassesNoTrace is_op_line
 op-no-trace (OpLine round slot index result) is = absurd (cc)
@@ -26,14 +26,11 @@ op-lines-pass = record {
 
 past-tells : (link : LinkValue) (past : List Item) → filter is_op_line (past_lines link past) ≡ op_lines past
 past-tells link [] = refl
-past-tells link (befell event number ∷ past) = befell-passes is_op_line link past ∙ past-tells link past
 past-tells link (exchanged sent ∷ past) = sent-adds-none is_op_line op-lines-pass (λ listed. refl) link sent past ∙ past-tells link past
 past-tells link (operated round slot index result ∷ past) =
     filter-append is_op_line (past_lines link past) (OpLine round slot index result ∷ [])
     ∙ ap (λ (lines : List ReportLine). lines ++ OpLine round slot index result ∷ []) (past-tells link past)
-past-tells link (ended round end slots ∷ past) =
-    filter-append is_op_line (past_lines link past) (RoundLine round end slots ∷ [])
-    ∙ append-nil (filter is_op_line (past_lines link past)) ∙ past-tells link past
+past-tells link (item ∷ past) = item-passes is_op_line link item past refl ∙ past-tells link past
 
 -- behind the steps no result is told
 run-tells : (start : Start) (past : List Item)

@@ -1,9 +1,9 @@
 -- Each list line is what a present tag sent, where no raw stream is given: from what the channel gave to a reply, and from the
 -- reply to the tag with its number.
 use Rattle.std.proofs.Common.{◌≡◌, ℕ, zero, suc, ◌+◌, Bool, true, false, inl, inr, List, [], ◌∷◌, Contains, Option, Some, None, slice_get, if◌then◌else◌, refl, ap, sym, ◌∙◌, subst, arith}
-use Rattle.tag_machine.specs.Exchange.{replies_in, Replied, reply_of, replies_from, is_missed, outcome_unless, outcome_in, outcomes_from, tag_after_events}
+use Rattle.tag_machine.specs.Exchange.{replies_in, Replied, is_missed, outcome_unless, tag_after_events}
 use Rattle.air_model.specs.Channel.{given_in, Given, silence, whole, broken, raw, whole_or_silence, first_broken, default_given, given_of, IsOfReplies}
-use Rattle.air_model.specs.Past.{Start, Record, Item, tag_behind, tags_behind, tags_behind_from, next_entry, next_record, is_hearer, hearers_of}
+use Rattle.air_model.specs.Past.{Start, Record, Item, tag_behind, tags_behind, next_entry, next_record, hearers_of}
 use Rattle.air_model.specs.Reception.{is_expected, reception_of}
 use Rattle.reply_grammar.specs.Reception.{whole_reply, no_such_reply}
 use Rattle.air_events.specs.declared.Choice.{Choice}
@@ -15,10 +15,11 @@ use Rattle.runs.specs.Headline.{AreLegalSteps, Acknowledges, tag_in_exchange, Is
 use Rattle.runs.specs.History.{history_of}
 use Rattle.runs.specs.Listing.{Listed}
 use Rattle.runs.proofs.Growth.{RoundsKeepLimit}
-use Rattle.runs.proofs.Among.{Among, among-split, contains-of}
+use Rattle.runs.proofs.Among.{Among, contains-of}
 use Rattle.runs.proofs.HeadlineListed.{IsTold}
 use Rattle.runs.proofs.HeadlineTold.{told-ack}
 use Rattle.runs.proofs.MadeRecords.{made-record, none-given}
+use Rattle.runs.proofs.Population.{answerer}
 use Rattle.command_grammar.specs.declared.commands.Command.{Command}
 use Rattle.command_grammar.specs.declared.commands.Command.TheVariants as commands
 use Rattle.pie_line.specs.Link.{LinkValue}
@@ -58,67 +59,6 @@ given-among link replies (Some choices.Silent) several replied given = absurd (c
 given-among link replies (Some (choices.Break place)) several replied given = first-broken replies place replied given
 given-among link replies (Some (choices.Raw levels)) several replied given = absurd (cc)
 given-among link replies None several replied given = by-default several replies replied given
-
--- the tag with the number in a reply, among tags that are numbered from a number on
-record Answerer (number : ℕ) (command : Command) (entry : Entry) (past : List Item) (starts : List TagValue) (replied : Replied) : Type 0 where
-  pub tag : TagValue
-  pub place : ℕ
-  pub numbered : slice_get starts place ≡ Some tag
-  pub number_is : replied.number ≡ number + place
-  pub answered : (outcome_in replied.number command entry (tag_behind replied.number tag past)).answer ≡ Some replied.sent
-  pub heard : is_hearer replied.number entry (tag_behind replied.number tag past) ≡ true
-      → Among replied.number (hearers_of number entry (tags_behind_from number starts past))
-
-reply-number : (number : ℕ) (answer : Option Sent) (replied : Replied) → Among replied (reply_of number answer)
-    → (replied.number ≡ number) × (answer ≡ Some replied.sent)
-reply-number number None replied among = absurd among
-reply-number number (Some sent) replied (inl is) = (ap (λ (r : Replied). r.number) (sym is), ap (λ (r : Replied). Some r.sent) is)
-reply-number number (Some sent) replied (inr none) = absurd none
-
-hearer-here : (number : ℕ) (hears : Bool) (others : List ℕ) → hears ≡ true → Among number (if hears then number ∷ others else others)
-hearer-here number true others is = inl refl
-hearer-here number false others is = absurd (cc)
-
-hearer-later : (hearer number : ℕ) (hears : Bool) (others : List ℕ) → Among hearer others → Among hearer (if hears then number ∷ others else others)
-hearer-later hearer number true others among = inr among
-hearer-later hearer number false others among = among
-
-answerer-here : (number : ℕ) (command : Command) (entry : Entry) (past : List Item) (start : TagValue) (starts : List TagValue) (replied : Replied)
-    → Among replied (reply_of number (outcome_in number command entry (tag_behind number start past)).answer)
-    → Answerer number command entry past (start ∷ starts) replied
-answerer-here number command entry past start starts replied among =
-    let (same, is) = reply-number number (outcome_in number command entry (tag_behind number start past)).answer replied among in
-    record {
-      tag = start;
-      place = 0;
-      numbered = refl;
-      number_is = same ∙ omega arith;
-      answered = subst (λ n. (outcome_in n command entry (tag_behind n start past)).answer ≡ Some replied.sent) (sym same) is;
-      heard = λ hears. subst (λ n. Among n (hearers_of number entry (tags_behind_from number (start ∷ starts) past))) (sym same)
-          (hearer-here number (is_hearer number entry (tag_behind number start past)) (hearers_of (number + 1) entry (tags_behind_from (number + 1) starts past))
-          (subst (λ n. is_hearer n entry (tag_behind n start past) ≡ true) same hears));
-    }
-
-answerer : (number : ℕ) (command : Command) (entry : Entry) (past : List Item) (starts : List TagValue) (replied : Replied)
-    → Among replied (replies_from number (outcomes_from number command entry (tags_behind_from number starts past)))
-    → Answerer number command entry past starts replied
-answerer number command entry past [] replied among = absurd among
-answerer number command entry past (start ∷ starts) replied among =
-    elim (among-split replied (reply_of number (outcome_in number command entry (tag_behind number start past)).answer)
-    (replies_from (number + 1) (outcomes_from (number + 1) command entry (tags_behind_from (number + 1) starts past))) among) [
-      | inl found ↦ answerer-here number command entry past start starts replied found
-      | inr found ↦
-          let rest = answerer (number + 1) command entry past starts replied found in
-          record {
-            tag = rest.tag;
-            place = suc rest.place;
-            numbered = rest.numbered;
-            number_is = rest.number_is ∙ omega arith;
-            answered = rest.answered;
-            heard = λ hears. hearer-later replied.number number (is_hearer number entry (tag_behind number start past))
-                (hearers_of (number + 1) entry (tags_behind_from (number + 1) starts past)) (rest.heard hears);
-          }
-    ]
 
 -- what a tag becomes by a command that it didn't miss
 record Hears (missed : Bool) (command : Command) (tag : TagValue) (sent : Sent) : Type 0 where

@@ -20,7 +20,7 @@ use Rattle.runs.specs.Listed.{sender_where, sender_listed_by, listed_as}
 use Rattle.runs.specs.TagInRound.{slot_answer_of, is_acknowledged_by}
 use Rattle.runs.proofs.Among.{Among, contains-of}
 use Rattle.runs.proofs.HeadlineSent.{whole-reply}
-use Rattle.runs.proofs.Population.{answer_behind, reply_by, replies_behind, answer-replied, IsAnswerer, replied-answerer}
+use Rattle.runs.proofs.Population.{answer_behind, reply_by, replies_behind, answer-replied, Answerer, answerer}
 use Rattle.q_round.specs.declared.frame.Outcome.TheVariants as outcomes
 use Rattle.reply_grammar.specs.declared.expected.Expect.TheVariants as expects
 use Rattle.reply_grammar.specs.declared.expected.Reply.{Reply}
@@ -111,7 +111,7 @@ pub record IsOnlyAnswerer (start : Start) (command : Command) (past : List Item)
 
 pub one-answerer : (start : Start) (command : Command) (past : List Item) (rn : ℕ) → IsOneReply (replies_behind 0 command start.tags past) rn → IsOnlyAnswerer start command past rn
 one-answerer start command past rn one =
-    let by : IsAnswerer command past 0 start.tags one.replied = replied-answerer command past 0 start.tags one.replied one.among in
+    let by : Answerer 0 command no_entry past start.tags one.replied = answerer 0 command no_entry past start.tags one.replied one.among in
     record {
       number = one.replied.number;
       tag = by.tag;

@@ -19,7 +19,7 @@ use Rattle.air_events.specs.declared.Event.{Event}
 use Rattle.air_model.proofs.ReceptionLaws.{from_whole}
 use Rattle.bit_strings.specs.declared.code.Code.{Code}
 use Rattle.runs.proofs.Answering.{SendsInRange, given-of-answers}
-use Rattle.runs.proofs.Growth.{dialogue-holds, listing-holds, answer-holds, always-holds, steps-hold}
+use Rattle.runs.proofs.Growth.{RoundsKeepLimit, dialogue-holds, listing-holds, answer-holds, round-holds, steps-hold}
 use Rattle.runs.proofs.PlayedRounds.{SlotOfRun}
 use Rattle.runs.proofs.LegalStart.{CopiesAreTags, start-legal, selection-legal}
 use Rattle.runs.specs.laws.Replies.{StaysLegal, events-legal}
@@ -72,6 +72,7 @@ OperationsLegal = (list : OpList) (epc : List ℕ) (rn : ℕ) (moves : List Move
     → AreMoves list epc rn moves → next_operation list epc rn moves ≡ Send command expect extended → IsLegalCommand command
 
 pub record Laws : Type 0 where
+  pub limit : RoundsKeepLimit
   pub range : SendsInRange
   pub heard : HeardLegal
   pub befallen : StaysLegal
@@ -262,7 +263,8 @@ round-legal : Laws → (start : Start) (operations : OpList) (spec : SpecValue) 
     → AreLegalBehind start past → AreLegalBehind start (past_behind_round start operations spec past)
 round-legal laws start operations spec past ops lawful legal =
     let round = rounds_in past + 1 in
-    always-holds (AreLegalBehind start) (record { start = start; operations = operations; spec = spec; before = past })
+    round-holds (λ outcomes now. AreLegalBehind start now) (AreLegalBehind start) (record { start = start; operations = operations; spec = spec; before = past })
+    laws.limit lawful
     (record {
       slot = λ outcomes now command next holds.
           slot-legal laws (record { start = start; round = round; slot = length outcomes + 1 }) operations command now ops (subst IsLegalNext next.is (laws.rounds spec start.link outcomes lawful)) holds;

@@ -44,3 +44,5 @@ pub mod HeadlineCounts
 pub mod HeadlineLegal
 pub mod PlayedRounds
 pub mod Tags
+pub mod Records
+pub mod RoundsAmong

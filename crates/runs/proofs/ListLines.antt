@@ -3,9 +3,9 @@ use Rattle.std.proofs.Common.{◌≡◌, ℕ, ◌==◌, Bool, true, false, List,
 use Rattle.std.proofs.lemmas.Bool.{eqb-true}
 use Rattle.std.proofs.lemmas.List.Elements.{filter-append}
 use Rattle.std.specs.List.{AllZip}
-use Rattle.air_model.specs.Past.{Record, Item, befell, exchanged, operated, ended}
+use Rattle.air_model.specs.Past.{Record, Item, exchanged}
 use Rattle.air_model.specs.Channel.{IsOfReplies}
-use Rattle.runs.specs.Headline.{IsRecordOf, Acknowledges}
+use Rattle.runs.specs.Headline.{Acknowledges}
 use Rattle.runs.specs.Listing.{Listed, reception_of_ack, listed_from, listed_by, listing_of}
 use Rattle.reply_grammar.specs.Reception.{Reception, no_stream, whole_reply, no_such_reply}
 use Rattle.reply_grammar.specs.declared.expected.Reply.{Reply}
@@ -13,6 +13,7 @@ use Rattle.reply_grammar.specs.declared.expected.Reply.TheVariants as replies
 use Rattle.runs.specs.ListLines.{entries_in, IsOfRepliesIn, IsEntryOf}
 use Rattle.runs.specs.Listed.{sender_listed_by, is_of_round, tags_listed_in}
 use Rattle.runs.proofs.EveryTag.{Lists, nobody, somebody, lists}
+use Rattle.runs.proofs.Records.{later-record}
 
 zip-append : {A B : Type 0} (R : A → B → Type 0) (xs : List A) (ys : List B) (us : List A) (vs : List B) → AllZip R xs ys → AllZip R us vs → AllZip R (xs ++ us) (ys ++ vs)
 zip-append R [] [] us vs first second = second
@@ -25,10 +26,6 @@ zip-map R S [] [] more all = tt
 zip-map R S [] (y ∷ ys) more all = absurd all
 zip-map R S (x ∷ xs) [] more all = absurd all
 zip-map R S (x ∷ xs) (y ∷ ys) more all = (more x y all.0, zip-map R S xs ys more all.1)
-
--- a record of a history that grew is one of it still
-later-record : (item : Item) (history : List Item) (sent : Record) (earlier : List Item) → IsRecordOf history sent earlier → IsRecordOf (item ∷ history) sent earlier
-later-record item history sent earlier recorded = record { later = item ∷ recorded.later; is = ap (λ tail. item ∷ tail) recorded.is }
 
 later-entry : (item : Item) (history : List Item) (round : ℕ) (listed : Listed) (number : ℕ) → IsEntryOf history round listed number → IsEntryOf (item ∷ history) round listed number
 later-entry item history round listed number entry = record {
@@ -101,8 +98,6 @@ entries-here sent past round false is of =
 
 pub entries-listed : (round : ℕ) (history : List Item) → IsOfRepliesIn round history → AllZip (IsEntryOf history round) (entries_in round history) (tags_listed_in round history)
 entries-listed round [] of = tt
-entries-listed round (befell event number ∷ past) of =
-    later-entries (befell event number) past round (entries-listed round past (later-replies (befell event number) past round of))
 entries-listed round (exchanged sent ∷ past) of =
     let history = exchanged sent ∷ past in
     subst (λ (entries : List Listed). AllZip (IsEntryOf history round) entries (tags_listed_in round history))
@@ -111,7 +106,4 @@ entries-listed round (exchanged sent ∷ past) of =
     (later-entries (exchanged sent) past round (entries-listed round past (later-replies (exchanged sent) past round of)))
     (entries-here sent past round (is_of_round round sent) refl
     (λ here rn ack. of sent past rn (record { later = []; is = refl }) (eqb-true sent.round round here) ack)))
-entries-listed round (operated at slot index result ∷ past) of =
-    later-entries (operated at slot index result) past round (entries-listed round past (later-replies (operated at slot index result) past round of))
-entries-listed round (ended number end slots ∷ past) of =
-    later-entries (ended number end slots) past round (entries-listed round past (later-replies (ended number end slots) past round of))
+entries-listed round (item ∷ past) of = later-entries item past round (entries-listed round past (later-replies item past round of))

@@ -1,66 +1,38 @@
 -- Each record of a history is the one that its command makes, and what the channel gave in it is a raw stream only where one is chosen.
-use Rattle.std.proofs.Common.{◌≡◌, ℕ, ◌+◌, ◌==◌, Bool, true, false, List, [], ◌∷◌, ◌++◌, length, if◌then◌else◌, refl, ap, sym, ◌∙◌, subst}
-use Rattle.access_ops.specs.declared.OpList.{OpList}
+use Rattle.std.proofs.Common.{◌≡◌, ℕ, ◌+◌, ◌==◌, Bool, true, false, List, [], ◌∷◌, ◌++◌, if◌then◌else◌, refl, ap, sym, ◌∙◌, subst}
 use Rattle.air_events.specs.Entries.{entry_at, no_entry}
 use Rattle.air_events.specs.declared.Entry.{Entry}
 use Rattle.air_model.specs.Channel.{Given, raw, IsReadBy, IsOfReplies, GoesByReplies}
 use Rattle.tag_machine.specs.Exchange.{replies_in}
-use Rattle.air_model.specs.Past.{Start, Record, Item, befell, exchanged, operated, ended, tags_behind, exchanges_in, rounds_in, next_entry, next_record, past_behind_command}
+use Rattle.air_model.specs.Past.{Start, Record, Item, tags_behind, exchanges_in, next_entry, next_record}
 use Rattle.air_model.proofs.GivenLaws.{given_is_read, given_of_replies}
 use Rattle.bit_strings.specs.declared.code.Code.{Code}
-use Rattle.command_grammar.specs.declared.commands.Command.{Command}
 use Rattle.runs.specs.Headline.{IsRecordOf, HasNoRawStream}
-use Rattle.runs.specs.History.{slot_reception, past_behind_slot, past_behind_step, past_behind, history_of}
+use Rattle.runs.specs.History.{history_of}
 use Rattle.runs.specs.Listed.{sender_where, sender_listed_by}
 use Rattle.runs.specs.Listing.{Listed, listed_by}
-use Rattle.runs.proofs.Growth.{answer-keeps, always-holds}
+use Rattle.runs.proofs.Growth.{run-always}
+use Rattle.runs.proofs.Records.{AllRecords, records-at}
 use Rattle.scenario.specs.declared.values.Step.{Step}
-use Rattle.scenario.specs.declared.values.Step.TheVariants as steps
 
 -- each record is the one that its command makes, sent when this was past
 abbrev AreMade : Start → List Item → Type 0
-AreMade start [] = Unit {0}
-AreMade start (befell event number ∷ past) = AreMade start past
-AreMade start (exchanged sent ∷ past) = (sent ≡ next_record start sent.round sent.slot sent.command past) × AreMade start past
-AreMade start (operated round slot index result ∷ past) = AreMade start past
-AreMade start (ended round end slots ∷ past) = AreMade start past
-
-made-slot : (start : Start) (operations : OpList) (round slot : ℕ) (command : Command) (past : List Item) → AreMade start past
-    → AreMade start (past_behind_slot start operations round slot command past)
-made-slot start operations round slot command past made =
-    answer-keeps (AreMade start) (record { start = start; round = round; slot = slot }) operations (slot_reception start round slot command past) (past_behind_command start round slot command past)
-    (record { command = λ command expect extended now awaits holds. (refl, holds); result = λ index result now holds. holds })
-    (λ rn holds. (refl, holds))
-    (refl, made)
-
-made-step : (start : Start) (step : Step) (past : List Item) → AreMade start past → AreMade start (past_behind_step start step past)
-made-step start (steps.Select command) past made = (refl, made)
-made-step start steps.Nak past made = (refl, made)
-made-step start (steps.Event event number) past made = made
-made-step start (steps.Round spec operations) past made =
-    always-holds (AreMade start) (record { start = start; operations = operations; spec = spec; before = past })
-    (record {
-      slot = λ outcomes now command next holds. made-slot start operations (rounds_in past + 1) (length outcomes + 1) command now holds;
-      end = λ outcomes now end next holds. holds;
-    })
-    made
-
-made-steps : (start : Start) (steps : List Step) (past : List Item) → AreMade start past → AreMade start (past_behind start steps past)
-made-steps start [] past made = made
-made-steps start (step ∷ later) past made = made-steps start later (past_behind_step start step past) (made-step start step past made)
-
-made-at : (start : Start) (later : List Item) (sent : Record) (earlier : List Item) → AreMade start (later ++ exchanged sent ∷ earlier)
-    → sent ≡ next_record start sent.round sent.slot sent.command earlier
-made-at start [] sent earlier made = made.0
-made-at start (befell event number ∷ later) sent earlier made = made-at start later sent earlier made
-made-at start (exchanged other ∷ later) sent earlier made = made-at start later sent earlier made.1
-made-at start (operated round slot index result ∷ later) sent earlier made = made-at start later sent earlier made
-made-at start (ended round end slots ∷ later) sent earlier made = made-at start later sent earlier made
+AreMade start past = AllRecords (λ sent earlier. sent ≡ next_record start sent.round sent.slot sent.command earlier) past
 
 -- a record of a history is such a one
 pub made-record : (start : Start) (steps : List Step) (sent : Record) (earlier : List Item) → IsRecordOf (history_of start steps) sent earlier
     → sent ≡ next_record start sent.round sent.slot sent.command earlier
-made-record start steps sent earlier recorded = made-at start recorded.later sent earlier (subst (AreMade start) recorded.is (made-steps start steps [] tt))
+made-record start steps sent earlier recorded =
+    records-at (λ sent earlier. sent ≡ next_record start sent.round sent.slot sent.command earlier) recorded.later sent earlier
+    (subst (AreMade start) recorded.is
+    (run-always (AreMade start) start
+    (record {
+      command = λ round slot command past made. (refl, made);
+      event = λ event number past made. made;
+      result = λ round slot index result past made. made;
+      end = λ round end slots past made. made;
+    })
+    steps [] tt))
 
 -- what the channel gave in it, where it is a raw stream, is heard by the link
 pub made-read : (start : Start) (sent : Record) (earlier : List Item) → sent ≡ next_record start sent.round sent.slot sent.command earlier → IsReadBy start.link sent.given

@@ -22,7 +22,8 @@ use Rattle.scenario.specs.Limits.{no_operations}
 use Rattle.runs.specs.RoundsTold.{played_of, start_with}
 use Rattle.runs.specs.TagInRound.{flags_behind_query, is_matched}
 use Rattle.runs.proofs.Tags.{length-tags}
-use Rattle.runs.proofs.CompleteRound.{IsTold, complete-inventory, history-told, played}
+use Rattle.runs.proofs.CompleteRound.{IsTold, complete-inventory, history-told}
+use Rattle.runs.proofs.RoundsAmong.{played}
 use Rattle.runs.proofs.EveryTag.{IsOneRun, IsThere, ListsTags, after-query, among_of, history_of_round, key, key_of, lists-tags}
 use Rattle.runs.proofs.Honesty.{honest-run}
 use Rattle.runs.proofs.Keeping.{Keeps}

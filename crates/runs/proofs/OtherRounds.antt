@@ -1,85 +1,58 @@
 -- What steps add to a past: items of rounds that came before or come behind. Nothing of it is of the round between.
 use Rattle.std.proofs.Common.{◌≡◌, ◌≢◌, ℕ, ◌+◌, ◌<◌, ◌≤◌, ◌==◌, ◌&&◌, ◌⊎◌, inl, inr, Bool, true, false, List, [], ◌∷◌, ◌++◌, length, Some, if◌then◌else◌, refl, ap, sym, ◌∙◌, subst, append_assoc, append-nil, arith, ne_eqb}
+use Rattle.std.specs.List.{AllByRecursion}
 use Rattle.access_ops.specs.declared.OpList.{OpList}
 use Rattle.air_model.specs.Past.{Start, Record, Item, befell, exchanged, operated, ended, next_record, past_behind_command, rounds_in}
-use Rattle.runs.specs.Headline.{IsLegalStep, AreLegalSteps, IsRecordOf, rounds_of}
+use Rattle.runs.specs.Headline.{IsLegalStep, AreLegalSteps, rounds_of}
 use Rattle.runs.specs.History.{past_behind_round, past_behind_step, past_behind}
 use Rattle.command_grammar.specs.declared.commands.Command.{Command}
 use Rattle.command_grammar.specs.declared.commands.Command.TheVariants as commands
 use Rattle.runs.specs.Listed.{sender_listed_by, tags_listed_where}
 use Rattle.runs.specs.Moments.{is_query, is_query_of, past_after_query, ending_of}
+use Rattle.runs.proofs.HeadlineLines.{and-false}
+use Rattle.runs.proofs.Records.{AllRecords}
 use Rattle.runs.proofs.Turns.{round-holds}
 use Rattle.runs.proofs.Growth.{RoundsKeepLimit}
 use Rattle.q_round.specs.SpecValue.{SpecValue, IsLegalSpec}
 use Rattle.scenario.specs.declared.values.Step.{Step}
 use Rattle.scenario.specs.declared.values.Step.TheVariants as steps
 
--- this holds of each record of a past, with what was past before it
-abbrev pub AllRecords : (Record → List Item → Type 0) → List Item → Type 0
-AllRecords P [] = Unit {0}
-AllRecords P (befell event number ∷ past) = AllRecords P past
-AllRecords P (exchanged sent ∷ past) = P sent past × AllRecords P past
-AllRecords P (operated at slot index result ∷ past) = AllRecords P past
-AllRecords P (ended round end slots ∷ past) = AllRecords P past
-
--- ... and so of one that is named
-pub records-at : (P : Record → List Item → Type 0) (later : List Item) (sent : Record) (earlier : List Item) → AllRecords P (later ++ exchanged sent ∷ earlier) → P sent earlier
-records-at P [] sent earlier all = all.0
-records-at P (befell event number ∷ later) sent earlier all = records-at P later sent earlier all
-records-at P (exchanged other ∷ later) sent earlier all = records-at P later sent earlier all.1
-records-at P (operated at slot index result ∷ later) sent earlier all = records-at P later sent earlier all
-records-at P (ended round end slots ∷ later) sent earlier all = records-at P later sent earlier all
-
-pub records-behind : (P : Record → List Item → Type 0) (later past : List Item) → AllRecords P (later ++ past) → AllRecords P past
-records-behind P [] past all = all
-records-behind P (befell event number ∷ later) past all = records-behind P later past all
-records-behind P (exchanged other ∷ later) past all = records-behind P later past all.1
-records-behind P (operated at slot index result ∷ later) past all = records-behind P later past all
-records-behind P (ended round end slots ∷ later) past all = records-behind P later past all
-
-later-record : (item : Item) (past : List Item) (sent : Record) (earlier : List Item) → IsRecordOf past sent earlier → IsRecordOf (item ∷ past) sent earlier
-later-record item past sent earlier recorded = record { later = item ∷ recorded.later; is = ap (λ (items : List Item). item ∷ items) recorded.is }
-
-pub records-all : (P : Record → List Item → Type 0) (past : List Item) → ((sent : Record) (earlier : List Item) → IsRecordOf past sent earlier → P sent earlier) → AllRecords P past
-records-all P [] each = tt
-records-all P (befell event number ∷ past) each = records-all P past (λ sent earlier recorded. each sent earlier (later-record (befell event number) past sent earlier recorded))
-records-all P (exchanged other ∷ past) each = (
-  each other past (record { later = []; is = refl }),
-  records-all P past (λ sent earlier recorded. each sent earlier (later-record (exchanged other) past sent earlier recorded)),
-)
-records-all P (operated at slot index result ∷ past) each = records-all P past (λ sent earlier recorded. each sent earlier (later-record (operated at slot index result) past sent earlier recorded))
-records-all P (ended round end slots ∷ past) each =
-    records-all P past (λ sent earlier recorded. each sent earlier (later-record (ended round end slots) past sent earlier recorded))
-
 -- a round is none, or one of those behind the first and up to the last
 abbrev pub IsBetween : ℕ → ℕ → ℕ → Type 0
 IsBetween first last round = (round ≡ 0) ⊎ ((first < round) × (round ≤ last))
 
--- the items of a list are of such rounds
+-- the number of the round of an item, where it names one, is such a number
+abbrev pub IsOfRound : (ℕ → Type 0) → Item → Type 0
+IsOfRound P (exchanged sent) = P sent.round
+IsOfRound P (ended round end slots) = P round
+IsOfRound P item = Unit {0}
+
+abbrev pub AreOfRounds : (ℕ → Type 0) → List Item → Type 0
+AreOfRounds P items = AllByRecursion (IsOfRound P) items
+
+weaker-one : (P Q : ℕ → Type 0) (item : Item) → ((round : ℕ) → P round → Q round) → IsOfRound P item → IsOfRound Q item
+weaker-one P Q (exchanged sent) weaker is = weaker sent.round is
+weaker-one P Q (ended round end slots) weaker is = weaker round is
+weaker-one P Q item weaker is = tt
+
+rounds-weaker : (P Q : ℕ → Type 0) (items : List Item) → ((round : ℕ) → P round → Q round) → AreOfRounds P items → AreOfRounds Q items
+rounds-weaker P Q [] weaker are = tt
+rounds-weaker P Q (item ∷ items) weaker are = (weaker-one P Q item weaker are.0, rounds-weaker P Q items weaker are.1)
+
+rounds-append : (P : ℕ → Type 0) (left right : List Item) → AreOfRounds P left → AreOfRounds P right → AreOfRounds P (left ++ right)
+rounds-append P [] right of_left of_right = of_right
+rounds-append P (item ∷ left) right of_left of_right = (of_left.0, rounds-append P left right of_left.1 of_right)
+
+-- the items of a list are of rounds behind the first and up to the last, or of none
 abbrev pub AreBetween : ℕ → ℕ → List Item → Type 0
-AreBetween first last [] = Unit {0}
-AreBetween first last (befell event number ∷ items) = AreBetween first last items
-AreBetween first last (exchanged sent ∷ items) = IsBetween first last sent.round × AreBetween first last items
-AreBetween first last (operated at slot index result ∷ items) = AreBetween first last items
-AreBetween first last (ended round end slots ∷ items) = IsBetween first last round × AreBetween first last items
+AreBetween first last items = AreOfRounds (IsBetween first last) items
 
 is-between-wider : (a b c d round : ℕ) → c ≤ a → b ≤ d → IsBetween a b round → IsBetween c d round
 is-between-wider a b c d round low high (inl none) = inl none
 is-between-wider a b c d round low high (inr within) = inr (omega (arith, within.0), omega (arith, within.1))
 
 between-wider : (a b c d : ℕ) (items : List Item) → c ≤ a → b ≤ d → AreBetween a b items → AreBetween c d items
-between-wider a b c d [] low high are = tt
-between-wider a b c d (befell event number ∷ items) low high are = between-wider a b c d items low high are
-between-wider a b c d (exchanged sent ∷ items) low high are = (is-between-wider a b c d sent.round low high are.0, between-wider a b c d items low high are.1)
-between-wider a b c d (operated at slot index result ∷ items) low high are = between-wider a b c d items low high are
-between-wider a b c d (ended round end slots ∷ items) low high are = (is-between-wider a b c d round low high are.0, between-wider a b c d items low high are.1)
-
-between-append : (a b : ℕ) (left right : List Item) → AreBetween a b left → AreBetween a b right → AreBetween a b (left ++ right)
-between-append a b [] right of_left of_right = of_right
-between-append a b (befell event number ∷ left) right of_left of_right = between-append a b left right of_left of_right
-between-append a b (exchanged sent ∷ left) right of_left of_right = (of_left.0, between-append a b left right of_left.1 of_right)
-between-append a b (operated at slot index result ∷ left) right of_left of_right = between-append a b left right of_left of_right
-between-append a b (ended round end slots ∷ left) right of_left of_right = (of_left.0, between-append a b left right of_left.1 of_right)
+between-wider a b c d items low high = rounds-weaker (IsBetween a b) (IsBetween c d) items (λ round. is-between-wider a b c d round low high)
 
 -- what was added to a past ended so many rounds, and is of those rounds or of none
 pub record Adds (past now : List Item) (rounds : ℕ) : Type 0 where
@@ -88,15 +61,15 @@ pub record Adds (past now : List Item) (rounds : ℕ) : Type 0 where
   pub rounds_are : rounds_in now ≡ rounds_in past + rounds
   pub of : AreBetween (rounds_in past) (rounds_in past + rounds) own
 
-adds-none : (past : List Item) → Adds past past 0
+pub adds-none : (past : List Item) → Adds past past 0
 adds-none past = record { own = []; is = refl; rounds_are = omega arith; of = tt }
 
-adds-on : (past between now : List Item) (first second : ℕ) → Adds past between first → Adds between now second → Adds past now (first + second)
+pub adds-on : (past between now : List Item) (first second : ℕ) → Adds past between first → Adds between now second → Adds past now (first + second)
 adds-on past between now first second left right = record {
   own = right.own ++ left.own;
   is = right.is ∙ ap (λ (items : List Item). right.own ++ items) left.is ∙ sym (append_assoc right.own left.own past);
   rounds_are = omega (arith, left.rounds_are, right.rounds_are);
-  of = between-append (rounds_in past) (rounds_in past + (first + second)) right.own left.own
+  of = rounds-append (IsBetween (rounds_in past) (rounds_in past + (first + second))) right.own left.own
       (between-wider (rounds_in between) (rounds_in between + second) (rounds_in past) (rounds_in past + (first + second)) right.own
       (omega (arith, left.rounds_are)) (omega (arith, left.rounds_are)) right.of)
       (between-wider (rounds_in past) (rounds_in past + first) (rounds_in past) (rounds_in past + (first + second)) left.own (omega arith) (omega arith) left.of);
@@ -128,12 +101,12 @@ round-adds keeps start operations spec past legal =
       no_answer = λ outcomes now command reception heard none within. within;
       ack = λ outcomes now command rn heard within.
           adds-command start past (past_behind_command start round (length outcomes + 1) command now) (length outcomes + 1) (commands.Ack rn) within;
-      operation = λ some outcomes now command within. adds-command start past now (length outcomes + 1) command within;
+      operation = λ some outcomes now command expect extended suits within. adds-command start past now (length outcomes + 1) command within;
       result = λ some outcomes now index result within. record {
         own = operated round (length outcomes + 1) index result ∷ within.own;
         is = ap (λ (items : List Item). operated round (length outcomes + 1) index result ∷ items) within.is;
         rounds_are = within.rounds_are;
-        of = within.of;
+        of = (tt, within.of);
       };
       end = λ outcomes now end next within. record {
         own = ended round end (length outcomes) ∷ within.own;
@@ -161,31 +134,26 @@ step-adds keeps start (steps.Event event number) past legal = record {
   own = befell event number ∷ [];
   is = refl;
   rounds_are = omega arith;
-  of = tt;
+  of = (tt, tt);
 }
 step-adds keeps start (steps.Round spec operations) past legal = round-adds keeps start operations spec past legal.legal
 
-rounds_of-more : (step : Step) (later : List Step) → rounds_of (step ∷ later) ≡ rounds_of (step ∷ []) + rounds_of later
-rounds_of-more (steps.Select command) later = omega arith
-rounds_of-more steps.Nak later = omega arith
-rounds_of-more (steps.Event event number) later = omega arith
-rounds_of-more (steps.Round spec operations) later = omega arith
+pub rounds_of-append : (before after : List Step) → rounds_of (before ++ after) ≡ rounds_of before + rounds_of after
+rounds_of-append [] after = omega arith
+rounds_of-append (steps.Round spec operations ∷ before) after = let rest = rounds_of-append before after in omega (arith, rest)
+rounds_of-append (step ∷ before) after = rounds_of-append before after
 
 pub steps-add : RoundsKeepLimit → (start : Start) (all : List Step) (past : List Item) → AreLegalSteps all → Adds past (past_behind start all past) (rounds_of all)
 steps-add keeps start [] past legal = adds-none past
 steps-add keeps start (step ∷ later) past legal =
     let now = past_behind_step start step past in
-    subst (λ n. Adds past (past_behind start later now) n) (sym (rounds_of-more step later))
+    subst (λ n. Adds past (past_behind start later now) n) (sym (rounds_of-append (step ∷ []) later))
     (adds-on past now (past_behind start later now) (rounds_of (step ∷ [])) (rounds_of later)
     (step-adds keeps start step past legal.0) (steps-add keeps start later now legal.1))
 
 -- the items of a list are none of a round
 abbrev pub AreOfOthers : ℕ → List Item → Type 0
-AreOfOthers round [] = Unit {0}
-AreOfOthers round (befell event number ∷ items) = AreOfOthers round items
-AreOfOthers round (exchanged sent ∷ items) = (sent.round ≢ round) × AreOfOthers round items
-AreOfOthers round (operated at slot index result ∷ items) = AreOfOthers round items
-AreOfOthers round (ended number end slots ∷ items) = (number ≢ round) × AreOfOthers round items
+AreOfOthers round items = AreOfRounds (λ number. number ≢ round) items
 
 is-other : (first last round number : ℕ) → 1 ≤ round → (round ≤ first) ⊎ (last < round) → IsBetween first last number → number ≢ round
 is-other first last round number some outside (inl none) is = absurd (omega (arith, some, none, is))
@@ -193,13 +161,7 @@ is-other first last round number some (inl below) (inr within) is = absurd (omeg
 is-other first last round number some (inr above) (inr within) is = absurd (omega (arith, within.0, within.1, is, above))
 
 pub of-others : (first last round : ℕ) (items : List Item) → 1 ≤ round → (round ≤ first) ⊎ (last < round) → AreBetween first last items → AreOfOthers round items
-of-others first last round [] some outside are = tt
-of-others first last round (befell event number ∷ items) some outside are = of-others first last round items some outside are
-of-others first last round (exchanged sent ∷ items) some outside are =
-    (is-other first last round sent.round some outside are.0, of-others first last round items some outside are.1)
-of-others first last round (operated at slot index result ∷ items) some outside are = of-others first last round items some outside are
-of-others first last round (ended number end slots ∷ items) some outside are =
-    (is-other first last round number some outside are.0, of-others first last round items some outside are.1)
+of-others first last round items some outside = rounds-weaker (IsBetween first last) (λ number. number ≢ round) items (λ number. is-other first last round number some outside)
 
 -- a test that only records of the round pass
 abbrev pub IsTestOf : ℕ → (Record → Bool) → Type 0
@@ -213,18 +175,12 @@ fails-others round test sent false of other is = is
 pub listed-others : (round : ℕ) (test : Record → Bool) (own past : List Item) → IsTestOf round test → AreOfOthers round own
     → tags_listed_where test (own ++ past) ≡ tags_listed_where test past
 listed-others round test [] past of others = refl
-listed-others round test (befell event number ∷ own) past of others = listed-others round test own past of others
 listed-others round test (exchanged sent ∷ own) past of others =
     ap (λ (passes : Bool). tags_listed_where test (own ++ past) ++ (if passes then sender_listed_by sent else []))
     (fails-others round test sent (test sent) of others.0 refl)
     ∙ append-nil (tags_listed_where test (own ++ past))
     ∙ listed-others round test own past of others.1
-listed-others round test (operated at slot index result ∷ own) past of others = listed-others round test own past of others
-listed-others round test (ended number end slots ∷ own) past of others = listed-others round test own past of others.1
-
-pub and-false : (a b : Bool) → b ≡ false → (a && b) ≡ false
-and-false true b e = e
-and-false false b e = refl
+listed-others round test (item ∷ own) past of others = listed-others round test own past of others.1
 
 not-query : (round : ℕ) (sent : Record) → sent.round ≢ round → is_query_of round sent ≡ false
 not-query round sent other = and-false (is_query sent.command) (sent.round == round) (ne_eqb sent.round round other)
@@ -232,29 +188,23 @@ not-query round sent other = and-false (is_query sent.command) (sent.round == ro
 -- they have not its Query
 pub query-others : (round : ℕ) (own past : List Item) → AreOfOthers round own → past_after_query round (own ++ past) ≡ past_after_query round past
 query-others round [] past others = refl
-query-others round (befell event number ∷ own) past others = query-others round own past others
 query-others round (exchanged sent ∷ own) past others =
     ap (λ (is : Bool). if is then exchanged sent ∷ own ++ past else past_after_query round (own ++ past)) (not-query round sent others.0)
     ∙ query-others round own past others.1
-query-others round (operated at slot index result ∷ own) past others = query-others round own past others
-query-others round (ended number end slots ∷ own) past others = query-others round own past others.1
+query-others round (item ∷ own) past others = query-others round own past others.1
 
 -- nor its end
 pub ending-others : (round : ℕ) (own past : List Item) → AreOfOthers round own → ending_of round (own ++ past) ≡ ending_of round past
 ending-others round [] past others = refl
-ending-others round (befell event number ∷ own) past others = ending-others round own past others
-ending-others round (exchanged sent ∷ own) past others = ending-others round own past others.1
-ending-others round (operated at slot index result ∷ own) past others = ending-others round own past others
 ending-others round (ended number end slots ∷ own) past others =
     ap (λ (is : Bool). if is then Some (record { end = end; slots = slots; past = own ++ past }) else ending_of round (own ++ past)) (ne_eqb number round others.0)
     ∙ ending-others round own past others.1
+ending-others round (item ∷ own) past others = ending-others round own past others.1
 
 -- what holds of each record of a round holds where only others were added
 pub records-others : (P : Record → List Item → Type 0) (round : ℕ) (own past : List Item)
     → ((sent : Record) (earlier : List Item) → sent.round ≢ round → P sent earlier) → AreOfOthers round own → AllRecords P past → AllRecords P (own ++ past)
 records-others P round [] past vacuous others all = all
-records-others P round (befell event number ∷ own) past vacuous others all = records-others P round own past vacuous others all
 records-others P round (exchanged sent ∷ own) past vacuous others all =
     (vacuous sent (own ++ past) others.0, records-others P round own past vacuous others.1 all)
-records-others P round (operated at slot index result ∷ own) past vacuous others all = records-others P round own past vacuous others all
-records-others P round (ended number end slots ∷ own) past vacuous others all = records-others P round own past vacuous others.1 all
+records-others P round (item ∷ own) past vacuous others all = records-others P round own past vacuous others.1 all

@@ -1,8 +1,8 @@
 -- Who answers a command among the tags of a start, where nothing is said of the exchange: from each tag's own answer to the replies
 -- of the exchange, and back.
-use Rattle.std.proofs.Common.{◌≡◌, ◌≢◌, ℕ, zero, suc, ◌+◌, inl, inr, List, [], ◌∷◌, ◌++◌, Option, Some, None, slice_get, refl, ap, sym, ◌∙◌, subst, arith}
+use Rattle.std.proofs.Common.{◌≡◌, ◌≢◌, ℕ, zero, suc, ◌+◌, inl, inr, Bool, true, false, if◌then◌else◌, List, [], ◌∷◌, ◌++◌, Option, Some, None, slice_get, refl, ap, sym, ◌∙◌, subst, arith}
 use Rattle.tag_machine.specs.Exchange.{Replied, reply_of, replies_from, outcome_in, outcomes_from}
-use Rattle.air_model.specs.Past.{Start, Item, tag_behind, tags_behind_from, past_behind_command, next_entry}
+use Rattle.air_model.specs.Past.{Start, Item, tag_behind, tags_behind_from, past_behind_command, next_entry, is_hearer, hearers_of}
 use Rattle.air_events.specs.Entries.{no_entry}
 use Rattle.air_events.specs.declared.Entry.{Entry}
 use Rattle.command_grammar.specs.declared.commands.Command.{Command}
@@ -51,42 +51,64 @@ answer-replied command past number (first ∷ starts) (suc place) tag sent at an
     (subst (λ n. Among (reply_by n sent) (replies_behind (number + 1) command starts past)) (sym next)
     (answer-replied command past (number + 1) starts place tag sent at (subst (λ n. answer_behind command past n tag ≡ Some sent) next answered)))
 
--- the tag that made a reply
-pub record IsAnswerer (command : Command) (past : List Item) (number : ℕ) (starts : List TagValue) (replied : Replied) : Type 0 where
-  pub place : ℕ
+-- the tag with the number in a reply, among tags that are numbered from a number on
+pub record Answerer (number : ℕ) (command : Command) (entry : Entry) (past : List Item) (starts : List TagValue) (replied : Replied) : Type 0 where
   pub tag : TagValue
+  pub place : ℕ
   pub numbered : slice_get starts place ≡ Some tag
   pub number_is : replied.number ≡ number + place
-  pub answered : answer_behind command past replied.number tag ≡ Some replied.sent
+  pub answered : (outcome_in replied.number command entry (tag_behind replied.number tag past)).answer ≡ Some replied.sent
+  pub heard : is_hearer replied.number entry (tag_behind replied.number tag past) ≡ true
+      → Among replied.number (hearers_of number entry (tags_behind_from number starts past))
 
-reply-is : (number : ℕ) (answer : Option Sent) (replied : Replied) → Among replied (reply_of number answer)
+reply-number : (number : ℕ) (answer : Option Sent) (replied : Replied) → Among replied (reply_of number answer)
     → (replied.number ≡ number) × (answer ≡ Some replied.sent)
-reply-is number None replied among = absurd among
-reply-is number (Some sent) replied (inl is) = (ap (λ (r : Replied). r.number) (sym is), ap (λ (r : Replied). Some r.sent) is)
-reply-is number (Some sent) replied (inr none) = absurd none
+reply-number number None replied among = absurd among
+reply-number number (Some sent) replied (inl is) = (ap (λ (r : Replied). r.number) (sym is), ap (λ (r : Replied). Some r.sent) is)
+reply-number number (Some sent) replied (inr none) = absurd none
 
-pub replied-answerer : (command : Command) (past : List Item) (number : ℕ) (starts : List TagValue) (replied : Replied)
-    → Among replied (replies_behind number command starts past) → IsAnswerer command past number starts replied
-replied-answerer command past number [] replied among = absurd among
-replied-answerer command past number (first ∷ starts) replied among =
-    elim (among-split replied (reply_of number (answer_behind command past number first)) (replies_behind (number + 1) command starts past) among) [
-      | inl found ↦
-          let is = reply-is number (answer_behind command past number first) replied found in
-          record {
-            place = 0;
-            tag = first;
-            numbered = refl;
-            number_is = is.0 ∙ omega arith;
-            answered = subst (λ n. answer_behind command past n first ≡ Some replied.sent) (sym is.0) is.1;
-          }
+hearer-here : (number : ℕ) (hears : Bool) (others : List ℕ) → hears ≡ true → Among number (if hears then number ∷ others else others)
+hearer-here number true others is = inl refl
+hearer-here number false others is = absurd (cc)
+
+hearer-later : (hearer number : ℕ) (hears : Bool) (others : List ℕ) → Among hearer others → Among hearer (if hears then number ∷ others else others)
+hearer-later hearer number true others among = inr among
+hearer-later hearer number false others among = among
+
+answerer-here : (number : ℕ) (command : Command) (entry : Entry) (past : List Item) (start : TagValue) (starts : List TagValue) (replied : Replied)
+    → Among replied (reply_of number (outcome_in number command entry (tag_behind number start past)).answer)
+    → Answerer number command entry past (start ∷ starts) replied
+answerer-here number command entry past start starts replied among =
+    let (same, is) = reply-number number (outcome_in number command entry (tag_behind number start past)).answer replied among in
+    record {
+      tag = start;
+      place = 0;
+      numbered = refl;
+      number_is = same ∙ omega arith;
+      answered = subst (λ n. (outcome_in n command entry (tag_behind n start past)).answer ≡ Some replied.sent) (sym same) is;
+      heard = λ hears. subst (λ n. Among n (hearers_of number entry (tags_behind_from number (start ∷ starts) past))) (sym same)
+          (hearer-here number (is_hearer number entry (tag_behind number start past)) (hearers_of (number + 1) entry (tags_behind_from (number + 1) starts past))
+          (subst (λ n. is_hearer n entry (tag_behind n start past) ≡ true) same hears));
+    }
+
+pub answerer : (number : ℕ) (command : Command) (entry : Entry) (past : List Item) (starts : List TagValue) (replied : Replied)
+    → Among replied (replies_from number (outcomes_from number command entry (tags_behind_from number starts past)))
+    → Answerer number command entry past starts replied
+answerer number command entry past [] replied among = absurd among
+answerer number command entry past (start ∷ starts) replied among =
+    elim (among-split replied (reply_of number (outcome_in number command entry (tag_behind number start past)).answer)
+    (replies_from (number + 1) (outcomes_from (number + 1) command entry (tags_behind_from (number + 1) starts past))) among) [
+      | inl found ↦ answerer-here number command entry past start starts replied found
       | inr found ↦
-          let rest = replied-answerer command past (number + 1) starts replied found in
+          let rest = answerer (number + 1) command entry past starts replied found in
           record {
-            place = suc rest.place;
             tag = rest.tag;
+            place = suc rest.place;
             numbered = rest.numbered;
             number_is = rest.number_is ∙ omega arith;
             answered = rest.answered;
+            heard = λ hears. hearer-later replied.number number (is_hearer number entry (tag_behind number start past))
+                (hearers_of (number + 1) entry (tags_behind_from (number + 1) starts past)) (rest.heard hears);
           }
     ]
 

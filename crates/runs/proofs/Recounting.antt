@@ -4,7 +4,6 @@ use Rattle.std.proofs.lemmas.List.{append_assoc}
 use Rattle.access_ops.specs.declared.OpList.{OpList}
 use Rattle.command_fields.specs.declared.choices.Side.{Side}
 use Rattle.command_fields.specs.declared.choices.Sel.{Sel}
-use Rattle.command_fields.specs.declared.choices.Side.TheVariants.{A}
 use Rattle.q_round.specs.SpecValue.{SpecValue}
 use Rattle.scenario.specs.declared.values.Step.{Step}
 use Rattle.scenario.specs.declared.values.Step.TheVariants as steps
@@ -15,19 +14,14 @@ use Rattle.runs.specs.Complete.{HasNumber}
 use Rattle.runs.specs.Headline.{AreLegalSteps, rounds_of}
 use Rattle.runs.specs.Recounts.{AreInTurn, HoldsOfEach, IsFresh, IsListedBySound, IsRecount, IsSound, IsThere, MayTakePart, Recount, enough_from_any, enough_from_fresh, history_with, other_side, round_behind, steps_with, tag_where, unsound_from}
 use Rattle.runs.proofs.Growth.{RoundsKeepLimit}
-use Rattle.runs.proofs.CompleteRound.{RoundAmong, RoundsHaveFacts}
+use Rattle.runs.proofs.OtherRounds.{rounds_of-append}
+use Rattle.runs.proofs.CompleteRound.{RoundsHaveFacts}
+use Rattle.runs.proofs.RoundsAmong.{RoundAmong}
 use Rattle.runs.proofs.SideBySide.{HasFlagWhere, IsListedIn, side-fresh, sound-leaves, sound-lists}
-
-rounds-append : (before after : List Step) → rounds_of (before ++ after) ≡ rounds_of before + rounds_of after
-rounds-append [] after = omega arith
-rounds-append (steps.Round spec operations ∷ before) after = let rest = rounds-append before after in omega (arith, rest)
-rounds-append (steps.Select command ∷ before) after = rounds-append before after
-rounds-append (steps.Nak ∷ before) after = rounds-append before after
-rounds-append (steps.Event event number ∷ before) after = rounds-append before after
 
 -- the round behind one more
 next-round : (before : List Step) (spec : SpecValue) (operations : OpList) → round_behind (before ++ steps.Round spec operations ∷ []) ≡ round_behind before + 1
-next-round before spec operations = ap (λ n. n + 1) (rounds-append before (steps.Round spec operations ∷ []))
+next-round before spec operations = ap (λ n. n + 1) (rounds_of-append before (steps.Round spec operations ∷ []))
 
 -- what a round counts among those that aren't said to be sound
 abbrev counted : Bool → ℕ

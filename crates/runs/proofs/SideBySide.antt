@@ -4,7 +4,7 @@ use Rattle.std.proofs.Common.{◌≡◌, ℕ, zero, suc, ◌+◌, ◌≤◌, ◌
 use Rattle.std.proofs.lemmas.Bool.{eqb-true}
 use Rattle.air_model.specs.Channel.{Given, silence, whole, broken, raw}
 use Rattle.air_events.specs.Entries.{no_entry}
-use Rattle.air_model.specs.Past.{Start, Record, Item, befell, exchanged, operated, ended, tag_behind, next_entry, next_record}
+use Rattle.air_model.specs.Past.{Start, Record, Item, exchanged, tag_behind, next_entry, next_record}
 use Rattle.command_fields.specs.declared.choices.Side.{Side}
 use Rattle.command_fields.specs.declared.choices.Side.TheVariants.{A, B}
 use Rattle.session_flags.specs.Actions.{side_after}
@@ -25,17 +25,15 @@ use Rattle.runs.specs.Moments.{Ending, ending_of, is_query_of, past_after_query,
 use Rattle.runs.specs.Recounts.{IsSound, MayTakePart, is_inventoried_in, other_side, round_behind, tag_where}
 use Rattle.runs.specs.TagInRound.{flags_behind_query, flags_in_round, is_matched}
 use Rattle.runs.proofs.Growth.{RoundsKeepLimit}
+use Rattle.runs.proofs.Records.{later-record}
 use Rattle.runs.proofs.PlayedRounds.{number_of}
-use Rattle.runs.proofs.CompleteRound.{IsFairRound, IsTold, RoundAmong, RoundsHaveFacts, at-quiet, counted-round, number-among, past_behind-append, legal-split, played, steps_around, taken-told}
+use Rattle.runs.proofs.CompleteRound.{IsFairRound, IsTold, RoundsHaveFacts, at-quiet, counted-round, taken-told}
+use Rattle.runs.proofs.RoundsAmong.{RoundAmong, legal-split, past_behind-append, played, stands-among, steps_around}
 use Rattle.runs.proofs.Population.{tag-steps, tag_stepped}
 use Rattle.runs.proofs.TagQuery.{query-flags, query-matched}
 use Rattle.runs.proofs.TagsInRound.{query_command}
 use Rattle.runs.proofs.Times.{times-append, times-one, bit}
 use Rattle.runs.proofs.WholeRound.{slots_to}
-
--- a record of a history that grew is one of it still
-later-record : (item : Item) (history : List Item) (sent : Record) (earlier : List Item) → IsRecordOf history sent earlier → IsRecordOf (item ∷ history) sent earlier
-later-record item history sent earlier recorded = record { later = item ∷ recorded.later; is = ap (λ tail. item ∷ tail) recorded.is }
 
 query-here : (first : Record) (past : List Item) (sent : Record) (earlier found : List Item) (here : Bool) → (if here then exchanged first ∷ past else found) ≡ exchanged sent ∷ earlier
     → (found ≡ exchanged sent ∷ earlier → IsRecordOf past sent earlier) → IsRecordOf (exchanged first ∷ past) sent earlier
@@ -45,12 +43,9 @@ query-here first past sent earlier found false is rest = later-record (exchanged
 -- the Query of a round is a record of the history
 query-record : (round : ℕ) (history : List Item) (sent : Record) (earlier : List Item) → past_after_query round history ≡ exchanged sent ∷ earlier → IsRecordOf history sent earlier
 query-record round [] sent earlier is = absurd (cc)
-query-record round (befell event number ∷ past) sent earlier is = later-record (befell event number) past sent earlier (query-record round past sent earlier is)
 query-record round (exchanged first ∷ past) sent earlier is =
     query-here first past sent earlier (past_after_query round past) (is_query_of round first) is (query-record round past sent earlier)
-query-record round (operated number slot index result ∷ past) sent earlier is =
-    later-record (operated number slot index result) past sent earlier (query-record round past sent earlier is)
-query-record round (ended number end slots ∷ past) sent earlier is = later-record (ended number end slots) past sent earlier (query-record round past sent earlier is)
+query-record round (item ∷ past) sent earlier is = later-record item past sent earlier (query-record round past sent earlier is)
 
 -- flags
 sl-closed : (own session : ℕ) (flags : Flags) (same : Bool) → session ≤ 3 → (if same then flags_after_inversion flags session else flags).sl ≡ flags.sl
@@ -137,10 +132,8 @@ record-lists sent past round number false is some rest =
 -- who is listed is listed by a record
 some-lists : (history : List Item) (round number : ℕ) → 1 ≤ times number (tags_listed_in round history) → ListsHere history round number
 some-lists [] round number some = absurd (omega (arith, some))
-some-lists (befell event tag ∷ past) round number some = later-lists (befell event tag) past round number (some-lists past round number some)
 some-lists (exchanged sent ∷ past) round number some = record-lists sent past round number (is_of_round round sent) refl some (some-lists past round number)
-some-lists (operated at slot index result ∷ past) round number some = later-lists (operated at slot index result) past round number (some-lists past round number some)
-some-lists (ended at end slots ∷ past) round number some = later-lists (ended at end slots) past round number (some-lists past round number some)
+some-lists (item ∷ past) round number some = later-lists item past round number (some-lists past round number some)
 
 -- a record lists one tag at most
 bit-some : (b : Bool) → 1 ≤ bit b → b ≡ true
@@ -179,7 +172,7 @@ module _ (keeps : RoundsKeepLimit) (facts : RoundsHaveFacts) (among : RoundAmong
   fair = record { honest = sound.honest; apart = sound.apart }
 
   number-is : number_of (played among) ≡ round_behind among.before
-  number-is = number-among keeps among (subst AreLegalSteps is legal)
+  number-is = (stands-among keeps among (subst AreLegalSteps is legal)).number_is
 
   own-told : IsTold (played among) (history_of among.start taken)
   own-told = taken-told keeps facts among taken legal is fair

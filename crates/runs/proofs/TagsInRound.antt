@@ -15,7 +15,8 @@ use Rattle.runs.specs.Listed.{sender_where, sender_listed_by, listed_as, is_of_r
 use Rattle.runs.specs.Moments.{is_query, begins_later_slot, is_query_of, past_after_query, flags_behind}
 use Rattle.runs.specs.TagInRound.{is_matched, flags_in_round, slot_answer_of, is_acknowledged_by}
 use Rattle.runs.proofs.Heard.{slot-heard, silent-none, no-replies-none, IsOnlyAnswerer, same-tag, acknowledges-one, epc_sent, ack-lists, ack-lists-as}
-use Rattle.runs.proofs.OtherRounds.{AllRecords, and-false}
+use Rattle.runs.proofs.HeadlineLines.{and-false}
+use Rattle.runs.proofs.Records.{AllRecords}
 use Rattle.runs.proofs.Population.{answer_behind, tag_stepped, tag-steps, reply_by, replies_behind, one-replies}
 use Rattle.runs.proofs.TagBetween.{unacknowledged-stands, ack-stands, ack-answer, ack-body}
 use Rattle.runs.proofs.TagEnds.{listed-once}

@@ -1,6 +1,7 @@
 -- What holds after each command that a round may send, and from there at both of its ends, holds of the round.
 use Rattle.std.proofs.Common.{◌≡◌, ℕ, ◌+◌, ◌≢◌, ◌⊎◌, inl, inr, Bool, true, false, List, [], ◌∷◌, length, None, if◌then◌else◌, refl, ap, sym, ◌∙◌, subst}
 use Rattle.access_ops.specs.Operations.{Dialogue, done, operations_from_rn16, denials, is_for, dialogue_of}
+use Rattle.access_ops.specs.laws.OperationLaws.{Expects}
 use Rattle.access_ops.specs.declared.Op.{Op}
 use Rattle.access_ops.specs.declared.OpList.{OpList}
 use Rattle.access_ops.specs.declared.op_next.OpResult.{OpResult}
@@ -17,6 +18,7 @@ use Rattle.q_round.specs.declared.frame.Outcome.{Outcome}
 use Rattle.q_round.specs.declared.frame.Outcome.TheVariants.{Whole}
 use Rattle.q_round.specs.declared.round.Next.TheVariants as nexts
 use Rattle.q_round.specs.declared.round.RoundEnd.{RoundEnd}
+use Rattle.reply_grammar.specs.declared.expected.Expect.{Expect}
 use Rattle.reply_grammar.specs.declared.expected.Reply.TheVariants as replies
 
 -- What holds in a round. `Before` speaks of the outcomes so far, the latest first, and the past, just before a slot command, an
@@ -36,7 +38,8 @@ pub record CommandSteps (Before : List Outcome → List Item → Type 0) (Sent :
       → Before (Whole ∷ outcomes)
       (past_behind_command round.start (number_of round) (length outcomes + 1) (commands.Ack rn)
       (past_behind_command round.start (number_of round) (length outcomes + 1) command past))
-  pub operation : round.operations.ops ≢ [] → (outcomes : List Outcome) (past : List Item) (command : Command) → Before (Whole ∷ outcomes) past
+  pub operation : round.operations.ops ≢ [] → (outcomes : List Outcome) (past : List Item) (command : Command) (expect : Expect) (extended : Bool)
+      → Expects command expect extended → Before (Whole ∷ outcomes) past
       → Before (Whole ∷ outcomes) (past_behind_command round.start (number_of round) (length outcomes + 1) command past)
   pub result : round.operations.ops ≢ [] → (outcomes : List Outcome) (past : List Item) (index : ℕ) (result : OpResult) → Before (Whole ∷ outcomes) past
       → Before (Whole ∷ outcomes) (operated (number_of round) (length outcomes + 1) index result ∷ past)
@@ -89,7 +92,7 @@ slot-holds Before Sent After round each outcomes past command sent =
     begun-holds (λ behind. Before (Whole ∷ outcomes) behind) at round.operations rn (ack_reception at.start at.round at.slot rn now)
     (past_behind_command at.start at.round at.slot (commands.Ack rn) now)
     (λ some. record {
-      command = λ command expect extended past expects here. each.operation some outcomes past command here;
+      command = λ command expect extended past. each.operation some outcomes past command expect extended;
       result = λ index result past here. each.result some outcomes past index result here;
     })
     (each.ack outcomes past command rn heard sent))

@@ -15,7 +15,8 @@ use Rattle.runs.specs.Listed.{sender_listed_by, is_of_round, is_of_slot, tags_li
 use Rattle.runs.specs.Moments.{past_after_query}
 use Rattle.runs.specs.TagInRound.{is_matched, slot_answer_of, StandsAfterSlot}
 use Rattle.runs.proofs.Heard.{slot-heard, heard-one, one-answerer}
-use Rattle.runs.proofs.OtherRounds.{AllRecords, AreOfOthers, IsTestOf, listed-others, records-others}
+use Rattle.runs.proofs.OtherRounds.{AreOfOthers, IsTestOf, listed-others, records-others}
+use Rattle.runs.proofs.Records.{AllRecords}
 use Rattle.runs.proofs.Population.{tag-steps, replies_behind}
 use Rattle.runs.proofs.TagsInRound.{query_command, past_at_query, StepsFlagsOf, ListsOwnEpc, lists-nobody, StandsSent, StandsNext, slot-no-sender, stands-unacknowledged, stands-acknowledged, stands-sent}
 use Rattle.runs.proofs.TagQuery.{query-stands, query-answer, query-spoken}

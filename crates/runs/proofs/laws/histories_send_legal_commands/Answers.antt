@@ -3,6 +3,7 @@ use Rattle.runs.proofs.laws.histories_send_legal_commands.Goals as goal
 
 pub returns : goal.returns
 returns c = command-legal (record {
+  limit = c.round_laws.ensures.limit;
   range = c.answers_are_replies.ensures.legal;
   heard = c.steps_keep_tags_legal.ensures.heard;
   befallen = c.steps_keep_tags_legal.ensures.befallen;
