@@ -115,9 +115,7 @@ awaited_reception link extended expect (raw code trext levels) received meets re
 -- ... and where it gives none
 pub silent_awaited : (link : LinkValue) (trext extended : Bool) (expect : Expect) (given : Given) → got_of link given ≡ gots.Silence → reception_with trext extended expect given ≡ no_stream
 silent_awaited link trext extended expect silence got = refl
-silent_awaited link trext extended expect (whole replied) got = cc
-silent_awaited link trext extended expect (broken replied place) got = cc
-silent_awaited link trext extended expect (raw code own levels) got = cc
+silent_awaited link trext extended expect given got = cc
 
 plain-preamble : (trext own : Bool) → own ≡ false → (trext || not own) ≡ true
 plain-preamble true own plain = refl
@@ -127,8 +125,6 @@ plain-preamble false false plain = refl
 -- where a reply by the TRext is awaited and sent, it makes no difference that the preamble is looked at
 pub plain_reception : (trext : Bool) (expect : Expect) (given : Given) → HoldsOfSent (λ sent. sent.extended ≡ false) given
     → reception_with trext false expect given ≡ reception_of expect given
-plain_reception trext expect silence plain = refl
 plain_reception trext expect (whole replied) plain =
     ap (λ (has : Bool). if has then reception_of expect (whole replied) else no_such_reply) (plain-preamble trext replied.sent.extended plain)
-plain_reception trext expect (broken replied place) plain = refl
-plain_reception trext expect (raw code own levels) plain = refl
+plain_reception trext expect given plain = refl

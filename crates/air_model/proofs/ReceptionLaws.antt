@@ -106,15 +106,11 @@ stream_reception link expect (raw code trext levels) received meets reads got is
 -- ... and where it gives none
 pub silent_reception : (link : LinkValue) (expect : Expect) (given : Given) → got_of link given ≡ gots.Silence → reception_of expect given ≡ no_stream
 silent_reception link expect silence got = refl
-silent_reception link expect (whole replied) got = cc
-silent_reception link expect (broken replied place) got = cc
-silent_reception link expect (raw code trext levels) got = cc
+silent_reception link expect given got = cc
 
 some_stream : (link : LinkValue) (expect : Expect) (given : Given) (reply : Reply) → reception_of expect given ≡ whole_reply reply → got_of link given ≢ gots.Silence
 some_stream link expect silence reply heard got = cc
-some_stream link expect (whole replied) reply heard got = cc
-some_stream link expect (broken replied place) reply heard got = cc
-some_stream link expect (raw code trext levels) reply heard got = cc
+some_stream link expect given reply heard got = cc
 
 pub from_whole : (received : Received) (reply : Reply) → reception_from received ≡ whole_reply reply → received ≡ Whole reply
 from_whole (Whole other) reply heard = cc
@@ -132,12 +128,8 @@ whole_is_heard link expect given reply meets reads heard =
 
 -- a Read brings no more words than a bank has
 pub few_words : (reply : Reply) → HasFewWords reply → FitsBank reply
-few_words (Rn16 rn) few = tt
-few_words (Epc pc epc) few = tt
-few_words (Handle rn) few = tt
 few_words (Words words) few = few.1
-few_words Header few = tt
-few_words (Error code) few = tt
+few_words reply few = tt
 
 -- 8,225 bits with the longest lead and 16 levels for each bit and for the dummy
 levels_most : (link : LinkValue) (sent : Sent) → IsSent (Some sent) → length (levels_of link sent) ≤ longest_stream

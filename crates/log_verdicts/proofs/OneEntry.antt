@@ -13,7 +13,7 @@ use Rattle.tag_machine.specs.TagValue.{StateValue, ReadyState, ArbitrateState, R
 use Rattle.log_verdicts.specs.Log.{LogEntry, Seen, Exchange, Befalls}
 use Rattle.log_verdicts.specs.Explaining.{Allows, Explains, LacksCommand, Manner, ByTables, WithLiberties, TakesCode, seen_answer_to, is_optional, outcome_of_heard, seen_of}
 use Rattle.log_verdicts.specs.laws.Logs.{IsLegalEntry, IsLegalHeard}
-use Rattle.log_verdicts.specs.laws.Kinds.{Kind, Settled, Enters, Replies, Gives, outcome_from, reworded, kind_of, HasSmallQ, KeepsSmallQ}
+use Rattle.log_verdicts.specs.laws.Kinds.{Kind, Settled, Enters, Gives, outcome_from, reworded, kind_of, HasSmallQ, KeepsSmallQ}
 use Rattle.log_verdicts.specs.laws.Known.{Known, Covers, CoversState, Follows, guessed, is_enters, any_behind, placed, prepared, waits}
 use Rattle.log_verdicts.proofs.KindsOfSteps.{of_kind}
 use Rattle.log_verdicts.proofs.OneKind.{AreSmall, none_small}
@@ -275,11 +275,10 @@ small_entered true session q one other slot small = small
 small_entered false session q one other slot small = small
 
 small_from : (kind : Kind) (words : List ℕ) (place : ℕ) → KeepsSmallQ kind → HasSmallQ (outcome_from kind words place).tag.state
-small_from (Settled outcome) words place small = small
 small_from (Enters session q body) words place small =
     small_entered (slot_of_draw q (reworded words place body) == 0) session q (body_after_draw (reworded words place body)) (body_after_draw (reworded words place body)) (slot_of_draw q (reworded words place body)) small
-small_from (Replies session q body) words place small = small
 small_from (Gives state body) words place small = small _
+small_from kind words place small = small
 
 small_heard : (heard : Option Command) (state : StateValue) (body : BodyValue) (words : List ℕ) (place : ℕ) → IsLegalHeard heard → HasSmallQ state → HasSmallQ (outcome_of_heard heard (tag_as state (reworded words place body))).tag.state
 small_heard heard state body words place legal small =

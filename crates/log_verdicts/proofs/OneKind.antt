@@ -132,15 +132,13 @@ body_of (Replies session q body) = body
 body_of (Gives state body) = body
 
 pub body_kept : (kind : Kind) (words : List ℕ) (place : ℕ) (words' : List ℕ) (place' : ℕ) → reworded words' place' (outcome_from kind words place).tag.body ≡ reworded words' place' (body_of kind)
-body_kept (Settled outcome) words place words' place' = refl
 body_kept (Enters session q body) words place words' place' = by (slot_of_draw q (reworded words place body) == 0)
   where
     by : (test : Bool) → reworded words' place' (if test then begin_reply session q (body_after_draw (reworded words place body)) else silent (ArbitrateState session q (slot_of_draw q (reworded words place body))) (body_after_draw (reworded words place body))).tag.body
         ≡ reworded words' place' body
     by true = refl
     by false = refl
-body_kept (Replies session q body) words place words' place' = refl
-body_kept (Gives state body) words place words' place' = refl
+body_kept kind words place words' place' = refl
 
 -- each word is one of 16 bits
 abbrev pub AreSmall : List ℕ → Type 0

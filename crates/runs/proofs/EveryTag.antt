@@ -7,7 +7,7 @@ use Rattle.std.specs.Cmp.Lexicographic.{pointwise, same_text}
 use Rattle.std.specs.List.{AllByRecursion}
 use Rattle.std.specs.Prelude.{nat_eq}
 use Rattle.access_ops.specs.declared.OpList.{OpList}
-use Rattle.air_model.specs.Channel.{Given, silence, whole, broken, raw, IsOfReplies}
+use Rattle.air_model.specs.Channel.{Given, whole, raw, IsOfReplies}
 use Rattle.tag_machine.specs.Exchange.{Replied}
 use Rattle.air_model.specs.Past.{Start, Record, Item, exchanged, tag_behind, next_entry}
 use Rattle.air_model.specs.Reception.{is_expected, reception_of}
@@ -99,12 +99,11 @@ lists-expected sent true reply number = lists-reply sent reply number
 lists-expected sent false reply number = nobody refl refl
 
 lists-given : (sent : Record) (given : Given) → IsOfReplies given → let listed = listed_from sent (reception_of expects.Epc given) in Lists listed (sender_where listed given)
-lists-given sent silence of = nobody refl refl
 lists-given sent (whole replied) of =
     let listed = listed_from sent (reception_of expects.Epc (whole replied)) in
     subst (λ (senders : List ℕ). Lists listed senders) (if_listed-is listed replied) (lists-expected sent (is_expected expects.Epc replied.sent) replied.sent.reply replied.number)
-lists-given sent (broken replied place) of = nobody refl refl
 lists-given sent (raw code trext levels) of = absurd of
+lists-given sent given of = nobody refl refl
 
 lists-by : (sent : Record) (command : Command) → ((rn : ℕ) → command ≡ commands.Ack rn → IsOfReplies sent.given) → let listed = listed_from sent (reception_of_ack sent command) in Lists listed (sender_where listed sent.given)
 lists-by sent (commands.Ack rn) of = lists-given sent sent.given (of rn refl)

@@ -18,7 +18,7 @@ use Rattle.command_grammar.specs.declared.commands.Command.{Command}
 use Rattle.command_grammar.specs.declared.commands.Command.TheVariants as commands
 use Rattle.pie_line.specs.Link.{LinkValue}
 use Rattle.q_round.specs.SpecValue.{SpecValue, IsLegalSpec}
-use Rattle.q_round.specs.Rounds.{Turn, query, adjust, rep, quiet, limit, is_last_turn, turn_of, is_over, AreOutcomes, slots_of, next_of_turn, next_command}
+use Rattle.q_round.specs.Rounds.{Turn, quiet, limit, is_last_turn, turn_of, is_over, AreOutcomes, slots_of, next_of_turn, next_command}
 use Rattle.q_round.proofs.SlotLaws.{slots-underway, slots-over}
 use Rattle.q_round.specs.declared.frame.Outcome.{Outcome}
 use Rattle.q_round.specs.declared.frame.Outcome.TheVariants.{Whole}
@@ -226,11 +226,9 @@ next_at_end round_ends.Quiet = nexts.Quiet
 next_at_end round_ends.Limit = nexts.Limit
 
 sends-underway : (spec : SpecValue) (link : LinkValue) (turn : Turn) (command : Command) → next_of_turn spec link turn ≡ nexts.Send command → is_last_turn turn ≡ false
-sends-underway spec link query command is = refl
-sends-underway spec link (adjust updn) command is = refl
-sends-underway spec link rep command is = refl
 sends-underway spec link quiet command is = absurd (cc)
 sends-underway spec link limit command is = absurd (cc)
+sends-underway spec link turn command is = refl
 
 -- where a slot command comes next, the round is not over
 pub send-underway : (spec : SpecValue) (link : LinkValue) (outcomes : List Outcome) (command : Command)

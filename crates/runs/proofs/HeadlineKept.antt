@@ -3,7 +3,7 @@ use Rattle.std.proofs.Common.{◌≡◌, inl, inr, Bool, true, false, not, ◌&&
 use Rattle.report_lines.specs.Kept.{is_of_exchanges, is_of_trace, is_plain, keeps}
 use Rattle.report_lines.specs.ReportLine.{ReportLine}
 use Rattle.report_lines.specs.declared.mode.Mode.{Mode}
-use Rattle.report_lines.specs.declared.mode.Mode.TheVariants.{Plain, Trace, Json, Exchanges, Vcd}
+use Rattle.report_lines.specs.declared.mode.Mode.TheVariants.{Trace, Exchanges, Vcd}
 use Rattle.runs.proofs.Among.{Among}
 use Rattle.runs.proofs.HeadlineLines.{PassesNoTrace}
 
@@ -27,11 +27,10 @@ other-fails false other is = refl
 
 -- what a mode leaves out, not each report has
 left-out : (mode : Mode) (line : ReportLine) → keeps mode line ≡ false → is_plain line ≡ false
-left-out Plain line is = is
 left-out Trace line is = other-fails (not (is_of_trace line)) (not (is_of_exchanges line)) is
-left-out Json line is = is
 left-out Exchanges line is = first-fails (not (is_of_trace line)) (not (is_of_exchanges line)) is
 left-out Vcd line is = absurd (cc)
+left-out mode line is = is
 
 filter-one : (test keep : ReportLine → Bool) (line : ReportLine) (lines : List ReportLine) (b : Bool) → keep line ≡ b → (b ≡ false → test line ≡ false)
     → filter test (filter keep lines) ≡ filter test lines → filter test (filter keep (line ∷ lines)) ≡ filter test (line ∷ lines)

@@ -18,9 +18,8 @@ legal-select version tags command is = absurd is
 
 pub legal-step : (version : Version) (tags : ℕ) (step : Step) → IsStep version tags step → IsLegalStep step
 legal-step version tags (steps.Select command) is = legal-select version tags command is
-legal-step version tags steps.Nak is = tt
-legal-step version tags (steps.Event event number) is = tt
 legal-step version tags (steps.Round spec operations) is = record { legal = is.0.legal; few = is.1.few }
+legal-step version tags step is = tt
 
 legal-each : (version : Version) (tags : ℕ) (steps : List Step) → AllByRecursion (IsStep version tags) steps → AreLegalSteps steps
 legal-each version tags [] are = tt

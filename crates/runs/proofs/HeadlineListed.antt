@@ -6,7 +6,7 @@ use Rattle.air_model.specs.Channel.{Given, whole}
 use Rattle.tag_machine.specs.Exchange.{Replied}
 use Rattle.air_model.specs.Past.{Start, Record, Item, exchanged, past_behind_command, rounds_in}
 use Rattle.air_model.specs.Reception.{has_handle, is_expected, reception_of}
-use Rattle.reply_grammar.specs.Reception.{Reception, no_stream, whole_reply, no_such_reply}
+use Rattle.reply_grammar.specs.Reception.{Reception, whole_reply, no_such_reply}
 use Rattle.runs.specs.Headline.{IsSelect, IsLegalStep, AreLegalSteps, IsRecordOf, Acknowledges, IsGivenWhole, is_list_line, begins_slot}
 use Rattle.runs.specs.History.{past_behind_round, past_behind_step, history_of}
 use Rattle.runs.specs.Listing.{Listed, reception_of_ack, listed_from, listed_by}
@@ -168,10 +168,8 @@ lists-none sent command other = refl
 -- ... and none at another place
 lists-elsewhere : (round slot : ℕ) (sent : Record) (reception : Reception) → (sent.round == round && sent.slot == slot) ≡ false
     → filter (is_list_line round slot) (map list_line (listed_from sent reception)) ≡ []
-lists-elsewhere round slot sent no_stream other = refl
-lists-elsewhere round slot sent no_such_reply other = refl
 lists-elsewhere round slot sent (whole_reply (replies.Epc pc epc)) other = rw other refl
-lists-elsewhere round slot sent (whole_reply reply) other = refl
+lists-elsewhere round slot sent reception other = refl
 
 other-place : (a b c d : ℕ) → IsEarlier a b c d → (a == c && b == d) ≡ false
 other-place a b c d (inl less) = let other : (a == c) ≡ false = ne_eqb a c (λ same. absurd (omega (arith, less, same))) in rw other refl

@@ -2,7 +2,7 @@
 -- reply to the tag with its number.
 use Rattle.std.proofs.Common.{◌≡◌, ℕ, zero, suc, ◌+◌, Bool, true, false, inl, inr, List, [], ◌∷◌, Contains, Option, Some, None, slice_get, if◌then◌else◌, refl, ap, sym, ◌∙◌, subst, arith}
 use Rattle.tag_machine.specs.Exchange.{replies_in, Replied, is_missed, outcome_unless, tag_after_events}
-use Rattle.air_model.specs.Channel.{given_in, Given, silence, whole, broken, raw, whole_or_silence, first_broken, default_given, given_of, IsOfReplies}
+use Rattle.air_model.specs.Channel.{given_in, Given, whole, broken, raw, whole_or_silence, first_broken, default_given, given_of, IsOfReplies}
 use Rattle.air_model.specs.Past.{Start, Record, Item, tag_behind, tags_behind, next_entry, next_record, hearers_of}
 use Rattle.air_model.specs.Reception.{is_expected, reception_of}
 use Rattle.reply_grammar.specs.Reception.{whole_reply, no_such_reply}
@@ -55,10 +55,9 @@ first-broken (one ∷ others) place replied given = absurd (cc)
 given-among : (link : LinkValue) (replies : List Replied) (choice : Option Choice) (several : Several) (replied : Replied) → given_of link replies choice several ≡ whole replied
     → Among replied replies
 given-among link replies (Some (choices.Pick number)) several replied given = picked replies (slice_get replies number) number replied refl given
-given-among link replies (Some choices.Silent) several replied given = absurd (cc)
 given-among link replies (Some (choices.Break place)) several replied given = first-broken replies place replied given
-given-among link replies (Some (choices.Raw levels)) several replied given = absurd (cc)
 given-among link replies None several replied given = by-default several replies replied given
+given-among link replies choice several replied given = absurd (cc)
 
 -- what a tag becomes by a command that it didn't miss
 record Hears (missed : Bool) (command : Command) (tag : TagValue) (sent : Sent) : Type 0 where
@@ -117,11 +116,10 @@ whole-reply false sent reply heard = absurd (cc)
 -- an EPC that came whole, and not as a raw stream, was given whole
 given-whole : (given : Given) (pc : ℕ) (epc : List ℕ) → IsOfReplies given → reception_of expects.Epc given ≡ whole_reply (replies.Epc pc epc)
     → (replied : Replied) × IsGivenWhole given pc epc replied
-given-whole silence pc epc of heard = absurd (cc)
 given-whole (whole replied) pc epc of heard =
     (replied, record { unbroken = refl; reply = whole-reply (is_expected expects.Epc replied.sent) replied.sent.reply (replies.Epc pc epc) heard })
-given-whole (broken replied place) pc epc of heard = absurd (cc)
 given-whole (raw code trext levels) pc epc of heard = absurd of
+given-whole given pc epc of heard = absurd (cc)
 
 -- a list line is that of one record, which has what a tag sent, where no raw stream is given
 pub sent-by-a-tag : RoundsKeepLimit → (start : Start) (steps : List Step) (listed : Listed) → AreLegalSteps steps → HasNoRawStream start.entries

@@ -1,7 +1,7 @@
 -- The tag lines of a report are those of each tag as it stands in the end.
 use Rattle.std.proofs.Common.{◌≡◌, ℕ, ◌+◌, List, [], ◌∷◌, ◌++◌, map, filter, refl, ap, ◌∙◌}
 use Rattle.std.proofs.lemmas.List.Elements.{filter-append}
-use Rattle.air_model.specs.Past.{Start, Item, befell, exchanged, operated, ended, tag_behind, tags_behind_from}
+use Rattle.air_model.specs.Past.{Start, Item, exchanged, tag_behind, tags_behind_from}
 use Rattle.runs.specs.Headline.{is_tag_line, tag_lines_behind}
 use Rattle.runs.specs.Listing.{listed_by, listing_of}
 use Rattle.runs.specs.Report.{exchange_lines, list_line, item_lines, past_lines, tag_lines, last_lines, run_lines, report_of}
@@ -21,13 +21,11 @@ tag-no-trace line is = refl
 
 -- no item has a tag line
 no-item : (link : LinkValue) (item : Item) → filter is_tag_line (item_lines link item) ≡ []
-no-item link (befell event number) = refl
 no-item link (exchanged sent) =
     filter-append is_tag_line (exchange_lines link sent) (map list_line (listed_by sent))
     ∙ ap (λ (lines : List ReportLine). lines ++ filter is_tag_line (map list_line (listed_by sent))) (no-exchange is_tag_line tag-no-trace link sent)
     ∙ no-listed is_tag_line (λ listed. refl) (listed_by sent)
-no-item link (operated round slot index result) = refl
-no-item link (ended round end slots) = refl
+no-item link item = refl
 
 -- no past has one
 no-past : (link : LinkValue) (past : List Item) → filter is_tag_line (past_lines link past) ≡ []

@@ -11,7 +11,7 @@ use Rattle.access_ops.specs.declared.op_next.OpNext.{OpNext}
 use Rattle.access_ops.specs.declared.op_next.OpNext.TheVariants.{Send, Result}
 use Rattle.access_ops.specs.declared.op_next.OpResult.{OpResult}
 use Rattle.tag_machine.specs.Exchange.{AreLegalTags, outcome_unless, outcomes_from, tags_after, tags_after_event, tag_after_events, is_missed}
-use Rattle.air_model.specs.Channel.{given_in, Given, silence, whole, broken, raw}
+use Rattle.air_model.specs.Channel.{given_in, Given, whole, raw}
 use Rattle.air_model.specs.Past.{Start, Record, Item, befell, exchanged, operated, ended, next_record, next_entry, past_behind_command, rounds_in, tags_behind, tags_behind_from}
 use Rattle.air_model.specs.Reception.{has_handle, has_preamble, is_expected, reception_of, reception_with, IsGiven}
 use Rattle.air_events.specs.declared.Entry.{Entry}
@@ -174,10 +174,9 @@ received-suits code trext expect levels reply heard =
     (is.answers.suits, is.answers.in_range)
 
 reception-suits : (expect : Expect) (given : Given) (reply : Reply) → IsGiven given → reception_of expect given ≡ whole_reply reply → Suits reply expect × IsReply reply
-reception-suits expect silence reply range heard = absurd (cc)
 reception-suits expect (whole replied) reply range heard = whole-suits (is_expected expect replied.sent) expect replied.sent reply refl range heard
-reception-suits expect (broken replied place) reply range heard = absurd (cc)
 reception-suits expect (raw code trext levels) reply range heard = received-suits code trext expect levels reply heard
+reception-suits expect given reply range heard = absurd (cc)
 
 whole-awaited : (awaited : Bool) (reception : Reception) (reply : Reply) → (if awaited then reception else no_such_reply) ≡ whole_reply reply → reception ≡ whole_reply reply
 whole-awaited true reception reply heard = heard
@@ -185,11 +184,10 @@ whole-awaited false reception reply heard = absurd (cc)
 
 awaited-suits : (trext extended : Bool) (expect : Expect) (given : Given) (reply : Reply) → IsGiven given → reception_with trext extended expect given ≡ whole_reply reply
     → Suits reply expect × IsReply reply
-awaited-suits trext extended expect silence reply range heard = absurd (cc)
 awaited-suits trext extended expect (whole replied) reply range heard =
     reception-suits expect (whole replied) reply range (whole-awaited (has_preamble trext extended replied.sent) (reception_of expect (whole replied)) reply heard)
-awaited-suits trext extended expect (broken replied place) reply range heard = absurd (cc)
 awaited-suits trext extended expect (raw code own levels) reply range heard = received-suits code (extended || own) expect levels reply heard
+awaited-suits trext extended expect given reply range heard = absurd (cc)
 
 -- what is made of an answer is this
 record IsAnswered (expect : Expect) (reception : Reception) : Type 0 where

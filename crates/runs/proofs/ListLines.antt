@@ -7,7 +7,7 @@ use Rattle.air_model.specs.Past.{Record, Item, exchanged}
 use Rattle.air_model.specs.Channel.{IsOfReplies}
 use Rattle.runs.specs.Headline.{Acknowledges}
 use Rattle.runs.specs.Listing.{Listed, reception_of_ack, listed_from, listed_by, listing_of}
-use Rattle.reply_grammar.specs.Reception.{Reception, no_stream, whole_reply, no_such_reply}
+use Rattle.reply_grammar.specs.Reception.{Reception, whole_reply}
 use Rattle.reply_grammar.specs.declared.expected.Reply.{Reply}
 use Rattle.reply_grammar.specs.declared.expected.Reply.TheVariants as replies
 use Rattle.runs.specs.ListLines.{entries_in, IsOfRepliesIn, IsEntryOf}
@@ -51,9 +51,8 @@ reply-round sent (replies.Epc pc epc) one is = cc
 reply-round sent reply one is = absurd (cc)
 
 reception-round : (sent : Record) (reception : Reception) (one : Listed) → listed_from sent reception ≡ one ∷ [] → one.round ≡ sent.round
-reception-round sent no_stream one is = absurd (cc)
 reception-round sent (whole_reply reply) one is = reply-round sent reply one is
-reception-round sent no_such_reply one is = absurd (cc)
+reception-round sent reception one is = absurd (cc)
 
 entry-round : (sent : Record) (one : Listed) → listed_by sent ≡ one ∷ [] → one.round ≡ sent.round
 entry-round sent one is = reception-round sent (reception_of_ack sent sent.command) one is
@@ -63,10 +62,8 @@ abbrev of_round : ℕ → List Listed → List Listed
 of_round round listing = filter (λ listed. listed.round == round) listing
 
 none-elsewhere : (sent : Record) (reception : Reception) (round : ℕ) → is_of_round round sent ≡ false → of_round round (listed_from sent reception) ≡ []
-none-elsewhere sent no_stream round other = refl
-none-elsewhere sent no_such_reply round other = refl
 none-elsewhere sent (whole_reply (replies.Epc pc epc)) round other = rw other refl
-none-elsewhere sent (whole_reply reply) round other = refl
+none-elsewhere sent reception round other = refl
 
 -- one entry and its sender count where the record is of the round
 zip-one : (history : List Item) (round : ℕ) (here : Bool) (one : Listed) (number : ℕ) → here ≡ true → IsEntryOf history round one number

@@ -71,10 +71,8 @@ queries-one spec link link2 number entry (tag ∷ tags) =
     ap (λ (outcomes : List TagOutcome). outcome_in number (query_of spec link) entry tag ∷ outcomes) (queries-one spec link link2 (number + 1) entry tags)
 
 outcomes-one : (sent : Sent) (entry : Entry) (tags : List TagValue) → outcomes_from 0 (command_of sent) entry tags ≡ outcomes_from 0 (command2_of sent) entry tags
-outcomes-one (acks rn) entry tags = refl
-outcomes-one (reps session) entry tags = refl
-outcomes-one (adjusts session updn) entry tags = refl
 outcomes-one (queries spec link link2) entry tags = queries-one spec link link2 0 entry tags
+outcomes-one sent entry tags = refl
 
 -- what such a command keeps of each tag
 step-keeps : (sent : Sent) (state : StateValue) (body : BodyValue) → Keeps (record { state = state; body = body }) (step (command_of sent) state body).tag
@@ -118,9 +116,7 @@ senders-from sent sent2 (whole_reply reply) given = refl
 -- what is received of an ACK goes by what was given
 heard-one : (record1 record2 : Record) (sent : Sent) → record1.given ≡ record2.given → reception_of_ack record1 (command_of sent) ≡ reception_of_ack record2 (command2_of sent)
 heard-one record1 record2 (acks rn) given = ap (reception_of expects.Epc) given
-heard-one record1 record2 (reps session) given = refl
-heard-one record1 record2 (adjusts session updn) given = refl
-heard-one record1 record2 (queries spec link link2) given = refl
+heard-one record1 record2 sent given = refl
 
 -- two pasts, each behind a start of its own: the tags stand alike, and alike was listed since the last round ended; what the rounds
 -- before told stands still; of the first tags each one keeps what it keeps; and in the second past no round ended
@@ -212,10 +208,8 @@ ack-alike b slot slot2 rn past past2 alike =
 
 answer-alike : (b : Both) (slot slot2 : ℕ) (reception : Reception) (past past2 : List Item) → AreBoth b past past2
     → AreBoth b (past_behind_answer b.start b.operations b.round slot reception past) (past_behind_answer b.start2 b.operations2 b.round2 slot2 reception past2)
-answer-alike b slot slot2 no_stream past past2 alike = alike
-answer-alike b slot slot2 no_such_reply past past2 alike = alike
 answer-alike b slot slot2 (whole_reply (replies.Rn16 rn)) past past2 alike = ack-alike b slot slot2 rn past past2 alike
-answer-alike b slot slot2 (whole_reply reply) past past2 alike = alike
+answer-alike b slot slot2 reception past past2 alike = alike
 
 received-alike : (b : Both) (slot slot2 : ℕ) (sent : Sent) (past past2 : List Item) → AreBoth b past past2
     → slot_reception b.start b.round slot (command_of sent) past ≡ slot_reception b.start2 b.round2 slot2 (command2_of sent) past2

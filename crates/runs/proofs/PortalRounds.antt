@@ -61,9 +61,7 @@ specs-of-session session (steps.Round spec operations ∷ taken) each =
         → specs_of later ≡ specs → specs_of (if passes then step ∷ later else later) ≡ (if passes then spec ∷ specs else specs)
     kept true step spec later specs here same = here later ∙ ap (λ (l : List SpecValue). spec ∷ l) same
     kept false step spec later specs here same = same
-specs-of-session session (steps.Select command ∷ taken) each = absurd each.0
-specs-of-session session (steps.Nak ∷ taken) each = absurd each.0
-specs-of-session session (steps.Event event number ∷ taken) each = absurd each.0
+specs-of-session session taken each = absurd each.0
 
 plain-kept : (session : ℕ) (taken : List Step) → AllByRecursion IsPlainStep taken → AllByRecursion IsPlainStep (filter (is_round_of session) taken)
 plain-kept session [] each = tt
@@ -97,9 +95,7 @@ plain-of scenario portals = record { entries = portals.entries; several = portal
 pub plain-steps : (session : ℕ) (taken : List Step) → AreLegalSteps taken → AreTurns session taken → AllByRecursion IsPlainStep taken
 plain-steps session [] legal turns = tt
 plain-steps session (steps.Round spec operations ∷ taken) legal turns = ((legal.0.legal, turns.0.2), plain-steps (other_portal session) taken legal.1 turns.1)
-plain-steps session (steps.Select command ∷ taken) legal turns = absurd turns.0
-plain-steps session (steps.Nak ∷ taken) legal turns = absurd turns.0
-plain-steps session (steps.Event event number ∷ taken) legal turns = absurd turns.0
+plain-steps session taken legal turns = absurd turns.0
 
 -- its tags are new at the start
 all-new : (tags : List TagSpec) → All IsNewTag (map scenario_tag tags)
@@ -122,16 +118,12 @@ of-portals : (session : ℕ) (taken : List Step) → (session ≡ 2) ⊎ (sessio
 of-portals session [] portal turns = All-nil IsOfPortal
 of-portals session (steps.Round spec operations ∷ taken) portal turns =
     All-cons IsOfPortal spec (specs_of taken) (of-turn session spec portal turns.0.0) (of-portals (other_portal session) taken (turned session portal) turns.1)
-of-portals session (steps.Select command ∷ taken) portal turns = absurd turns.0
-of-portals session (steps.Nak ∷ taken) portal turns = absurd turns.0
-of-portals session (steps.Event event number ∷ taken) portal turns = absurd turns.0
+of-portals session taken portal turns = absurd turns.0
 
 legal-specs : (taken : List Step) → AllByRecursion IsPlainStep taken → All IsLegalSpec (specs_of taken)
 legal-specs [] each = All-nil IsLegalSpec
 legal-specs (steps.Round spec operations ∷ taken) each = All-cons IsLegalSpec spec (specs_of taken) each.0.0 (legal-specs taken each.1)
-legal-specs (steps.Select command ∷ taken) each = absurd each.0
-legal-specs (steps.Nak ∷ taken) each = absurd each.0
-legal-specs (steps.Event event number ∷ taken) each = absurd each.0
+legal-specs taken each = absurd each.0
 
 pub rounds-of-portals : (scenario : Scenario) → IsOfPortals scenario → All IsOfPortal (specs_of scenario.steps)
 rounds-of-portals scenario portals = of-portals 2 scenario.steps (inl refl) portals.turns

@@ -17,11 +17,9 @@ left-alone : (on : Frame) (outcome : SlotOutcome) (matched listed : Bool) (state
 left-alone on outcome matched listed ReadyState heard is = record { earlier = is; not_now = refl }
 left-alone on outcome matched listed (ArbitrateState own own_q slot) heard is = record { unlisted = is.unlisted; not_now = refl; counter = inl is.counter }
 left-alone on outcome matched listed (ReplyState own own_q rn) heard is = record { unlisted = is; not_now = refl; heard = λ e. let none = heard e in absurd (cc) }
-left-alone on outcome matched listed (AcknowledgedState own own_q rn) heard is = absurd is
-left-alone on outcome matched listed (OpenState held) heard is = absurd is
-left-alone on outcome matched listed (SecuredState held) heard is = absurd is
 left-alone on outcome matched listed KilledState heard is = (is, refl)
 left-alone on outcome matched listed UnpoweredState heard is = (is, refl)
+left-alone on outcome matched listed state heard is = absurd is
 
 -- Where no ACK is sent in a slot, in which no tag answers silently, a tag stands before the next slot command as it stood after this one.
 pub unacknowledged-stands : (on : Frame) (outcome : SlotOutcome) (first : TagValue) (listed : Bool) (tag : TagValue)

@@ -4,7 +4,7 @@ use Rattle.std.specs.List.{AllByRecursion}
 use Rattle.q_round.specs.declared.frame.Outcome.{Outcome as SlotOutcome}
 use Rattle.q_round.specs.declared.frame.Outcome.TheVariants.{Silence}
 use Rattle.q_round.specs.laws.RoundLaws.{IsSilentFrame}
-use Rattle.tag_machine.specs.TagValue.{StateValue, ReadyState, ArbitrateState, ReplyState, AcknowledgedState, OpenState, SecuredState, KilledState, UnpoweredState, TagValue, is_present}
+use Rattle.tag_machine.specs.TagValue.{StateValue, ReadyState, ArbitrateState, AcknowledgedState, OpenState, SecuredState, KilledState, UnpoweredState, TagValue, is_present}
 use Rattle.runs.specs.TagInRound.{is_matched, IsCounterBefore, flags_in_round}
 use Rattle.runs.specs.TagAtEnd.{is_acknowledged, StandsAtQuiet, StandsAtEnd, IsListedOnce}
 use Rattle.runs.proofs.Members.{Frame, Member, MayStand, StandsBefore}
@@ -19,13 +19,11 @@ new-once first listed listed_now part new = record { matched = λ e. part; match
 
 once : (on : Frame) (outcome : SlotOutcome) (of : Member) (state : StateValue) → MayStand on outcome of state → IsListedOnce of.first of.listed of.listed_now
 once on outcome of ReadyState is = done-once of.first of.listed of.listed_now is.earlier is.not_now
-once on outcome of (ArbitrateState own own_q slot) is = new-once of.first of.listed of.listed_now is.unlisted.takes_part is.unlisted.not_listed
-once on outcome of (ReplyState own own_q rn) is = new-once of.first of.listed of.listed_now is.unlisted.takes_part is.unlisted.not_listed
-once on outcome of (AcknowledgedState own own_q rn) is = new-once of.first of.listed of.listed_now is.unlisted.takes_part is.unlisted.not_listed
 once on outcome of (OpenState held) is = absurd is
 once on outcome of (SecuredState held) is = absurd is
 once on outcome of KilledState is = done-once of.first of.listed of.listed_now (is.0.not_listed ∙ sym is.0.no_part) is.1
 once on outcome of UnpoweredState is = done-once of.first of.listed of.listed_now (is.0.not_listed ∙ sym is.0.no_part) is.1
+once on outcome of state is = new-once of.first of.listed of.listed_now is.unlisted.takes_part is.unlisted.not_listed
 
 -- A tag is listed in one slot of a round at most, and only where it matched.
 pub listed-once : (on : Frame) (outcome : SlotOutcome) (of : Member) (tag : TagValue) → StandsBefore on outcome of tag → IsListedOnce of.first of.listed of.listed_now
@@ -53,12 +51,11 @@ finished : (on : Frame) (outcome : SlotOutcome) (of : Member) (state : StateValu
     → IsFinished (is_matched of.first.state) of.listed of.listed_now state
 finished on outcome of ReadyState silent is = record { listed_is = is.earlier; not_now = is.not_now; ready = λ e. refl }
 finished on outcome of (ArbitrateState own own_q slot) silent is = absurd (no-counter on.q outcome on.slots slot silent is.counter)
-finished on outcome of (ReplyState own own_q rn) silent is = absurd (is.heard silent.silent.0)
-finished on outcome of (AcknowledgedState own own_q rn) silent is = absurd (is.heard silent.silent.0)
 finished on outcome of (OpenState held) silent is = absurd is
 finished on outcome of (SecuredState held) silent is = absurd is
 finished on outcome of KilledState silent is = record { listed_is = is.0.not_listed ∙ sym is.0.no_part; not_now = is.1; ready = λ e. absurd (cc) }
 finished on outcome of UnpoweredState silent is = record { listed_is = is.0.not_listed ∙ sym is.0.no_part; not_now = is.1; ready = λ e. absurd (cc) }
+finished on outcome of state silent is = absurd (is.heard silent.silent.0)
 
 -- Behind a frame of silent slots each tag that matched was listed, and each tag that is present is ready.
 pub quiet-stands : (on : Frame) (outcome : SlotOutcome) (of : Member) (tag : TagValue) → IsSilentFrame on.q (outcome ∷ on.slots) → StandsBefore on outcome of tag
@@ -83,12 +80,6 @@ is-where : (on : Frame) (outcome : SlotOutcome) (of : Member) (state : StateValu
     → IsWhere (is_matched of.first.state) of.listed of.listed_now state
 is-where on outcome of ReadyState is =
     let e = is.earlier in let n = is.not_now in record { unlisted = λ part new none. absurd (cc); last = λ now. absurd (cc); earlier = λ before. refl; outside = λ none present. refl }
-is-where on outcome of (ArbitrateState own own_q slot) is =
-    let n = is.not_now in let u = is.unlisted.not_listed in let p = is.unlisted.takes_part in
-    record { unlisted = λ part new none. refl; last = λ now. absurd (cc); earlier = λ before. absurd (cc); outside = λ none present. absurd (cc) }
-is-where on outcome of (ReplyState own own_q rn) is =
-    let n = is.not_now in let u = is.unlisted.not_listed in let p = is.unlisted.takes_part in
-    record { unlisted = λ part new none. refl; last = λ now. absurd (cc); earlier = λ before. absurd (cc); outside = λ none present. absurd (cc) }
 is-where on outcome of (AcknowledgedState own own_q rn) is =
     let n = is.now in let u = is.unlisted.not_listed in let p = is.unlisted.takes_part in
     record { unlisted = λ part new none. absurd (cc); last = λ now. refl; earlier = λ before. absurd (cc); outside = λ none present. absurd (cc) }
@@ -100,6 +91,9 @@ is-where on outcome of KilledState is =
 is-where on outcome of UnpoweredState is =
     let p = is.0.no_part in let u = is.0.not_listed in let n = is.1 in
     record { unlisted = λ part new none. absurd (cc); last = λ now. absurd (cc); earlier = λ before. absurd (cc); outside = λ none present. absurd (cc) }
+is-where on outcome of state is =
+    let n = is.not_now in let u = is.unlisted.not_listed in let p = is.unlisted.takes_part in
+    record { unlisted = λ part new none. refl; last = λ now. absurd (cc); earlier = λ before. absurd (cc); outside = λ none present. absurd (cc) }
 
 not_both : (b : Bool) → (b ≡ true → ⊥) → b ≡ false
 not_both true never = absurd (never refl)

@@ -10,7 +10,7 @@ use Rattle.tag_machine.specs.Answers.{Outcome, silent}
 use Rattle.tag_machine.specs.Draws.{body_after_draw, begin_reply, slot_of_draw, enter, body_after_inversion}
 use Rattle.tag_machine.specs.Inventory.{take_part, body_after_close, query}
 use Rattle.tag_machine.specs.Step.{step}
-use Rattle.tag_machine.specs.TagValue.{StateValue, ReadyState, ArbitrateState, ReplyState, AcknowledgedState, OpenState, SecuredState, KilledState, UnpoweredState, BodyValue, TagValue, is_present}
+use Rattle.tag_machine.specs.TagValue.{StateValue, ReadyState, ArbitrateState, ReplyState, AcknowledgedState, OpenState, SecuredState, BodyValue, TagValue, is_present}
 use Rattle.runs.proofs.TagSteps.{slot_drawn}
 use Rattle.runs.specs.TagInRound.{is_matched, IsAfterSlot, flags_closed, flags_behind_query, StandsAfterSlot, slot_answer_of}
 
@@ -84,15 +84,7 @@ query-begins sel session target q (ReplyState own own_q rn) body = took_part ses
 query-begins sel session target q (AcknowledgedState own own_q rn) body = closed-begins sel session target q own body
 query-begins sel session target q (OpenState held) body = closed-begins sel session target q held.session body
 query-begins sel session target q (SecuredState held) body = closed-begins sel session target q held.session body
-query-begins sel session target q KilledState body = record {
-  state = record { no_part = refl; not_listed = refl };
-  answer = refl;
-  matched = refl;
-  present = refl;
-  flags_are = refl;
-  memory = refl;
-}
-query-begins sel session target q UnpoweredState body = record {
+query-begins sel session target q state body = record {
   state = record { no_part = refl; not_listed = refl };
   answer = refl;
   matched = refl;

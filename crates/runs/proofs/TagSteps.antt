@@ -16,7 +16,7 @@ use Rattle.tag_machine.specs.Answers.{Outcome, silent}
 use Rattle.tag_machine.specs.Draws.{draw_of, body_after_draw, begin_reply, slot_of_draw, enter, close, back}
 use Rattle.tag_machine.specs.Inventory.{slot_below, count_down, query_rep, q_after_adjust, query_adjust}
 use Rattle.tag_machine.specs.Step.{step}
-use Rattle.tag_machine.specs.TagValue.{StateValue, ReadyState, ArbitrateState, ReplyState, AcknowledgedState, OpenState, SecuredState, KilledState, UnpoweredState, BodyValue, TagValue}
+use Rattle.tag_machine.specs.TagValue.{StateValue, ReadyState, ArbitrateState, ReplyState, AcknowledgedState, KilledState, UnpoweredState, BodyValue, TagValue}
 use Rattle.runs.specs.TagInRound.{is_matched, IsToCome, HasAnswered, IsCounter, IsUnlisted, IsAfterSlot, IsCounterBefore, flags_in_round, KeepsBody, slot_answer_of}
 use Rattle.runs.proofs.Members.{Frame, Member, MayStand, StandsAfter, StandsBefore}
 
@@ -204,14 +204,13 @@ rep-goes on by of (AcknowledgedState own own_q rn) body room is kept =
     (close on.session body) (silent (AcknowledgedState own own_q rn) body) is.unlisted.session_is
     (listed_then next of body.flags (close on.session body) is.now
     (closes next of.first of.listed body is.unlisted.takes_part is.unlisted.not_listed kept))
-rep-goes on by of (OpenState held) body room is kept = absurd is
-rep-goes on by of (SecuredState held) body room is kept = absurd is
 rep-goes on by of KilledState body room is kept =
     let next = frame_with on by.outcome in
     not_listed_now next of body.flags (silent KilledState body) is.1 (stays next of.first of.listed KilledState body refl is.0 kept)
 rep-goes on by of UnpoweredState body room is kept =
     let next = frame_with on by.outcome in
     not_listed_now next of body.flags (silent UnpoweredState body) is.1 (stays next of.first of.listed UnpoweredState body refl is.0 kept)
+rep-goes on by of state body room is kept = absurd is
 
 -- 6.3.2.11.2.2 QueryAdjust: the tag moves its Q as the interrogator does
 moved : (updn : UpDn) (q next_q : ℕ) → q ≤ 15 → next_q ≤ 15 → IsMoved updn q next_q → q_after_adjust updn q ≡ next_q
@@ -253,14 +252,13 @@ adjust-goes on by of updn (AcknowledgedState own own_q rn) body moves is kept =
     (close on.session body) (silent (AcknowledgedState own own_q rn) body) is.unlisted.session_is
     (listed_then next of body.flags (close on.session body) is.now
     (closes next of.first of.listed body is.unlisted.takes_part is.unlisted.not_listed kept))
-adjust-goes on by of updn (OpenState held) body moves is kept = absurd is
-adjust-goes on by of updn (SecuredState held) body moves is kept = absurd is
 adjust-goes on by of updn KilledState body moves is kept =
     let next = begun on.session by.next_q in
     not_listed_now next of body.flags (silent KilledState body) is.1 (stays next of.first of.listed KilledState body refl is.0 kept)
 adjust-goes on by of updn UnpoweredState body moves is kept =
     let next = begun on.session by.next_q in
     not_listed_now next of body.flags (silent UnpoweredState body) is.1 (stays next of.first of.listed UnpoweredState body refl is.0 kept)
+adjust-goes on by of updn state body moves is kept = absurd is
 
 -- the frame that goes on behind the slot
 abbrev pub next_frame : (on : Frame) → Turn on → Frame
