@@ -54,15 +54,13 @@ none-broken link (replied ∷ others) place levels same none = absurd (omega (ar
 -- what is given by default
 pub several-broken : (link : LinkValue) (replies : List Replied) (levels : List Bool) → 1 < length (answers_of replies) → levels ≡ heard_levels link (first_broken replies 0)
     → levels ≡ heard_levels link (default_given severals.Break replies)
-several-broken link [] levels many same = absurd (omega (arith, many))
-several-broken link (replied ∷ []) levels many same = absurd (omega (arith, many))
 several-broken link (replied ∷ other ∷ others) levels many same = same
+several-broken link replies levels many same = absurd (omega (arith, many))
 
 pub one-whole : (link : LinkValue) (replies : List Replied) (levels : List Bool) → length (answers_of replies) ≤ 1 → levels ≡ heard_levels link (whole_or_silence (slice_get replies 0))
     → levels ≡ heard_levels link (default_given severals.Break replies)
-one-whole link [] levels few same = same
-one-whole link (replied ∷ []) levels few same = same
 one-whole link (replied ∷ other ∷ others) levels few same = absurd (omega (arith, few))
+one-whole link replies levels few same = same
 
 pub captured : (link : LinkValue) (replies : List Replied) (levels : List Bool) → levels ≡ heard_levels link (whole_or_silence (slice_get replies 0))
     → levels ≡ heard_levels link (default_given severals.Capture replies)

@@ -243,9 +243,8 @@ record-awaits start sent (tells result later) awaits = tt
 record-awaits start sent done awaits = tt
 
 result-awaits : (dialogue : Dialogue) → AwaitsReplies dialogue → AwaitsReplies (dialogue_behind_result dialogue)
-result-awaits (sends command expect extended go_on) awaits = tt
 result-awaits (tells result later) awaits = awaits
-result-awaits done awaits = tt
+result-awaits dialogue awaits = tt
 
 exchange-awaits : (start : Start) (operations : OpList) (sent : Record) (command : Command) (dialogue : Dialogue) → AwaitsReplies dialogue
     → AwaitsReplies (dialogue_behind_exchange start operations sent command dialogue)

@@ -15,7 +15,7 @@ use Rattle.reply_grammar.specs.declared.expected.Reply.TheVariants as replies
 use Rattle.reply_wire.specs.Heard.{pair_received}
 use Rattle.reply_wire.specs.Received.{IsReceived}
 use Rattle.tag_machine.specs.Exchange.{Replied}
-use Rattle.air_model.specs.Channel.{Given, IsOfStreamLength, whole_or_silence, first_broken, default_given, given_of, got_of, heard_levels, silence, whole, broken, raw}
+use Rattle.air_model.specs.Channel.{Given, IsOfStreamLength, whole_or_silence, first_broken, default_given, given_of, got_of, heard_levels, silence, broken}
 use Rattle.air_model.specs.Past.{Start, Record, Item, next_entry, next_record, tags_behind}
 use Rattle.air_model.specs.Reception.{IsGivenFor, reception_of}
 use Rattle.air_model.specs.declared.got.Got.TheVariants.{Silence}
@@ -56,9 +56,7 @@ made-length start past sent auditor is =
 
 some-stream : (link : LinkValue) (given : Given) → heard_levels link given ≢ [] → got_of link given ≢ Silence
 some-stream link silence some got = some refl
-some-stream link (whole replied) some got = cc
-some-stream link (broken replied place) some got = cc
-some-stream link (raw code trext levels) some got = cc
+some-stream link given some got = cc
 
 -- what a reception lists
 lists-from : (sent : Record) (reception : Reception) → listed_by sent ≡ listed_from sent reception → Lists (pair_received reception) sent

@@ -139,9 +139,6 @@ not-refused fields intervals faults.Number spells refused = refused.1 intervals 
 
 -- a line of enough fields is a tx line or none
 tx-by-fields : Laws → (line : List ℕ) (fields : List (List ℕ)) → fields_of line ≡ fields → 3 ≤ length fields → length fields ≤ most_tx_intervals + 2 → OrNot (TxFields line)
-tx-by-fields laws line [] are some few = absurd (omega (arith, some))
-tx-by-fields laws line (first ∷ []) are some few = absurd (omega (arith, some))
-tx-by-fields laws line (first ∷ exchange ∷ []) are some few = absurd (omega (arith, some))
 tx-by-fields laws line (first ∷ exchange ∷ next ∷ more) are some few =
     let parts : (tx : TxFields line) → codes "tx" ∷ tx.exchange ∷ map decimal tx.intervals ≡ first ∷ exchange ∷ next ∷ more = λ tx. sym tx.are ∙ are in
     elim (same-bytes first (codes "tx")) [
@@ -165,6 +162,7 @@ tx-by-fields laws line (first ∷ exchange ∷ next ∷ more) are some few =
         ]
       ]
     ]
+tx-by-fields laws line fields are some few = absurd (omega (arith, some))
 
 shape-or : (line : List ℕ) → OrNot (HasTxShape line)
 shape-or line = elim (cases_lt (length (fields_of line)) 3) [
@@ -191,11 +189,6 @@ bits-or digits = elim (same-bytes digits (hyphen ∷ [])) [
 
 -- a line of four fields is an rx line or none
 rx-by-fields : (line : List ℕ) (fields : List (List ℕ)) → fields_of line ≡ fields → length fields ≡ 4 → OrNot (RxFields line)
-rx-by-fields line [] are four = absurd (omega (arith, four))
-rx-by-fields line (first ∷ []) are four = absurd (omega (arith, four))
-rx-by-fields line (first ∷ exchange ∷ []) are four = absurd (omega (arith, four))
-rx-by-fields line (first ∷ exchange ∷ count ∷ []) are four = absurd (omega (arith, four))
-rx-by-fields line (first ∷ exchange ∷ count ∷ digits ∷ next ∷ more) are four = absurd (omega (arith, four))
 rx-by-fields line (first ∷ exchange ∷ count ∷ digits ∷ []) are four =
     let parts : (rx : RxFields line) → codes "rx" ∷ rx.exchange ∷ rx.count ∷ binary rx.levels ∷ [] ≡ first ∷ exchange ∷ count ∷ digits ∷ [] = λ rx. sym rx.are ∙ are in
     elim (same-bytes first (codes "rx")) [
@@ -225,6 +218,7 @@ rx-by-fields line (first ∷ exchange ∷ count ∷ digits ∷ []) are four =
         ]
       ]
     ]
+rx-by-fields line fields are four = absurd (omega (arith, four))
 
 -- intervals are the frame of a command or of none
 lead-or : (kind : FrameKind) (lead : Lead) → OrNot (FrameBeginsWith kind lead)

@@ -15,7 +15,7 @@ use Rattle.pie_line.specs.Link.{LinkValue}
 use Rattle.q_round.specs.declared.round.RoundEnd.{RoundEnd}
 use Rattle.q_round.specs.declared.round.RoundEnd.TheVariants as ends
 use Rattle.report_lines.specs.Kept.{keeps, line_text_of}
-use Rattle.report_lines.specs.ReportLine.{ReportLine, BlfLine, ExchangeLine, MissedLine, AnswerLine, TxLine, RxLine, GivenLine, ListLine, OpLine, RoundLine, SeenLine, TagLine, DoneLine, end_word, state_word, flags_word, result_fields, report_fields, text_by}
+use Rattle.report_lines.specs.ReportLine.{ReportLine, BlfLine, TxLine, RxLine, ListLine, OpLine, RoundLine, SeenLine, TagLine, DoneLine, end_word, state_word, flags_word, result_fields, report_fields, text_by}
 use Rattle.report_lines.specs.Spelled.{text_in}
 use Rattle.report_lines.specs.declared.mode.Mode.TheVariants.{Trace}
 use Rattle.session_flags.specs.declared.flags.Flags.{Flags}
@@ -158,10 +158,7 @@ fields-lack (TagLine number tag) is =
       ),
     )
 fields-lack DoneLine is = (word-line 100 (codes "one") refl, tt)
-fields-lack (ExchangeLine exchange command) is = absurd (cc)
-fields-lack (MissedLine exchange tag) is = absurd (cc)
-fields-lack (AnswerLine exchange tag extended reply) is = absurd (cc)
-fields-lack (GivenLine exchanged) is = absurd (cc)
+fields-lack line is = absurd (cc)
 
 text-lines : (lines : List ReportLine) → text_by (line_text_of Trace) lines ≡ text_with (map text_of lines)
 text-lines [] = refl

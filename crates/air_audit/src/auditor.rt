@@ -36,7 +36,7 @@ use tag_machine::{Several, Steps, answers_are_replies, steps_keep_tags_legal};
 use tag_population::{Answers, Population};
 
 /// Where a trace stands.
-#[derive(Clone, Copy, Debug, PartialEq, Eq)]
+#[derive(Clone, Copy)]
 pub(crate) enum Position {
     /// Before its first line.
     First,
@@ -150,7 +150,7 @@ impl<'a, L: Ledger> Auditor<'a, L> {
     pub(crate) fn has_ended(&self) -> bool
         ensures { IsTrue result ↔ (self.now.position ≡ Position.Ended) }
     {
-        self.position == Position::Ended
+        matches!(self.position, Position::Ended)
     }
 
     /// Goes on with a line, which is given without its line feed.

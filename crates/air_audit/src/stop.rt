@@ -3,7 +3,7 @@ use crate::AuditReason;
 use bit_strings::OutOfMemory;
 
 /// Why an audit doesn't go on with a line.
-#[derive(Clone, Copy, Debug, PartialEq, Eq)]
+#[derive(Clone, Copy)]
 pub(crate) enum Stop {
     /// The line is refused.
     Refused(AuditReason),

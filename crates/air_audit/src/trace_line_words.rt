@@ -6,7 +6,7 @@ ghost use Rattle.report_lines.specs.ReadLines.{first_field};
 use report_lines::first_field;
 
 /// What a line is by the word that it begins with.
-#[derive(Clone, Copy, Debug, PartialEq, Eq)]
+#[derive(Clone, Copy)]
 pub(crate) enum Word {
     /// `tx`: a frame was sent.
     Tx,
