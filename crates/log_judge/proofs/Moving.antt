@@ -25,7 +25,7 @@ use Rattle.log_judge.specs.declared.draws.Draws.TheVariants as draws
 use Rattle.log_judge.specs.Drawing.{draws_at, fallen, slots_behind, want_behind, words_given}
 use Rattle.log_judge.specs.Tracking.{Goes, HasFirstSlot, known_of, known_wordless, wordless}
 use Rattle.log_judge.proofs.Fitting.{Fits, fits, same_number}
-use Rattle.log_judge.proofs.Tests.{one_number, no_test, none_or_some, some_or_none, and_left, and_right, not_true, nothing_seen}
+use Rattle.log_judge.proofs.Tests.{one_number, none_or_some, some_or_none, and_left, and_right, not_true, nothing_seen}
 use Rattle.log_judge.proofs.KindsMoved.{RepliesAt, StandsIn, drawn_elsewhere, guess_of, its_of, kind_want, mine_of, not_waiting, replies_so, same_words, silent_kind, spoken_kind, stands_known, entered_silent}
 
 -- the words that are prepared
@@ -266,30 +266,9 @@ module _ (session q less : ℕ) (body : BodyValue) (some : 1 ≤ less) where
     is = sym (ap (λ (o : Outcome). let it : Known = record { tag = wordless o.tag; any = waits o.tag.state } in it) fell_is);
   }
 
-abbrev turn_in : Draws → ℕ
-turn_in (draws.Turn session) = session
-turn_in it = 0
-
-abbrev is_turn : Draws → Bool
-is_turn (draws.Turn session) = true
-is_turn it = false
-
-no_turn : (it : Draws) (session : ℕ) → is_turn it ≡ false → it ≡ draws.Turn session → ⊥
-no_turn it session other is = no_test other (ap is_turn is)
-
 rep_of : (command : Command) (session : ℕ) → draws_at command ≡ draws.Turn session → command ≡ commands.QueryRep session
-rep_of (commands.QueryRep other) session is = ap (λ (n : ℕ). commands.QueryRep n) (ap turn_in is)
-rep_of (commands.Query dr line_code trext sel other target q) session is = absurd (no_turn (draws.Slot other) session refl is)
-rep_of (commands.QueryAdjust other updn) session is = absurd (no_turn (draws.Slot other) session refl is)
-rep_of (commands.ReqRn rn) session is = absurd (no_turn draws.Number session refl is)
-rep_of command session is = absurd (no_turn draws.Nothing session refl is)
-
-abbrev number_or : ℕ → Option ℕ → ℕ
-number_or default None = default
-number_or default (Some n) = n
-
-some_number : (a b : ℕ) → Some a ≡ Some b → a ≡ b
-some_number a b same = ap (λ (o : Option ℕ). number_or a o) same
+rep_of (commands.QueryRep other) session is = cc
+rep_of command session is = absurd (cc)
 
 -- the slot counter falls to this
 pub record FallsSo (command : Command) (tag : TagValue) (most : Option ℕ) (seen : Option Seen) (less : ℕ) : Type 0 where
@@ -324,7 +303,7 @@ module _ (command : Command) (seen : Option Seen) (session q m : ℕ) (body : Bo
   falls_by (draws.Turn other) less is to = by (test_in other) refl to
     where
       by : (test : Bool) → test_in other ≡ test → (if test then Some (m - 1) else None) ≡ Some less → FallsSo command tag_here (Some m) seen less
-      by true test to = falls_at other less is test (some_number (m - 1) less to)
+      by true test to = falls_at other less is test (cc)
       by false test to = absurd (none_or_some to)
   falls_by it less is to = absurd (none_or_some to)
 

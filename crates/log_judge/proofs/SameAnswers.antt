@@ -43,12 +43,8 @@ same_silence one other marks silent_then =
     ap (λ (a : Answered). seen_marked a one.reply) silent_then ∙ sym (ap (λ (a : Answered). seen_marked a other.reply) (sym marks ∙ silent_then))
 
 -- errors
-abbrev number_or : ℕ → Option ℕ → ℕ
-number_or default None = default
-number_or default (Some n) = n
-
 is_error : (reply : Reply) (code : ℕ) → code_of_reply reply ≡ Some code → reply ≡ Error code
-is_error (Error other) code is = ap (λ (n : Option ℕ). Error (number_or other n)) is
+is_error (Error other) code is = cc
 is_error reply code is = absurd (none_or_some is)
 
 pub record IsError (answer : Option Seen) (code : ℕ) : Type 0 where

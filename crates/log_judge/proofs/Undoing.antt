@@ -66,10 +66,6 @@ pub record IsWritten (banks : Banks) (locks : Locks) (level : Level) (bank : Ban
   pub may : all_words (may_write_word locks level bank) pointer (length words) ≡ true
   pub is : after ≡ banks_with_words_at banks bank pointer words
 
-abbrev banks_in : Banks → Result Banks ErrorCode → Banks
-banks_in other (Ok banks) = banks
-banks_in other (Err code) = other
-
 no_err : {code : ErrorCode} {after : Banks} → Err code ≡ Ok after → ⊥
 no_err same = absurd (cc)
 
@@ -93,7 +89,7 @@ module _ (banks : Banks) (locks : Locks) (level : Level) (bank : Bank) (pointer 
       by false passed true may_is same = record {
         inside = within (nat_lt (length (bank_of banks bank)) (pointer + length words)) refl passed;
         may = may_is;
-        is = sym (ap (banks_in banks) same);
+        is = cc;
       }
         where
           within : (test : Bool) → nat_lt (length (bank_of banks bank)) (pointer + length words) ≡ test → (test || not (length_fits wrote)) ≡ false → pointer + length words ≤ length (bank_of banks bank)

@@ -18,9 +18,9 @@ abbrev first_in : List ℕ → ℕ
 first_in [] = 0
 first_in (n ∷ more) = n
 
-abbrev rest_in : List ℕ → List ℕ
-rest_in [] = []
-rest_in (n ∷ more) = more
+-- what is something is one thing
+pub some_is : {A : Type 0} {a b : A} → Some a ≡ Some b → a ≡ b
+some_is same = cc
 
 same_words : (one other : List ℕ) → Dec (one ≡ other)
 same_words [] [] = inl refl
@@ -30,8 +30,8 @@ same_words (n ∷ one) (m ∷ other) = by (eqb_tells n m) (same_words one other)
   where
     by : (((n == m) ≡ true) × (n ≡ m)) ⊎ (((n == m) ≡ false) × (n ≢ m)) → Dec (one ≡ other) → Dec (n ∷ one ≡ m ∷ other)
     by (inl a) (inl b) = inl (ap (λ k. k ∷ one) a.1 ∙ ap (λ l. m ∷ l) b)
-    by (inl a) (inr b) = inr (λ same. b (ap rest_in same))
-    by (inr a) b = inr (λ same. a.1 (ap first_in same))
+    by (inl a) (inr b) = inr (λ same. b (cc))
+    by (inr a) b = inr (λ same. a.1 (cc))
 
 -- a reply, as numbers
 abbrev kind_in : Reply → ℕ
@@ -52,12 +52,12 @@ numbers_in (Error code) = code ∷ []
 
 -- two replies of one kind
 same_kind : (one other : Reply) → kind_in one ≡ kind_in other → numbers_in one ≡ numbers_in other → one ≡ other
-same_kind (Rn16 n) (Rn16 m) kinds numbers = ap (λ l. Rn16 (first_in l)) numbers
-same_kind (Epc pc epc) (Epc pc' epc') kinds numbers = ap (λ l. Epc (first_in l) (rest_in l)) numbers
-same_kind (Handle n) (Handle m) kinds numbers = ap (λ l. Handle (first_in l)) numbers
-same_kind (Words words) (Words words') kinds numbers = ap (λ l. Words l) numbers
+same_kind (Rn16 n) (Rn16 m) kinds numbers = cc
+same_kind (Epc pc epc) (Epc pc' epc') kinds numbers = cc
+same_kind (Handle n) (Handle m) kinds numbers = cc
+same_kind (Words words) (Words words') kinds numbers = cc
 same_kind Header Header kinds numbers = refl
-same_kind (Error code) (Error code') kinds numbers = ap (λ l. Error (first_in l)) numbers
+same_kind (Error code) (Error code') kinds numbers = cc
 same_kind one other kinds numbers = absurd (omega (arith, kinds))
 
 same_reply : (one other : Reply) → Dec (one ≡ other)
@@ -81,10 +81,6 @@ same_seen one other = by (same_reply one.reply other.reply) (same_bool one.exten
     by (inl a) (inr b) = inr (λ same. b (ap (λ (s : Seen). s.extended) same))
     by (inr a) b = inr (λ same. a (ap (λ (s : Seen). s.reply) same))
 
-abbrev seen_or : Seen → Option Seen → Seen
-seen_or default None = default
-seen_or default (Some seen) = seen
-
 pub same_answer : (one other : Option Seen) → Dec (one ≡ other)
 same_answer None None = inl refl
 same_answer None (Some other) = inr (λ same. absurd (cc))
@@ -93,7 +89,7 @@ same_answer (Some one) (Some other) = by (same_seen one other)
   where
     by : Dec (one ≡ other) → Dec (Some one ≡ Some other)
     by (inl a) = inl (ap (λ s. Some s) a)
-    by (inr a) = inr (λ same. a (ap (seen_or one) same))
+    by (inr a) = inr (λ same. a (some_is same))
 
 -- an error
 record IsError (answer : Option Seen) : Type 0 where
@@ -101,16 +97,12 @@ record IsError (answer : Option Seen) : Type 0 where
   pub extended : Bool
   pub is : answer ≡ Some (record { reply = Error code; extended = extended })
 
-abbrev kind_of_answer : Option Seen → ℕ
-kind_of_answer None = 6
-kind_of_answer (Some seen) = kind_in seen.reply
-
 error_reply : (reply : Reply) (extended : Bool) → Dec (IsError (Some (record { reply = reply; extended = extended })))
 error_reply (Error code) extended = inl (record { code = code; extended = extended; is = refl })
-error_reply reply extended = inr (λ it. absurd (omega (arith, ap kind_of_answer it.is)))
+error_reply reply extended = inr (λ it. let same : reply ≡ Error it.code = ap (λ (s : Seen). s.reply) (some_is it.is) in absurd (cc))
 
 error_answer : (answer : Option Seen) → Dec (IsError answer)
-error_answer None = inr (λ it. absurd (omega (arith, ap kind_of_answer it.is)))
+error_answer None = inr (λ it. absurd (cc))
 error_answer (Some seen) = error_reply seen.reply seen.extended
 
 abbrev code_in : Option Seen → ℕ

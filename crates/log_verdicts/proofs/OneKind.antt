@@ -155,18 +155,6 @@ pub record ComesBy (kind : Kind) (seen : Option Seen) (state : StateValue) (body
   pub leads : (used future : List ℕ) → 1 ≤ length future → LeadsTo kind seen drawn state body used future
 
 -- the slot that is meant
-abbrev session_in : StateValue → ℕ
-session_in (ArbitrateState session q slot) = session
-session_in state = 0
-
-abbrev q_in : StateValue → ℕ
-q_in (ArbitrateState session q slot) = q
-q_in state = 0
-
-abbrev slot_in : StateValue → ℕ
-slot_in (ArbitrateState session q slot) = slot
-slot_in state = 0
-
 pub record IsSlotWithin (session q most : ℕ) (state : StateValue) : Type 0 where
   pub slot : ℕ
   pub is : state ≡ ArbitrateState session q slot
@@ -175,9 +163,9 @@ pub record IsSlotWithin (session q most : ℕ) (state : StateValue) : Type 0 whe
 
 pub slot_within : (session q most : ℕ) (state : StateValue) → IsWithin (ArbitrateState session q most) state → IsSlotWithin session q most state
 slot_within session q most state it =
-    let of_session : session ≡ it.session = ap session_in it.known_is in
-    let of_q : q ≡ it.q = ap q_in it.known_is in
-    let of_most : most ≡ it.most = ap slot_in it.known_is in
+    let of_session : session ≡ it.session = cc in
+    let of_q : q ≡ it.q = cc in
+    let of_most : most ≡ it.most = cc in
     record {
       slot = it.slot;
       is = it.is ∙ ap (λ n. ArbitrateState n it.q it.slot) (sym of_session) ∙ ap (λ n. ArbitrateState session n it.slot) (sym of_q);

@@ -2,7 +2,6 @@
 use Rattle.std.proofs.Common.{rules, ◌≡◌, ℕ, ◌+◌, ◌<◌, ◌^◌, false, List, [], ◌∷◌, ◌++◌, Option, Some, None, refl, sym, ◌∙◌, ap, subst, arith, inl, inr, append_assoc, append-nil}
 use Rattle.std.specs.Prelude.{◌⊎◌}
 use Rattle.command_grammar.specs.declared.commands.Command.{Command}
-use Rattle.reply_grammar.specs.declared.expected.Reply.{Reply}
 use Rattle.reply_grammar.specs.declared.expected.Reply.TheVariants.{Rn16, Handle}
 use Rattle.tag_machine.specs.Events.{tag_after_event}
 use Rattle.tag_machine.specs.TagValue.{TagValue}
@@ -12,7 +11,7 @@ use Rattle.log_verdicts.specs.Verdicts.{FailsFirst, IsHandle, IsRn16, IsVerdict,
 use Rattle.log_verdicts.specs.laws.Logs.{Deed, IsLegalEntry, IsLegalLog, Sends, Brings, log_made}
 use Rattle.log_verdicts.specs.laws.Known.{Known, Follows, want_of}
 use Rattle.log_verdicts.specs.laws.Standing.{StandsBehind}
-use Rattle.log_verdicts.proofs.Decided.{event_follows, may_follow}
+use Rattle.log_verdicts.proofs.Decided.{event_follows, may_follow, some_is}
 use Rattle.log_verdicts.proofs.Standing.{allowed_by, allowed_where_stands, fails_on, stands_first, stands_on, words_of}
 use Rattle.log_verdicts.proofs.Wants.{wanted}
 
@@ -109,27 +108,6 @@ an_rn number range = record { number = number; range = range; is = refl }
 a_handle : (number : ℕ) → number < 2 ^ 16 → IsHandle (handle_answer number)
 a_handle number range = record { number = number; range = range; is = refl }
 
-abbrev what_reply : Reply → ℕ
-what_reply (Rn16 number) = 3 + number
-what_reply (Handle number) = 2
-what_reply reply = 1
-
-abbrev what_answer : Option Seen → ℕ
-what_answer None = 0
-what_answer (Some seen) = what_reply seen.reply
-
-abbrev seen_or : Seen → Option Seen → Seen
-seen_or default None = default
-seen_or default (Some seen) = seen
-
-abbrev handle_of_reply : Reply → ℕ
-handle_of_reply (Handle number) = 1 + number
-handle_of_reply reply = 0
-
-abbrev handle_in : Option Seen → ℕ
-handle_in None = 0
-handle_in (Some seen) = handle_of_reply seen.reply
-
 one_word : 1 < 2 ^ 16
 one_word = omega arith
 
@@ -139,14 +117,20 @@ no_word = omega arith
 none_is_some : {seen : Seen} → None ≡ Some seen → ⊥
 none_is_some same = absurd (cc)
 
+same_rn : (n m : ℕ) → rn_answer n ≡ rn_answer m → n ≡ m
+same_rn n m same = let both : Rn16 n ≡ Rn16 m = ap (λ (seen : Seen). seen.reply) (some_is same) in cc
+
+same_handle : (n m : ℕ) → handle_answer n ≡ handle_answer m → n ≡ m
+same_handle n m same = let both : Handle n ≡ Handle m = ap (λ (seen : Seen). seen.reply) (some_is same) in cc
+
 not_two_rn : {answer : Option Seen} → rn_answer 0 ≡ answer → rn_answer 1 ≡ answer → ⊥
-not_two_rn zero_is one_is = let wrong : 3 ≡ 4 = ap what_answer (zero_is ∙ sym one_is) in absurd (omega (arith, wrong))
+not_two_rn zero_is one_is = absurd (omega (arith, same_rn 0 1 (zero_is ∙ sym one_is)))
 
 not_two_handles : {answer : Option Seen} → handle_answer 0 ≡ answer → handle_answer 1 ≡ answer → ⊥
-not_two_handles zero_is one_is = let wrong : 1 ≡ 2 = ap handle_in (zero_is ∙ sym one_is) in absurd (omega (arith, wrong))
+not_two_handles zero_is one_is = absurd (omega (arith, same_handle 0 1 (zero_is ∙ sym one_is)))
 
 rn_no_handle : {n m : ℕ} → rn_answer n ≡ handle_answer m → ⊥
-rn_no_handle {n = n} same = let wrong : 3 + n ≡ 2 = ap what_answer same in absurd (omega (arith, wrong))
+rn_no_handle {n = n} {m = m} same = let both : Rn16 n ≡ Handle m = ap (λ (seen : Seen). seen.reply) (some_is same) in absurd (cc)
 
 pub one_want : (one other : Want) → ((answer : Option Seen) → Means one answer → Means other answer) → ((answer : Option Seen) → Means other answer → Means one answer) → one ≡ other
 one_want Nothing Nothing to from = refl
@@ -155,7 +139,7 @@ one_want Nothing AnyRn16 to from = absurd (none_is_some (to None refl).is)
 one_want Nothing AnyHandle to from = absurd (none_is_some (to None refl).is)
 one_want Nothing NothingOrAnyRn16 to from = absurd (none_is_some (sym (from (rn_answer 0) (inr (an_rn 0 no_word)))))
 one_want (Exactly seen) Nothing to from = absurd (none_is_some (from None refl))
-one_want (Exactly seen) (Exactly seen') to from = ap (λ (a : Option Seen). Exactly (seen_or seen a)) (to (Some seen) refl)
+one_want (Exactly seen) (Exactly seen') to from = ap (λ (s : Seen). Exactly s) (some_is (to (Some seen) refl))
 one_want (Exactly seen) AnyRn16 to from = absurd (not_two_rn (from (rn_answer 0) (an_rn 0 no_word)) (from (rn_answer 1) (an_rn 1 one_word)))
 one_want (Exactly seen) AnyHandle to from = absurd (not_two_handles (from (handle_answer 0) (a_handle 0 no_word)) (from (handle_answer 1) (a_handle 1 one_word)))
 one_want (Exactly seen) NothingOrAnyRn16 to from = absurd (none_is_some (from None (inl refl)))
@@ -181,31 +165,16 @@ data TwoCuts (before other : List LogEntry) (entry entry' : LogEntry) : Type 0 w
   earlier : (between : List LogEntry) → other ≡ (before ++ entry ∷ []) ++ between → TwoCuts before other entry entry'
   later : (between : List LogEntry) → before ≡ (other ++ entry' ∷ []) ++ between → TwoCuts before other entry entry'
 
-abbrev entry_or : LogEntry → List LogEntry → LogEntry
-entry_or default [] = default
-entry_or default (entry ∷ log) = entry
-
-abbrev rest_of : List LogEntry → List LogEntry
-rest_of [] = []
-rest_of (entry ∷ log) = log
-
 two_cuts : (before : List LogEntry) (entry : LogEntry) (behind other : List LogEntry) (entry' : LogEntry) (behind' : List LogEntry) → before ++ entry ∷ behind ≡ other ++ entry' ∷ behind' → TwoCuts before other entry entry'
-two_cuts [] entry behind [] entry' behind' same = at_one refl (ap (entry_or entry) same)
-two_cuts [] entry behind (next ∷ other) entry' behind' same = earlier other (ap (λ (e : LogEntry). e ∷ other) (sym (ap (entry_or entry) same)))
-two_cuts (next ∷ before) entry behind [] entry' behind' same = later before (ap (λ (e : LogEntry). e ∷ before) (ap (entry_or entry) same))
-two_cuts (next ∷ before) entry behind (next' ∷ other) entry' behind' same = by (two_cuts before entry behind other entry' behind' (ap rest_of same))
+two_cuts [] entry behind [] entry' behind' same = at_one refl (cc)
+two_cuts [] entry behind (next ∷ other) entry' behind' same = earlier other (cc)
+two_cuts (next ∷ before) entry behind [] entry' behind' same = later before (cc)
+two_cuts (next ∷ before) entry behind (next' ∷ other) entry' behind' same = by (two_cuts before entry behind other entry' behind' (cc))
   where
-    firsts : next ≡ next'
-    firsts = ap (entry_or next) same
-
     by : TwoCuts before other entry entry' → TwoCuts (next ∷ before) (next' ∷ other) entry entry'
-    by (at_one lists entries) = at_one (ap (λ (e : LogEntry). e ∷ before) firsts ∙ ap (λ (l : List LogEntry). next' ∷ l) lists) entries
-    by (earlier between is) = earlier between (ap (λ (l : List LogEntry). next' ∷ l) is ∙ ap (λ (e : LogEntry). e ∷ ((before ++ entry ∷ []) ++ between)) (sym firsts))
-    by (later between is) = later between (ap (λ (l : List LogEntry). next ∷ l) is ∙ ap (λ (e : LogEntry). e ∷ ((other ++ entry' ∷ []) ++ between)) firsts)
-
-abbrev heard_in : LogEntry → Option Command
-heard_in (Exchange heard seen) = heard
-heard_in (Befalls event) = None
+    by (at_one lists entries) = at_one (cc) entries
+    by (earlier between is) = earlier between (cc)
+    by (later between is) = later between (cc)
 
 module _ (manner : Manner) (tag : LoggedTag) (log : List LogEntry) where
   pub one_failure : (number number' : ℕ) (want want' : Want) → FailsFirst manner tag log number want → FailsFirst manner tag log number' want' → (number ≡ number') × (want ≡ want')
@@ -215,7 +184,7 @@ module _ (manner : Manner) (tag : LoggedTag) (log : List LogEntry) where
       by (earlier between is) = absurd (one.fails (allowed_front manner tag (one.before ++ Exchange one.heard one.seen ∷ []) between (subst (λ (l : List LogEntry). IsAllowed manner tag l) is other.allowed)))
       by (later between is) = absurd (other.fails (allowed_front manner tag (other.before ++ Exchange other.heard other.seen ∷ []) between (subst (λ (l : List LogEntry). IsAllowed manner tag l) is one.allowed)))
       by (at_one befores entries) =
-          let heards : one.heard ≡ other.heard = ap heard_in entries in
+          let heards : one.heard ≡ other.heard = cc in
           let places : one.before ++ Exchange one.heard one.seen ∷ [] ≡ other.before ++ Exchange other.heard other.seen ∷ []
           = ap (λ (l : List LogEntry). l ++ Exchange one.heard one.seen ∷ []) befores ∙ ap (λ (e : LogEntry). other.before ++ e ∷ []) entries in
           let wanted' : IsWanted manner tag other.before other.heard want
