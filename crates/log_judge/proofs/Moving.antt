@@ -1,6 +1,6 @@
 -- What a tag that stands for what is known makes of a command, beside what is prepared for it.
 use Rattle.std.proofs.Common.{◌≡◌, ℕ, ◌+◌, ◌-◌, ◌<◌, ◌≤◌, ◌==◌, ◌&&◌, Bool, true, false, not, is_some, nat_lt, List, [], ◌∷◌, Option, Some, None, if◌then◌else◌, refl, sym, ◌∙◌, ap, subst, arith, inl, inr}
-use Rattle.std.proofs.lemmas.Bool.{lt-ltb, ltb-true}
+use Rattle.std.proofs.lemmas.Bool.{lt-ltb, ltb-true, not-true}
 use Rattle.std.proofs.lemmas.Bool.Decides.{eqb_tells}
 use Rattle.command_grammar.specs.declared.commands.Command.{Command}
 use Rattle.command_grammar.specs.declared.commands.Command.TheVariants as commands
@@ -25,7 +25,7 @@ use Rattle.log_judge.specs.declared.draws.Draws.TheVariants as draws
 use Rattle.log_judge.specs.Drawing.{draws_at, fallen, slots_behind, want_behind, words_given}
 use Rattle.log_judge.specs.Tracking.{Goes, HasFirstSlot, known_of, known_wordless, wordless}
 use Rattle.log_judge.proofs.Fitting.{Fits, fits, same_number}
-use Rattle.log_judge.proofs.Tests.{one_number, none_or_some, some_or_none, and_left, and_right, not_true, nothing_seen}
+use Rattle.log_judge.proofs.Tests.{one_number, none_or_some, some_or_none, and_left, and_right, nothing_seen}
 use Rattle.log_judge.proofs.KindsMoved.{RepliesAt, StandsIn, drawn_elsewhere, guess_of, its_of, kind_want, mine_of, not_waiting, replies_so, same_words, silent_kind, spoken_kind, stands_known, entered_silent}
 
 -- the words that are prepared
@@ -293,7 +293,7 @@ module _ (command : Command) (seen : Option Seen) (session q m : ℕ) (body : Bo
   falls_at other less is test sum =
       let both = and_left (session == other && not (is_some seen)) (nat_lt 1 m) test in
       let same = one_number session other (and_left (session == other) (not (is_some seen)) both) in
-      let silent_then = nothing_seen seen (not_true (is_some seen) (and_right (session == other) (not (is_some seen)) both)) in
+      let silent_then = nothing_seen seen (not-true (is_some seen) (and_right (session == other) (not (is_some seen)) both)) in
       let two : 1 < m = ltb-true 1 m (and_right (session == other && not (is_some seen)) (nat_lt 1 m) test) in
       let whole : less + 1 ≡ m = omega (arith, two, sum) in
       subst (λ (n : ℕ). FallsSo command tag_here (Some n) seen less) whole

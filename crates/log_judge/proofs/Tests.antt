@@ -1,5 +1,6 @@
 -- Tests that can't come out so, and what they tell.
-use Rattle.std.proofs.Common.{◌≡◌, ◌∙◌, ◌==◌, ℕ, arith, sym, ◌&&◌, Bool, true, false, not, is_some, Option, Some, None, refl}
+use Rattle.std.proofs.Common.{◌≡◌, ◌∙◌, ◌==◌, ℕ, arith, sym, ◌&&◌, Bool, true, false, is_some, Option, Some, None, refl}
+use Rattle.std.proofs.lemmas.Bool.{and_parts}
 use Rattle.std.proofs.lemmas.Bool.Decides.{nat_tests}
 use Rattle.log_verdicts.specs.Log.{Seen}
 
@@ -24,16 +25,10 @@ none_or_some same = absurd (cc)
 
 -- what a test says that is true of two
 pub and_left : (a b : Bool) → (a && b) ≡ true → a ≡ true
-and_left true b both = refl
-and_left false b both = absurd (not_so both)
+and_left a b both = (and_parts a b both).0
 
 pub and_right : (a b : Bool) → (a && b) ≡ true → b ≡ true
-and_right true b both = both
-and_right false b both = absurd (not_so both)
-
-pub not_true : (test : Bool) → not test ≡ true → test ≡ false
-not_true true other = absurd (not_so other)
-not_true false other = refl
+and_right a b both = (and_parts a b both).1
 
 pub nothing_seen : (seen : Option Seen) → is_some seen ≡ false → seen ≡ None
 nothing_seen None none = refl

@@ -1,5 +1,6 @@
 -- What an honest round says of the tags that it lists, in the history of a run.
-use Rattle.std.proofs.Common.{◌≡◌, ℕ, zero, suc, ◌+◌, ◌≤◌, ◌==◌, ◌&&◌, not, Bool, true, false, ◌⊎◌, inl, inr, List, [], ◌∷◌, ◌++◌, length, Option, Some, None, slice_get, if◌then◌else◌, refl, ap, sym, ◌∙◌, subst, arith, add-one, eq-eqb}
+use Rattle.std.proofs.Common.{◌≡◌, ℕ, zero, ◌+◌, ◌≤◌, ◌==◌, ◌&&◌, not, Bool, true, false, ◌⊎◌, inl, inr, List, [], ◌∷◌, ◌++◌, length, Option, Some, None, slice_get, if◌then◌else◌, refl, ap, sym, ◌∙◌, subst, arith, add-one, eq-eqb}
+use Rattle.std.proofs.lemmas.Option.{slice_get_past}
 use Rattle.access_ops.specs.declared.OpList.{OpList}
 use Rattle.air_model.specs.Past.{Start, Item, ended, tag_behind}
 use Rattle.air_events.specs.declared.Several.TheVariants as severals
@@ -20,7 +21,7 @@ use Rattle.runs.proofs.PlayedRounds.{PlayedRound, number_of, past_behind_played}
 use Rattle.runs.proofs.Members.{Member, StandsBefore}
 use Rattle.runs.proofs.TagsInRound.{past_at_query, frame_behind, StepsFlagsOf, ListsOwnEpc, StandsNext, known-once}
 use Rattle.runs.proofs.TagEnds.{listed-once, quiet-stands, end-stands}
-use Rattle.runs.proofs.Times.{bit}
+use Rattle.runs.proofs.Times.{bit, bit-some}
 use Rattle.runs.proofs.Totals.{as-many-listed}
 use Rattle.runs.proofs.WholeRound.{IsFairIn, round-test, slot-test, LastSlot, slots_to, IsSilentWhereQuiet, IsOver, round-stands}
 use Rattle.pie_line.specs.Link.{LinkValue}
@@ -108,10 +109,6 @@ first-bit true false one none = (refl, refl)
 first-bit first true one none = absurd (omega arith)
 first-bit false false one none = absurd (omega arith)
 
-bit-set : (b : Bool) → bit b ≡ 1 → b ≡ true
-bit-set true one = refl
-bit-set false one = absurd (omega arith)
-
 bit-alone : (b : Bool) → bit b + bit false ≡ (if b then 1 else 0)
 bit-alone true = refl
 bit-alone false = refl
@@ -126,30 +123,8 @@ matched-either : (first : TagValue) (listed listed_now : Bool) → IsListedOnce 
 matched-either first listed listed_now once (inl is) = once.matched is
 matched-either first listed listed_now once (inr is) = once.matched_now is
 
--- no tag has a number past the last
-past-the-end : (tags : List TagValue) (number : ℕ) → length tags ≤ number → slice_get tags number ≡ None
-past-the-end [] number above = refl
-past-the-end (tag ∷ tags) zero above = absurd (omega arith)
-past-the-end (tag ∷ tags) (suc number) above = past-the-end tags number (omega arith)
-
 abbrev ending_with : RoundEnd → ℕ → List Item → Ending
 ending_with end slots past = record { end = end; slots = slots; past = past }
-
--- one end of a round is another
-record IsSameEnding (end : RoundEnd) (slots : ℕ) (past : List Item) (other : RoundEnd) (other_slots : ℕ) (other_past : List Item) : Type 0 where
-  end_is : end ≡ other
-  slots_are : slots ≡ other_slots
-  past_is : past ≡ other_past
-
-same-ending : (end : RoundEnd) (slots : ℕ) (past : List Item) (other : RoundEnd) (other_slots : ℕ) (other_past : List Item)
-    → Some (ending_with end slots past) ≡ Some (ending_with other other_slots other_past) → IsSameEnding end slots past other other_slots other_past
-same-ending end slots past other other_slots other_past same =
-    let whole : ending_with end slots past ≡ ending_with other other_slots other_past = cc in
-    record {
-      end_is = ap (λ (ending : Ending). ending.end) whole;
-      slots_are = ap (λ (ending : Ending). ending.slots) whole;
-      past_is = ap (λ (ending : Ending). ending.past) whole;
-    }
 
 -- what a tag was just after the Query, and whether it was listed
 abbrev member_told : (round : PlayedRound) (last : LastSlot) (history : List Item) → IsToldBy round last history → ℕ → TagValue → Member
@@ -226,7 +201,7 @@ module _ (round : PlayedRound) (last : LastSlot) (history : List Item) (by : IsT
         let stands = (at-end number tag numbered).unlisted matched bits.0 bits.1 in
         record { state = stands.0; flags = stands.1 };
     listed_last = λ number tag numbered one.
-        let stands = (at-end number tag numbered).last (bit-set (by.listed_now number) (sym (by.count_now number) ∙ one)) in
+        let stands = (at-end number tag numbered).last (bit-some (by.listed_now number) (omega (arith, by.count_now number, one))) in
         record { state = stands.0; flags = stands.1 };
     listed_before = λ number tag numbered one none.
         let bits = first-bit (by.listed number) (by.listed_now number) (sym (by.count number) ∙ one) (sym (by.count_now number) ∙ none) in
@@ -242,14 +217,12 @@ module _ (round : PlayedRound) (last : LastSlot) (history : List Item) (by : IsT
     no_tag_twice = no-tag-twice;
     flag_steps = flag-steps;
     quiet_is_complete = λ slots past is.
-        let same : Some (record { end = last.end; slots = slots_to last; past = last.now }) ≡ Some (ending_with ends.Quiet slots past) = sym by.ending ∙ is in
-        let parts = same-ending last.end (slots_to last) last.now ends.Quiet slots past same in
-        subst (λ (p : List Item). IsQuietComplete round.start history (number_of round) round.spec.session p) parts.past_is (quiet-complete parts.end_is);
+        let same : ending_with last.end (slots_to last) last.now ≡ ending_with ends.Quiet slots past = let both = sym by.ending ∙ is in cc in
+        subst (λ (ending : Ending). IsQuietComplete round.start history (number_of round) round.spec.session ending.past) same
+        (quiet-complete (ap (λ (ending : Ending). ending.end) same));
     limit_end = λ slots past is.
-        let same : Some (record { end = last.end; slots = slots_to last; past = last.now }) ≡ Some (ending_with ends.Limit slots past) = sym by.ending ∙ is in
-        let parts = same-ending last.end (slots_to last) last.now ends.Limit slots past same in
-        subst (λ (p : List Item). EndsByLimit round.start history (number_of round) round.spec.session slots p) parts.past_is
-        (subst (λ n. EndsByLimit round.start history (number_of round) round.spec.session n last.now) parts.slots_are limit-end);
+        let same : ending_with last.end (slots_to last) last.now ≡ ending_with ends.Limit slots past = let both = sym by.ending ∙ is in cc in
+        subst (λ (ending : Ending). EndsByLimit round.start history (number_of round) round.spec.session ending.slots ending.past) same limit-end;
   }
 
   pub told-counted : CountedRound round.start history (number_of round) round.spec
@@ -273,7 +246,7 @@ module _ (round : PlayedRound) (last : LastSlot) (history : List Item) (by : IsT
       as_many = λ quiet.
           as-many-listed round.start round.spec (number_of round) history (tags_listed_in (number_of round) history)
           (λ number tag numbered. (quiet-complete quiet).listed number tag numbered ∙ ap (λ (b : Bool). if b then 1 else 0) (by.spoken number tag numbered))
-          (λ number above. strangers-unlisted number (past-the-end round.start.tags number above));
+          (λ number above. strangers-unlisted number (slice_get_past round.start.tags number above));
       flags = λ number tag numbered.
           (by.tags number tag numbered).body.flags
           ∙ ap (λ (b : Bool). flags_in_round round.spec.session b (flags_after_query (number_of round) history number tag))

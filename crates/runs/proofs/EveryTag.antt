@@ -31,7 +31,7 @@ use Rattle.runs.proofs.Records.{AllRecords, records-at, records-all}
 use Rattle.runs.proofs.Growth.{RoundsKeepLimit}
 use Rattle.runs.proofs.Population.{tag_stepped, tag-steps}
 use Rattle.runs.proofs.TagQuery.{query-matched, query-memory}
-use Rattle.runs.proofs.Times.{times-append, times-one, times-first, bit, bit-if, lists-one}
+use Rattle.runs.proofs.Times.{times-append, times-one, times-first, bit, lists-one}
 use Rattle.runs.proofs.Turns.{round-holds}
 use Rattle.runs.proofs.TagsInRound.{query_command}
 use Rattle.pie_line.specs.Link.{LinkValue}
@@ -269,12 +269,10 @@ all-spoken-to spec round history number (tag ∷ tags) each =
     let here : is_spoken_to spec (tag_after_query round history number tag) ≡ true =
     subst (λ n. is_spoken_to spec (tag_after_query round history n tag) ≡ true) (omega arith) (each 0 tag refl) in
     let one : bit (is_spoken_to spec (tag_after_query round history number tag)) ≡ 1 = ap bit here in
-    let counted : (if is_spoken_to spec (tag_after_query round history number tag) then 1 else 0) ≡ bit (is_spoken_to spec (tag_after_query round history number tag)) =
-    bit-if (is_spoken_to spec (tag_after_query round history number tag)) in
     let rest : tags_spoken_to spec round history (number + 1) tags ≡ length tags =
     all-spoken-to spec round history (number + 1) tags
     (λ place later at. subst (λ n. is_spoken_to spec (tag_after_query round history n later) ≡ true) (omega arith) (each (suc place) later at)) in
-    ap (λ n. n + tags_spoken_to spec round history (number + 1) tags) (counted ∙ one) ∙ omega (arith, rest)
+    ap (λ n. n + tags_spoken_to spec round history (number + 1) tags) one ∙ omega (arith, rest)
 
 -- a tag just after the first Query of a run has the memory that it had at the start
 first-memory : (spec : SpecValue) (link : LinkValue) (number : ℕ) (tag after : TagValue) → after ≡ tag_stepped (query_command spec link) [] number tag

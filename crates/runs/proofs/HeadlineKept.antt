@@ -5,7 +5,7 @@ use Rattle.report_lines.specs.ReportLine.{ReportLine}
 use Rattle.report_lines.specs.declared.mode.Mode.{Mode}
 use Rattle.report_lines.specs.declared.mode.Mode.TheVariants.{Trace, Exchanges, Vcd}
 use Rattle.runs.proofs.Among.{Among}
-use Rattle.runs.proofs.HeadlineLines.{PassesNoTrace}
+use Rattle.runs.proofs.HeadlineLines.{PassesNoTrace, and-false}
 
 -- what is kept was told
 among-one : (keep : ReportLine → Bool) (item first : ReportLine) (others : List ReportLine) (b : Bool) → keep first ≡ b
@@ -21,13 +21,9 @@ first-fails : (one other : Bool) → one ≡ false → (one && other) ≡ false
 first-fails true other is = absurd (cc)
 first-fails false other is = refl
 
-other-fails : (one other : Bool) → other ≡ false → (one && other) ≡ false
-other-fails true other is = is
-other-fails false other is = refl
-
 -- what a mode leaves out, not each report has
 left-out : (mode : Mode) (line : ReportLine) → keeps mode line ≡ false → is_plain line ≡ false
-left-out Trace line is = other-fails (not (is_of_trace line)) (not (is_of_exchanges line)) is
+left-out Trace line is = and-false (not (is_of_trace line)) (not (is_of_exchanges line)) is
 left-out Exchanges line is = first-fails (not (is_of_trace line)) (not (is_of_exchanges line)) is
 left-out Vcd line is = absurd (cc)
 left-out mode line is = is

@@ -1,5 +1,6 @@
 -- The tags behind each past of a history are legal, since each command that is sent has its numbers in their fields.
 use Rattle.std.proofs.Common.{◌≡◌, ℕ, ◌+◌, Bool, true, false, ◌&&◌, ◌||◌, List, [], ◌∷◌, ◌++◌, length, Some, if◌then◌else◌, refl, ap, sym, ◌∙◌, subst}
+use Rattle.std.proofs.lemmas.Bool.{and_parts}
 use Rattle.std.proofs.lemmas.List.Elements.{recursion_from_All}
 use Rattle.std.specs.List.{AllByRecursion}
 use Rattle.access_ops.specs.laws.OperationLaws.{IsLegalOp}
@@ -151,16 +152,12 @@ given-legal : Laws → (start : Start) (command : Command) (entry : Entry) (tags
 given-legal laws start command entry tags legal =
     given-of-answers (λ sent. IsSent (Some sent)) start command entry tags (λ tag lawful sent is. laws.range command tag.state tag.body sent lawful is) laws.befallen legal
 
-first-true : (one other : Bool) → (one && other) ≡ true → one ≡ true
-first-true true other both = refl
-first-true false other both = both
-
 -- a whole reply is one that is expected
 whole-suits : (expected : Bool) (expect : Expect) (sent : Sent) (reply : Reply) → is_expected expect sent ≡ expected → IsSent (Some sent)
     → (if expected then whole_reply sent.reply else no_such_reply) ≡ whole_reply reply → Suits reply expect × IsReply reply
 whole-suits true expect sent reply is range heard =
     let same : sent.reply ≡ reply = cc in
-    let suit : Suits sent.reply expect = suits-true sent.reply expect (first-true (suits sent.reply expect) (has_handle sent.reply sent.handle (handle_of expect)) is) in
+    let suit : Suits sent.reply expect = suits-true sent.reply expect (and_parts (suits sent.reply expect) (has_handle sent.reply sent.handle (handle_of expect)) is).0 in
     (subst (λ (r : Reply). Suits r expect) same suit, subst IsReply same range.0)
 whole-suits false expect sent reply is range heard = absurd (cc)
 

@@ -33,10 +33,6 @@ use Rattle.runs.proofs.Population.{tag_stepped}
 use Rattle.runs.proofs.TagQuery.{query-flags, query-matched}
 use Rattle.runs.proofs.TagsInRound.{query_command}
 
--- the same element
-some-same : (one other : TagValue) → Some one ≡ Some other → one ≡ other
-some-same one other same = cc
-
 -- the run of one round that begins with these tags
 abbrev run_of : List TagValue → SpecValue → List Item
 run_of tags spec = history_of_round (start_with tags) spec no_operations
@@ -86,7 +82,7 @@ zip-at : (R : TagValue → TagValue → Type 0) (number : ℕ) (starts : List Ta
     → slice_get starts place ≡ Some tag → R tag (tag_behind (number + place) tag past)
 zip-at R number [] past place tag each at = absurd (cc)
 zip-at R number (first ∷ starts) past zero tag each at =
-    let same : first ≡ tag = some-same first tag at in
+    let same : first ≡ tag = cc in
     subst (λ (t : TagValue). R t (tag_behind (number + 0) t past)) same (subst (λ (n : ℕ). R first (tag_behind n first past)) (omega arith) each.0)
 zip-at R number (first ∷ starts) past (suc place) tag each at =
     subst (λ (n : ℕ). R tag (tag_behind n tag past)) (omega arith) (zip-at R (number + 1) starts past place tag each.1 at)

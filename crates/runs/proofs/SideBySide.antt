@@ -32,7 +32,7 @@ use Rattle.runs.proofs.RoundsAmong.{RoundAmong, legal-split, past_behind-append,
 use Rattle.runs.proofs.Population.{tag-steps, tag_stepped}
 use Rattle.runs.proofs.TagQuery.{query-flags, query-matched}
 use Rattle.runs.proofs.TagsInRound.{query_command}
-use Rattle.runs.proofs.Times.{times-append, times-one, bit}
+use Rattle.runs.proofs.Times.{times-append, times-one, bit-some}
 use Rattle.runs.proofs.WholeRound.{slots_to}
 
 query-here : (first : Record) (past : List Item) (sent : Record) (earlier found : List Item) (here : Bool) → (if here then exchanged first ∷ past else found) ≡ exchanged sent ∷ earlier
@@ -136,10 +136,6 @@ some-lists (exchanged sent ∷ past) round number some = record-lists sent past 
 some-lists (item ∷ past) round number some = later-lists item past round number (some-lists past round number some)
 
 -- a record lists one tag at most
-bit-some : (b : Bool) → 1 ≤ bit b → b ≡ true
-bit-some true some = refl
-bit-some false some = absurd (omega (arith, some))
-
 one-sender : (listed : List Listed) (given : Given) (number : ℕ) → 1 ≤ times number (sender_where listed given) → sender_where listed given ≡ number ∷ []
 one-sender [] given number some = absurd (omega (arith, some))
 one-sender (first ∷ more) silence number some = absurd (omega (arith, some))

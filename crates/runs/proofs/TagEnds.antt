@@ -1,5 +1,6 @@
 -- What is known of a tag where a round ends.
 use Rattle.std.proofs.Common.{◌≡◌, ℕ, Bool, true, false, List, [], ◌∷◌, ◌++◌, length, refl, ap, sym, ◌∙◌, subst, inl, inr, add-one, arith}
+use Rattle.std.proofs.lemmas.Bool.{false_from_ne_true}
 use Rattle.std.specs.List.{AllByRecursion}
 use Rattle.q_round.specs.declared.frame.Outcome.{Outcome as SlotOutcome}
 use Rattle.q_round.specs.declared.frame.Outcome.TheVariants.{Silence}
@@ -95,10 +96,6 @@ is-where on outcome of state is =
     let n = is.not_now in let u = is.unlisted.not_listed in let p = is.unlisted.takes_part in
     record { unlisted = λ part new none. refl; last = λ now. absurd (cc); earlier = λ before. absurd (cc); outside = λ none present. absurd (cc) }
 
-not_both : (b : Bool) → (b ≡ true → ⊥) → b ≡ false
-not_both true never = absurd (never refl)
-not_both false never = refl
-
 -- Behind the last slot, whichever way the round ends, the state and the flags of a tag say how it was listed.
 pub end-stands : (on : Frame) (outcome : SlotOutcome) (of : Member) (tag : TagValue) → StandsBefore on outcome of tag
     → StandsAtEnd on.session of.first of.listed of.listed_now tag
@@ -107,8 +104,8 @@ end-stands on outcome of tag stands =
     let single = once on outcome of tag.state stands.state in
     let flags : (b : Bool) → of.listed ≡ b → tag.body.flags ≡ flags_in_round on.session b of.first.body.flags =
     λ b e. stands.body.flags ∙ ap (λ (c : Bool). flags_in_round on.session c of.first.body.flags) e in
-    let new_now : of.listed_now ≡ true → of.listed ≡ false = λ now. not_both of.listed (λ e. let none = single.once e in cc) in
-    let new_outside : is_matched of.first.state ≡ false → of.listed ≡ false = λ none. not_both of.listed (λ e. let part = single.matched e in cc) in
+    let new_now : of.listed_now ≡ true → of.listed ≡ false = λ now. false_from_ne_true of.listed (λ e. let none = single.once e in cc) in
+    let new_outside : is_matched of.first.state ≡ false → of.listed ≡ false = λ none. false_from_ne_true of.listed (λ e. let part = single.matched e in cc) in
     record {
       unlisted = λ part new none. (known.unlisted part new none, flags false new);
       last = λ now. (known.last now, flags false (new_now now));

@@ -1,6 +1,7 @@
 -- What each command of a round makes of a tag that stands in the round.
 use Rattle.std.proofs.Common.{◌≡◌, ◌≢◌, ℕ, ◌-◌, ◌^◌, ◌<◌, ◌≤◌, ◌==◌, ◌||◌, Bool, true, false, List, [], ◌∷◌, length, None, if◌then◌else◌, refl, ap, sym, ◌∙◌, subst, inl, inr, eq-eqb, arith}
 use Rattle.std.proofs.Math.Nat.{pow-le-pow_right}
+use Rattle.std.proofs.Math.Bool.{or-false, or-true}
 use Rattle.std.proofs.lemmas.Bool.{ne_eqb}
 use Rattle.std.proofs.lemmas.List.{length-append}
 use Rattle.std.proofs.lemmas.Nat.{mod_below, pow_pos}
@@ -44,14 +45,6 @@ choose P false x y p q = q refl
 same_session : (P : Outcome → Type 0) (own session : ℕ) (x y : Outcome) → own ≡ session → P x → P (if own == session then x else y)
 same_session P own session x y same p =
     choose P (own == session) x y (λ is. p) (λ other. absurd (let is = eq-eqb own session same in cc))
-
-or_not : (a b : Bool) → b ≡ false → (a || b) ≡ a
-or_not true b none = refl
-or_not false b none = none
-
-or_now : (a b : Bool) → b ≡ true → (a || b) ≡ true
-or_now true b now = refl
-or_now false b now = now
 
 -- 6.3.2.4.8 Slot counter
 below : (slot : ℕ) → 1 ≤ slot → slot_below slot ≡ slot - 1
@@ -146,14 +139,14 @@ not_listed_now : (on : Frame) (of : Member) (before : Flags) (outcome : Outcome)
     → GoesOn on of.first (of.listed || of.listed_now) of.listed_now before outcome
 not_listed_now on of before outcome none known =
     subst (λ (b : Bool). GoesOn on of.first (of.listed || b) b before outcome) (sym none)
-    (subst (λ (b : Bool). GoesOn on of.first b false before outcome) (sym (or_not of.listed false refl)) known)
+    (subst (λ (b : Bool). GoesOn on of.first b false before outcome) (sym (or-false of.listed)) known)
 
 -- ... and one that was
 listed_then : (on : Frame) (of : Member) (before : Flags) (outcome : Outcome) → of.listed_now ≡ true → GoesOn on of.first true true before outcome
     → GoesOn on of.first (of.listed || of.listed_now) of.listed_now before outcome
 listed_then on of before outcome now known =
     subst (λ (b : Bool). GoesOn on of.first (of.listed || b) b before outcome) (sym now)
-    (subst (λ (b : Bool). GoesOn on of.first b true before outcome) (sym (or_now of.listed true refl)) known)
+    (subst (λ (b : Bool). GoesOn on of.first b true before outcome) (sym (or-true of.listed)) known)
 
 -- a command of the session finds the session in the tag
 of_round : (session q : ℕ) (matched listed : Bool) (own own_q : ℕ) → IsUnlisted session q matched listed own own_q → IsUnlisted session q matched listed session own_q

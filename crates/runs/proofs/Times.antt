@@ -1,5 +1,5 @@
 -- How many times a number stands in the list of the tags that are listed.
-use Rattle.std.proofs.Common.{◌≡◌, ℕ, ◌+◌, ◌==◌, ◌||◌, Bool, true, false, List, [], ◌∷◌, ◌++◌, length, filter, if◌then◌else◌, refl, ap, ◌∙◌, append-nil, arith}
+use Rattle.std.proofs.Common.{◌≡◌, ℕ, ◌+◌, ◌≤◌, ◌==◌, ◌||◌, Bool, true, false, List, [], ◌∷◌, ◌++◌, length, filter, if◌then◌else◌, refl, ap, ◌∙◌, append-nil, arith}
 use Rattle.std.proofs.lemmas.List.{length-append}
 use Rattle.std.proofs.lemmas.List.Elements.{filter-append}
 use Rattle.air_model.specs.Past.{Record, Item, exchanged}
@@ -7,8 +7,7 @@ use Rattle.runs.specs.Listed.{sender_listed_by, tags_listed_where, times}
 
 -- a test as a number
 abbrev pub bit : Bool → ℕ
-bit true = 1
-bit false = 0
+bit b = if b then 1 else 0
 
 pub times-append : (number : ℕ) (left right : List ℕ) → times number (left ++ right) ≡ times number left + times number right
 times-append number left right =
@@ -25,9 +24,9 @@ times-one number other = kept other (other == number)
 pub times-first : (number first : ℕ) (others : List ℕ) → times number (first ∷ others) ≡ bit (first == number) + times number others
 times-first number first others = times-append number (first ∷ []) others ∙ ap (λ n. n + times number others) (times-one number first)
 
-pub bit-if : (b : Bool) → (if b then 1 else 0) ≡ bit b
-bit-if true = refl
-bit-if false = refl
+pub bit-some : (b : Bool) → 1 ≤ bit b → b ≡ true
+bit-some true some = refl
+bit-some false some = absurd (omega (arith, some))
 
 pub bit-either : (first second : Bool) → (first ≡ true → second ≡ false) → bit (first || second) ≡ bit first + bit second
 bit-either true second once = let none : bit second ≡ 0 = ap bit (once refl) in omega arith

@@ -1,6 +1,6 @@
 -- A round of which nothing is said, from its Query to its end.
 use Rattle.std.proofs.Common.{◌≡◌, ℕ, ◌+◌, ◌==◌, ◌&&◌, Bool, true, false, List, [], ◌∷◌, length, if◌then◌else◌, refl, ap, sym, ◌∙◌, subst, append-nil, eq-eqb}
-use Rattle.std.proofs.lemmas.Bool.{eqb-true}
+use Rattle.std.proofs.lemmas.Bool.{and_parts, eqb-true}
 use Rattle.tag_machine.specs.Exchange.{replies_in}
 use Rattle.air_model.specs.Past.{Start, Record, Item, exchanged, ended, tag_behind, tags_behind, next_entry, next_record}
 use Rattle.reply_grammar.specs.Reception.{whole_reply}
@@ -53,12 +53,8 @@ none-listed round test past of others =
 pub round-test : (round : ℕ) → IsTestOf round (is_of_round round)
 round-test round sent passes = eqb-true sent.round round passes
 
-and-first : (a b : Bool) → (a && b) ≡ true → a ≡ true
-and-first true b e = refl
-and-first false b e = cc
-
 pub slot-test : (round slot : ℕ) → IsTestOf round (is_of_slot round slot)
-slot-test round slot sent passes = eqb-true sent.round round (and-first (sent.round == round) (sent.slot == slot) passes)
+slot-test round slot sent passes = eqb-true sent.round round (and_parts (sent.round == round) (sent.slot == slot) passes).0
 
 -- Just after its Query each tag stands in the first slot of the round.
 query-sent : (round : PlayedRound) → RoundFacts round.spec round.start.link → AreOfOthers (number_of round) round.before → next_entry round.start round.before ≡ no_entry
