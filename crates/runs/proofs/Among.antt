@@ -1,5 +1,5 @@
 -- An item is one of a list: by recursion, and by its place.
-use Rattle.std.proofs.Common.{◌≡◌, zero, suc, ◌⊎◌, inl, inr, List, [], ◌∷◌, ◌++◌, Contains, le_of_suc-le-suc, arith}
+use Rattle.std.proofs.Common.{◌≡◌, zero, suc, ◌⊎◌, inl, inr, Bool, true, false, if◌then◌else◌, List, [], ◌∷◌, ◌++◌, Contains, filter, le_of_suc-le-suc, ap, ◌∙◌, arith}
 
 -- an item is one of a list
 abbrev pub Among : {A : Type 0} → A → List A → Type 0
@@ -30,3 +30,14 @@ among-left item (first ∷ left) right (inr among) = inr (among-left item left r
 pub among-right : {A : Type 0} (item : A) (left right : List A) → Among item right → Among item (left ++ right)
 among-right item [] right among = among
 among-right item (first ∷ left) right among = inr (among-right item left right among)
+
+-- also where another stands before them or not
+pub among-later : {A : Type 0} (item first : A) (others : List A) (keeps : Bool) → Among item others → Among item (if keeps then first ∷ others else others)
+among-later item first others true among = inr among
+among-later item first others false among = among
+
+-- what passes a test is among those that pass
+pub among-filter : {A : Type 0} (test : A → Bool) (item : A) (list : List A) → test item ≡ true → Among item list → Among item (filter test list)
+among-filter test item [] passes among = absurd among
+among-filter test item (first ∷ others) passes (inl is) = let here : test first ≡ true = ap test is ∙ passes in rw here (inl is)
+among-filter test item (first ∷ others) passes (inr among) = among-later item first (filter test others) (test first) (among-filter test item others passes among)

@@ -43,32 +43,24 @@ pub record TagLaws : Type 0 where
   pub range : SendsInRange
   pub stays : StaysLegal
 
-rn16-expected : (sent : Sent) (rn : ℕ) → IsSent (Some sent) → sent.reply ≡ Rn16 rn → sent.extended ≡ false → IsReplyFor expects.Rn16 sent
-rn16-expected sent rn legal reply plain = record {
-  in_range = legal;
-  by_link = plain;
-  expected = ap (λ (r : Reply). suits r expects.Rn16 && has_handle r sent.handle 0) reply;
-}
+rn16-expected : (expect : Expect) (sent : Sent) (rn : ℕ) → Some expects.Rn16 ≡ Some expect → IsSent (Some sent) → sent.reply ≡ Rn16 rn → sent.extended ≡ false → IsReplyFor expect sent
+rn16-expected expect sent rn asked legal reply plain =
+    let same : expects.Rn16 ≡ expect = cc in
+    subst (λ (e : Expect). IsReplyFor e sent) same
+    (record { in_range = legal; by_link = plain; expected = ap (λ (r : Reply). suits r expects.Rn16 && has_handle r sent.handle 0) reply })
 
-epc-expected : (sent : Sent) (pc : ℕ) (epc : List ℕ) → IsSent (Some sent) → sent.reply ≡ Epc pc epc → sent.extended ≡ false → IsReplyFor expects.Epc sent
-epc-expected sent pc epc legal reply plain = record {
-  in_range = legal;
-  by_link = plain;
-  expected = ap (λ (r : Reply). suits r expects.Epc && has_handle r sent.handle 0) reply;
-}
-
-same-rn16 : (expect : Expect) (sent : Sent) → Some expects.Rn16 ≡ Some expect → IsReplyFor expects.Rn16 sent → IsReplyFor expect sent
-same-rn16 expect sent same is = let e : expects.Rn16 ≡ expect = cc in subst (λ (x : Expect). IsReplyFor x sent) e is
-
-same-epc : (expect : Expect) (sent : Sent) → Some expects.Epc ≡ Some expect → IsReplyFor expects.Epc sent → IsReplyFor expect sent
-same-epc expect sent same is = let e : expects.Epc ≡ expect = cc in subst (λ (x : Expect). IsReplyFor x sent) e is
+epc-expected : (expect : Expect) (sent : Sent) (pc : ℕ) (epc : List ℕ) → Some expects.Epc ≡ Some expect → IsSent (Some sent) → sent.reply ≡ Epc pc epc → sent.extended ≡ false → IsReplyFor expect sent
+epc-expected expect sent pc epc asked legal reply plain =
+    let same : expects.Epc ≡ expect = cc in
+    subst (λ (e : Expect). IsReplyFor e sent) same
+    (record { in_range = legal; by_link = plain; expected = ap (λ (r : Reply). suits r expects.Epc && has_handle r sent.handle 0) reply })
 
 row-expected : (command : Command) (expect : Expect) (state : StateValue) (body : BodyValue) (sent : Sent) → expectation_of command ≡ Some expect
     → IsSent (Some sent) → IsAnswerTo command state body sent → IsReplyFor expect sent
-row-expected (commands.QueryRep session) expect state body sent asked legal is = same-rn16 expect sent asked (rn16-expected sent _ legal is.reply is.plain)
-row-expected (commands.Ack rn) expect state body sent asked legal is = same-epc expect sent asked (epc-expected sent _ _ legal is.reply is.plain)
-row-expected (commands.Query dr line_code trext sel session target q) expect state body sent asked legal is = same-rn16 expect sent asked (rn16-expected sent _ legal is.reply is.plain)
-row-expected (commands.QueryAdjust session updn) expect state body sent asked legal is = same-rn16 expect sent asked (rn16-expected sent _ legal is.reply is.plain)
+row-expected (commands.QueryRep session) expect state body sent asked legal is = rn16-expected expect sent _ asked legal is.reply is.plain
+row-expected (commands.Ack rn) expect state body sent asked legal is = epc-expected expect sent _ _ asked legal is.reply is.plain
+row-expected (commands.Query dr line_code trext sel session target q) expect state body sent asked legal is = rn16-expected expect sent _ asked legal is.reply is.plain
+row-expected (commands.QueryAdjust session updn) expect state body sent asked legal is = rn16-expected expect sent _ asked legal is.reply is.plain
 row-expected command expect state body sent asked legal is = absurd (cc)
 
 -- what holds of whatever legal tags answer to a command holds of what the channel gives

@@ -81,32 +81,22 @@ round-exchanges keeps start operations spec past legal =
 pub steps-exchanges : RoundsKeepLimit → (start : Start) (steps : List Step) (past : List Item) → AreLegalSteps steps
     → exchanges_in (past_behind start steps past) ≤ exchanges_in past + most_exchanges steps
 steps-exchanges keeps start [] past legal = omega arith
-steps-exchanges keeps start (steps.Select command ∷ later) past legal =
-    let behind = past_behind_step start (steps.Select command) past in
-    let more : exchanges_in (past_behind start later behind) ≤ exchanges_in behind + most_exchanges later = steps-exchanges keeps start later behind legal.1 in
-    omega arith
-steps-exchanges keeps start (steps.Nak ∷ later) past legal =
-    let behind = past_behind_step start steps.Nak past in
-    let more : exchanges_in (past_behind start later behind) ≤ exchanges_in behind + most_exchanges later = steps-exchanges keeps start later behind legal.1 in
-    omega arith
-steps-exchanges keeps start (steps.Event event number ∷ later) past legal =
-    let behind = past_behind_step start (steps.Event event number) past in
-    let more : exchanges_in (past_behind start later behind) ≤ exchanges_in behind + most_exchanges later = steps-exchanges keeps start later behind legal.1 in
-    omega arith
 steps-exchanges keeps start (steps.Round spec operations ∷ later) past legal =
     let behind = past_behind_round start operations spec past in
     let round : exchanges_in behind ≤ exchanges_in past + (2 + most_operating operations) * spec.limit = round-exchanges keeps start operations spec past legal.0.legal in
+    let more : exchanges_in (past_behind start later behind) ≤ exchanges_in behind + most_exchanges later = steps-exchanges keeps start later behind legal.1 in
+    omega arith
+steps-exchanges keeps start (step ∷ later) past legal =
+    let behind = past_behind_step start step past in
     let more : exchanges_in (past_behind start later behind) ≤ exchanges_in behind + most_exchanges later = steps-exchanges keeps start later behind legal.1 in
     omega arith
 
 -- a step has at most 9,170,000 exchanges: 70,000 slots of 131
 pub few-exchanges : (steps : List Step) → AreLegalSteps steps → most_exchanges steps ≤ 9170000 * length steps
 few-exchanges [] legal = omega arith
-few-exchanges (steps.Select command ∷ later) legal = let few = few-exchanges later legal.1 in omega arith
-few-exchanges (steps.Nak ∷ later) legal = let few = few-exchanges later legal.1 in omega arith
-few-exchanges (steps.Event event number ∷ later) legal = let few = few-exchanges later legal.1 in omega arith
 few-exchanges (steps.Round spec operations ∷ later) legal =
     let each : 2 + most_operating operations ≤ 131 = omega (arith, legal.0.few) in
     let round : (2 + most_operating operations) * spec.limit ≤ 131 * 70000 = mul-le-mul each legal.0.legal.limit.1 in
     let few = few-exchanges later legal.1 in
     omega (arith, round, few)
+few-exchanges (step ∷ later) legal = let few = few-exchanges later legal.1 in omega arith

@@ -103,7 +103,7 @@ item-passes test link item past none =
     ∙ ap (λ (lines : List ReportLine). filter test (past_lines link past) ++ lines) none
     ∙ append-nil (filter test (past_lines link past))
 
-no-last : (test : ReportLine → Bool) → PassesFew test → (seen : List SeenCount) (number : ℕ) (tags : List TagValue)
+pub no-last : (test : ReportLine → Bool) → PassesFew test → (seen : List SeenCount) (number : ℕ) (tags : List TagValue)
     → filter test (map (λ seen. SeenLine seen.count seen.pc seen.epc) seen ++ tag_lines number tags ++ DoneLine ∷ []) ≡ []
 no-last test few [] number [] = rw few.done refl
 no-last test few [] number (tag ∷ tags) = rw (few.tag number tag) (no-last test few [] (number + 1) tags)

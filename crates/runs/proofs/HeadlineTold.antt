@@ -1,17 +1,17 @@
 -- Each list line is that of one record: from the line to the record, and to what came whole in reply to its ACK.
-use Rattle.std.proofs.Common.{◌≡◌, ℕ, ◌+◌, inl, inr, List, [], ◌∷◌, ◌++◌, map, Contains, refl, ap}
-use Rattle.air_model.specs.Past.{Start, Record, Item, befell, exchanged, operated, ended, tags_behind}
+use Rattle.std.proofs.Common.{◌≡◌, ◌==◌, inl, inr, true, List, [], ◌∷◌, ◌++◌, map, filter, Contains, refl, ap, subst, eq-eqb}
+use Rattle.air_model.specs.Past.{Start, Record, Item, exchanged, tags_behind}
 use Rattle.air_model.specs.Reception.{reception_of}
 use Rattle.reply_grammar.specs.Reception.{Reception, no_stream, whole_reply, no_such_reply}
-use Rattle.runs.specs.Headline.{AreLegalSteps, IsAckOf}
+use Rattle.runs.specs.Headline.{AreLegalSteps, IsAckOf, is_list_line}
 use Rattle.runs.specs.History.{history_of}
 use Rattle.runs.specs.Listing.{Listed, reception_of_ack, listed_from, listed_by, listing_of}
-use Rattle.runs.specs.Said.{answer_line, exchanged_by}
-use Rattle.runs.specs.Report.{first_lines, exchange_lines, wave_lines, list_line, item_lines, past_lines, tag_lines, last_lines, run_lines, report_of}
+use Rattle.runs.specs.Report.{first_lines, exchange_lines, list_line, item_lines, past_lines, last_lines, run_lines, report_of}
 use Rattle.report_lines.specs.Kept.{keeps}
 use Rattle.report_lines.specs.declared.mode.Mode.{Mode}
 use Rattle.runs.proofs.Growth.{RoundsKeepLimit}
-use Rattle.runs.proofs.Among.{Among, among-of, among-split}
+use Rattle.runs.proofs.Among.{Among, among-filter, among-of, among-split}
+use Rattle.runs.proofs.HeadlineLines.{and-true, list-lines-pass, list-no-trace, no-exchange, no-last}
 use Rattle.runs.proofs.HeadlineKept.{among-kept}
 use Rattle.runs.proofs.HeadlineListed.{Tells, IsTold, one-ack}
 use Rattle.command_grammar.specs.declared.commands.Command.{Command}
@@ -19,11 +19,9 @@ use Rattle.command_grammar.specs.declared.commands.Command.TheVariants as comman
 use Rattle.pie_line.specs.Link.{LinkValue}
 use Rattle.reply_grammar.specs.declared.expected.Expect.TheVariants as expects
 use Rattle.reply_grammar.specs.declared.expected.Reply.TheVariants as replies
-use Rattle.report_lines.specs.ReportLine.{ReportLine, MissedLine, GivenLine, SeenLine, DoneLine}
-use Rattle.report_lines.specs.SeenCounts.{SeenCount, seen_counts}
+use Rattle.report_lines.specs.ReportLine.{ReportLine}
+use Rattle.report_lines.specs.SeenCounts.{seen_counts}
 use Rattle.scenario.specs.declared.values.Step.{Step}
-use Rattle.wave_dump.specs.Exchanged.{Exchanged}
-use Rattle.tag_machine.specs.TagValue.{TagValue}
 
 -- a line is what a record lists of what came
 record IsLineOf (sent : Record) (reception : Reception) (listed : Listed) : Type 0 where
@@ -54,47 +52,19 @@ told-later item history listed told = record {
   tells = told.tells;
 }
 
-told-first : (link : LinkValue) (listed : Listed) → Among (list_line listed) (first_lines link) → ⊥
-told-first link listed (inl is) = cc
-told-first link listed (inr none) = none
-
--- lines that are made of items, none of which is the line
-not-made : {A : Type 0} (make : A → ReportLine) (listed : Listed) → ((item : A) → make item ≡ list_line listed → ⊥) → (items : List A) (more : List ReportLine)
-    → Among (list_line listed) (map make items ++ more) → Among (list_line listed) more
-not-made make listed differs [] more among = among
-not-made make listed differs (item ∷ items) more (inl is) = absurd (differs item is)
-not-made make listed differs (item ∷ items) more (inr among) = not-made make listed differs items more among
-
-told-given : (over : Exchanged) (listed : Listed) → Among (list_line listed) (GivenLine over ∷ []) → ⊥
-told-given over listed (inl is) = cc
-told-given over listed (inr none) = none
-
-told-waves : (link : LinkValue) (sent : Record) (listed : Listed) → Among (list_line listed) (wave_lines link sent) → ⊥
-told-waves link sent listed (inl is) = cc
-told-waves link sent listed (inr (inl is)) = cc
-told-waves link sent listed (inr (inr none)) = none
-
-told-exchange : (link : LinkValue) (sent : Record) (listed : Listed) → Among (list_line listed) (exchange_lines link sent) → ⊥
-told-exchange link sent listed (inl is) = cc
-told-exchange link sent listed (inr among) =
-    let exchange : ℕ = sent.exchange in
-    let answers : List ReportLine = map (answer_line exchange) sent.replies ++ GivenLine (exchanged_by link sent) ∷ [] in
-    elim (among-split (list_line listed) (map (MissedLine exchange) sent.entry.missed ++ answers) (wave_lines link sent) among) [
-      | inl said ↦ told-given (exchanged_by link sent) listed
-          (not-made (answer_line exchange) listed (λ replied is. cc) sent.replies _ (not-made (MissedLine exchange) listed (λ tag is. cc) sent.entry.missed answers said))
-      | inr waves ↦ told-waves link sent listed waves
-    ]
+-- no list line is among lines of which none passes
+unlisted : (listed : Listed) (lines : List ReportLine) → filter (is_list_line listed.round listed.slot) lines ≡ [] → Among (list_line listed) lines → ⊥
+unlisted listed lines none among =
+    let itself : is_list_line listed.round listed.slot (list_line listed) ≡ true =
+    and-true (listed.round == listed.round) (listed.slot == listed.slot) (eq-eqb listed.round listed.round refl) (eq-eqb listed.slot listed.slot refl) in
+    subst (λ (kept : List ReportLine). Among (list_line listed) kept) none (among-filter (is_list_line listed.round listed.slot) (list_line listed) lines itself among)
 
 told-item : (link : LinkValue) (item : Item) (past : List Item) (listed : Listed)
     → Among (list_line listed) (item_lines link item) → IsTold (item ∷ past) listed
-told-item link (befell event number) past listed among = absurd among
-told-item link (operated number place index result) past listed (inl is) = absurd (cc)
-told-item link (operated number place index result) past listed (inr none) = absurd none
-told-item link (ended number end slots) past listed (inl is) = absurd (cc)
-told-item link (ended number end slots) past listed (inr none) = absurd none
 told-item link (exchanged sent) past listed among =
     elim (among-split (list_line listed) (exchange_lines link sent) (map list_line (listed_by sent)) among) [
-      | inl found ↦ absurd (told-exchange link sent listed found)
+      | inl found ↦ absurd (unlisted listed (exchange_lines link sent)
+          (no-exchange (is_list_line listed.round listed.slot) (list-no-trace listed.round listed.slot) link sent) found)
       | inr found ↦ record {
         sent = sent;
         earlier = past;
@@ -102,9 +72,10 @@ told-item link (exchanged sent) past listed among =
         tells = told-command sent sent.command listed refl found;
       }
     ]
+told-item link item past listed among = absurd (unlisted listed (item_lines link item) refl among)
 
 pub told : (link : LinkValue) (past : List Item) (listed : Listed) → Among (list_line listed) (past_lines link past) → IsTold past listed
-told link [] listed among = absurd (told-first link listed among)
+told link [] listed among = absurd (unlisted listed (first_lines link) refl among)
 told link (item ∷ past) listed among =
     elim (among-split (list_line listed) (past_lines link past) (item_lines link item) among) [
       | inl found ↦ told-later item past listed (told link past listed found)
@@ -112,21 +83,13 @@ told link (item ∷ past) listed among =
     ]
 
 -- behind the steps nothing is listed
-none-last : (seen : List SeenCount) (number : ℕ) (tags : List TagValue) (listed : Listed)
-    → Among (list_line listed) (map (λ seen. SeenLine seen.count seen.pc seen.epc) seen ++ tag_lines number tags ++ DoneLine ∷ []) → ⊥
-none-last [] number [] listed (inl is) = cc
-none-last [] number [] listed (inr none) = none
-none-last [] number (tag ∷ tags) listed (inl is) = cc
-none-last [] number (tag ∷ tags) listed (inr among) = none-last [] (number + 1) tags listed among
-none-last (one ∷ more) number tags listed (inl is) = cc
-none-last (one ∷ more) number tags listed (inr among) = none-last more number tags listed among
-
 pub told-run : (start : Start) (past : List Item) (listed : Listed)
     → Among (list_line listed) (past_lines start.link past ++ last_lines start past) → IsTold past listed
 told-run start past listed among =
     elim (among-split (list_line listed) (past_lines start.link past) (last_lines start past) among) [
       | inl found ↦ told start.link past listed found
-      | inr found ↦ absurd (none-last (seen_counts (map (λ listed. (listed.pc, listed.epc)) (listing_of past))) 0 (tags_behind start past) listed found)
+      | inr found ↦ absurd (unlisted listed (last_lines start past)
+          (no-last (is_list_line listed.round listed.slot) (list-lines-pass listed.round listed.slot) (seen_counts (map (λ listed. (listed.pc, listed.epc)) (listing_of past))) 0 (tags_behind start past)) found)
     ]
 
 -- ... also where a mode has kept it

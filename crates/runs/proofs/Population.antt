@@ -6,7 +6,7 @@ use Rattle.air_model.specs.Past.{Start, Item, tag_behind, tags_behind_from, past
 use Rattle.air_events.specs.Entries.{no_entry}
 use Rattle.air_events.specs.declared.Entry.{Entry}
 use Rattle.command_grammar.specs.declared.commands.Command.{Command}
-use Rattle.runs.proofs.Among.{Among, among-left, among-right, among-split}
+use Rattle.runs.proofs.Among.{Among, among-later, among-left, among-right, among-split}
 use Rattle.tag_machine.specs.Answers.{Sent}
 use Rattle.tag_machine.specs.Step.{step}
 use Rattle.tag_machine.specs.TagValue.{TagValue}
@@ -71,10 +71,6 @@ hearer-here : (number : ℕ) (hears : Bool) (others : List ℕ) → hears ≡ tr
 hearer-here number true others is = inl refl
 hearer-here number false others is = absurd (cc)
 
-hearer-later : (hearer number : ℕ) (hears : Bool) (others : List ℕ) → Among hearer others → Among hearer (if hears then number ∷ others else others)
-hearer-later hearer number true others among = inr among
-hearer-later hearer number false others among = among
-
 answerer-here : (number : ℕ) (command : Command) (entry : Entry) (past : List Item) (start : TagValue) (starts : List TagValue) (replied : Replied)
     → Among replied (reply_of number (outcome_in number command entry (tag_behind number start past)).answer)
     → Answerer number command entry past (start ∷ starts) replied
@@ -107,8 +103,8 @@ answerer number command entry past (start ∷ starts) replied among =
             numbered = rest.numbered;
             number_is = rest.number_is ∙ omega arith;
             answered = rest.answered;
-            heard = λ hears. hearer-later replied.number number (is_hearer number entry (tag_behind number start past))
-                (hearers_of (number + 1) entry (tags_behind_from (number + 1) starts past)) (rest.heard hears);
+            heard = λ hears. among-later replied.number number (hearers_of (number + 1) entry (tags_behind_from (number + 1) starts past))
+                (is_hearer number entry (tag_behind number start past)) (rest.heard hears);
           }
     ]
 
