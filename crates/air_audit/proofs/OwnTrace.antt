@@ -108,8 +108,7 @@ judged-same start (exchanged sent ∷ past) are =
       exchanges = ap (λ (n : ℕ). n + 1) same.exchanges;
       place = ap (λ (p : Place). place_of_command p sent.command) same.place;
     }
-judged-same start (operated round slot index result ∷ past) are = let same = judged-same start past are.1 in record { tag = same.tag; exchanges = same.exchanges; place = same.place }
-judged-same start (round_ended round end slots ∷ past) are = let same = judged-same start past are.1 in record { tag = same.tag; exchanges = same.exchanges; place = same.place }
+judged-same start (item ∷ past) are = let same = judged-same start past are.1 in record { tag = same.tag; exchanges = same.exchanges; place = same.place }
 
 -- what an exchange lists is the same in both, since only an ACK lists
 listed-same : (sent other : Record) (command : Command) → sent.command ≡ command → other.command ≡ command → (IsAck command → sent ≡ other)
@@ -284,10 +283,8 @@ pub record OwnRun (scenario : Scenario) : Type 0 where
 
 fewer-exchanges : (later past : List Item) → exchanges_in past ≤ exchanges_in (later ++ past)
 fewer-exchanges [] past = omega arith
-fewer-exchanges (befell event number ∷ later) past = fewer-exchanges later past
 fewer-exchanges (exchanged sent ∷ later) past = omega (arith, fewer-exchanges later past)
-fewer-exchanges (operated round slot index result ∷ later) past = fewer-exchanges later past
-fewer-exchanges (round_ended round end slots ∷ later) past = fewer-exchanges later past
+fewer-exchanges (item ∷ later) past = fewer-exchanges later past
 
 own-item : (scenario : Scenario) → OwnRun scenario → (later : List Item) (item : Item) (past : List Item) → history scenario ≡ later ++ item ∷ past
     → IsInPlace past item → IsOwnItem (start_of scenario) past item
@@ -304,8 +301,7 @@ own-item scenario run later (exchanged sent) past split place =
       few = omega arith;
       in_place = place;
     }
-own-item scenario run later (operated round slot index result) past split place = tt
-own-item scenario run later (round_ended round end slots) past split place = tt
+own-item scenario run later item past split place = tt
 
 own-behind : (scenario : Scenario) → OwnRun scenario → (later past : List Item) → history scenario ≡ later ++ past
     → GrowsByNext (start_of scenario) scenario.steps past → AreOwn (start_of scenario) past

@@ -209,10 +209,7 @@ rule-goes start spec past outcomes (nexts.Send command) few is counts =
       in_place = λ ack. absurd (slot-no-ack command begins ack);
       counts = slot-counts (next_record start (rounds_in past + 1) (length outcomes + 1) command past) past refl begins turn counts;
     }
-rule-goes start spec past outcomes nexts.Quiet few is counts =
-    let some : 1 ≤ length outcomes = ends-late spec start.link outcomes (subst IsEnd (sym is) tt) in
-    record { in_place = tt; counts = ended-counts _ _ _ past (omega arith) counts }
-rule-goes start spec past outcomes nexts.Limit few is counts =
+rule-goes start spec past outcomes next few is counts =
     let some : 1 ≤ length outcomes = ends-late spec start.link outcomes (subst IsEnd (sym is) tt) in
     record { in_place = tt; counts = ended-counts _ _ _ past (omega arith) counts }
 

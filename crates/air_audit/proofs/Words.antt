@@ -1,5 +1,6 @@
 -- The words that lines begin with: each line of a report begins with its own.
 use Rattle.std.proofs.Common.{◌≡◌, ◌&&◌, ◌||◌, ltb, if◌then◌else◌, ℕ, Bool, true, false, List, [], ◌∷◌, Option, Some, None, codes, get_or, ap, refl, sym, subst, ◌∙◌, ltb-true}
+use Rattle.std.proofs.lemmas.Bool.{and_parts}
 use Rattle.std.proofs.lemmas.Slice.Eq.{bytes_eq-Decides}
 use Rattle.std.specs.Str.{bytes_eq}
 use Rattle.access_ops.specs.declared.op_next.OpResult.{OpResult}
@@ -22,15 +23,11 @@ abbrev pub all_visible : List ℕ → Bool
 all_visible [] = true
 all_visible (byte ∷ bytes) = ltb space byte && all_visible bytes
 
-both : (one other : Bool) → (one && other) ≡ true → (one ≡ true) × (other ≡ true)
-both true other is = (refl, is)
-both false other is = absurd (cc)
-
 -- such bytes are a field
 pub word-text : (byte : ℕ) (bytes : List ℕ) → all_visible (byte ∷ bytes) ≡ true → IsFieldText (byte ∷ bytes)
-word-text byte [] visible = IsFieldText-one byte (ltb-true space byte (both (ltb space byte) true visible).0)
+word-text byte [] visible = IsFieldText-one byte (ltb-true space byte (and_parts (ltb space byte) true visible).0)
 word-text byte (next ∷ bytes) visible =
-    let parts = both (ltb space byte) (all_visible (next ∷ bytes)) visible in
+    let parts = and_parts (ltb space byte) (all_visible (next ∷ bytes)) visible in
     IsFieldText-cons byte (next ∷ bytes) (ltb-true space byte parts.0) (word-text next bytes parts.1)
 
 -- a line begins with its first field
