@@ -280,14 +280,13 @@ first-memory : (spec : SpecValue) (link : LinkValue) (number : ℕ) (tag after :
 first-memory spec link number tag after is =
     ap (λ (t : TagValue). t.body.memory) is ∙ query-memory link.dr link.code link.trext spec.sel spec.session spec.target spec.q tag
 
--- ... and where it was ready with flags that the Query speaks to, it matched
-first-matched : (spec : SpecValue) (link : LinkValue) (number : ℕ) (tag after : TagValue) → after ≡ tag_stepped (query_command spec link) [] number tag
-    → tag.state ≡ ReadyState → matches spec.sel spec.session spec.target tag.body.flags ≡ true → is_matched after.state ≡ true
-first-matched spec link number tag after is ready matching =
+-- ... and where it was ready, it matched if its flags are those that the Query speaks to
+pub ready-matched : (spec : SpecValue) (link : LinkValue) (number : ℕ) (tag after : TagValue) → after ≡ tag_stepped (query_command spec link) [] number tag → tag.state ≡ ReadyState
+    → is_matched after.state ≡ matches spec.sel spec.session spec.target tag.body.flags
+ready-matched spec link number tag after is ready =
     ap (λ (t : TagValue). is_matched t.state) is
     ∙ query-matched link.dr link.code link.trext spec.sel spec.session spec.target spec.q tag
     ∙ ap (λ (state : StateValue). is_present state && matches spec.sel spec.session spec.target (flags_behind_query spec.session state tag.body.flags)) ready
-    ∙ matching
 
 -- the history of a run of one round
 abbrev pub history_of_round : Start → SpecValue → OpList → List Item
@@ -382,8 +381,8 @@ every-tag keeps facts start spec operations slots past plain quiet =
     let spoken : (number : ℕ) (tag : TagValue) → HasNumber start number tag → is_spoken_to spec (tag_after_query 1 history number tag) ≡ true =
     λ number tag numbered.
     sym (by.spoken number tag numbered)
-    ∙ first-matched spec link number tag (tag_after_query 1 history number tag) (after-query start spec operations one told number tag)
-    (plain.part.ready number tag numbered) (plain.part.matching number tag numbered) in
+    ∙ ready-matched spec link number tag (tag_after_query 1 history number tag) (after-query start spec operations one told number tag) (plain.part.ready number tag numbered)
+    ∙ plain.part.matching number tag numbered in
     let tags = lists-tags keeps facts start spec operations one in
     let numbers = tags_listed_where (λ sent. true) history in
     let count : length numbers ≡ length start.tags =

@@ -27,8 +27,7 @@ use Rattle.runs.proofs.Answering.{TagLaws}
 use Rattle.runs.proofs.HeadlineAll.{listed-kept, told-whole}
 use Rattle.runs.proofs.HeadlineListed.{IsTold}
 use Rattle.runs.proofs.HeadlineTold.{told-report, told-ack}
-use Rattle.runs.proofs.HeardRecords.{behind-record, recorded-expected}
-use Rattle.runs.proofs.MadeRecords.{made-record, made-read}
+use Rattle.runs.proofs.MadeRecords.{behind-record, recorded-expected, made-record, made-read}
 use Rattle.scenario.specs.declared.values.Scenario.{Scenario}
 
 -- the tags of a scenario are legal behind each past of its history

@@ -214,21 +214,18 @@ inside-answer on outcomes slot reception past count inside =
     (λ none. subst (λ (received : Option ℕ). Inside on outcomes received done past) none inside)
     (λ rn is. inside-ack on outcomes slot rn past count (subst (λ (reception : Reception). Inside on outcomes (rn_of reception) done past) is inside))
 
--- between steps, of which so many are finished
-record Between (start : Start) (all : List Step) (finished : ℕ) (past : List Item) : Type 0 where
-  pub grows : GrowsByNext start all past
-  pub finished_is : finished_in past ≡ finished
-  pub received_is : rn_received past ≡ None
-  pub over : (operations : OpList) → dialogue_left start operations past ≡ done
-  pub rounds : ℕ
-  pub added : Adds [] past rounds
-
--- what a round leaves
+-- what a step leaves, behind so many finished ones
 record Behind (start : Start) (all : List Step) (finished : ℕ) (past : List Item) : Type 0 where
   pub grows : GrowsByNext start all past
   pub finished_is : finished_in past ≡ finished
   pub received_is : rn_received past ≡ None
   pub over : (operations : OpList) → dialogue_left start operations past ≡ done
+
+-- between steps: so, and so many rounds are past
+record Between (start : Start) (all : List Step) (finished : ℕ) (past : List Item) : Type 0 where
+  pub behind : Behind start all finished past
+  pub rounds : ℕ
+  pub added : Adds [] past rounds
 
 end-item : (start : Start) (round : ℕ) (outcomes : List Outcome) (past : List Item) (end : RoundEnd)
     → item_by_rule start round outcomes past (next_at_end end) ≡ ended round end (length outcomes)
@@ -265,17 +262,17 @@ round-grows keeps start all finished past spec operations legal (at, between) =
       };
     })
     (record {
-      grows = between.grows;
-      finished_is = between.finished_is;
+      grows = between.behind.grows;
+      finished_is = between.behind.finished_is;
       rounds_are = refl;
       outcomes_are = ap (λ (sents : List Record). map (λ sent. outcome_of (reception_of_slot sent)) sents)
           (no-slots (rounds + 1) past (none-of-later past between.rounds (rounds + 1) between.added (omega (arith, between.added.rounds_are))));
-      received_is = between.received_is;
-      left_is = between.over operations;
+      received_is = between.behind.received_is;
+      left_is = between.behind.over operations;
     })
 
 -- a Select begins no slot
-select-begins-none : (command : Command) → IsSelect command → begins_slot command ≡ false
+pub select-begins-none : (command : Command) → IsSelect command → begins_slot command ≡ false
 select-begins-none (commands.Select target action bank pointer mask) is = refl
 select-begins-none command is = absurd is
 
@@ -289,29 +286,29 @@ select-done start operations sent command is = refl
 next-between : (start : Start) (all : List Step) (finished : ℕ) (past : List Item) (step : Option Step) → slice_get all finished ≡ step → Between start all finished past
     → next_item start all past ≡ item_of_step start past step
 next-between start all finished past step at between =
-    ap (λ n. item_of_step start past (slice_get all n)) between.finished_is ∙ ap (λ (s : Option Step). item_of_step start past s) at
+    ap (λ n. item_of_step start past (slice_get all n)) between.behind.finished_is ∙ ap (λ (s : Option Step). item_of_step start past s) at
 
 step-grows-by-next : RoundsKeepLimit → (start : Start) (all : List Step) (finished : ℕ) (past : List Item) (step : Step) → IsLegalStep step
     → slice_get all finished ≡ Some step → Between start all finished past → Behind start all (finished + 1) (past_behind_step start step past)
 step-grows-by-next keeps start all finished past (steps.Select command) legal at between =
     let none : begins_slot command ≡ false = select-begins-none command legal in
     record {
-      grows = (next-between start all finished past (Some (steps.Select command)) at between, between.grows);
-      finished_is = ap (λ n. n + 1) between.finished_is;
+      grows = (next-between start all finished past (Some (steps.Select command)) at between, between.behind.grows);
+      finished_is = ap (λ n. n + 1) between.behind.finished_is;
       received_is = rw none refl;
       over = λ operations.
-          ap (λ (dialogue : Dialogue). dialogue_behind_exchange start operations (next_record start 0 0 command past) command dialogue) (between.over operations)
+          ap (λ (dialogue : Dialogue). dialogue_behind_exchange start operations (next_record start 0 0 command past) command dialogue) (between.behind.over operations)
           ∙ select-done start operations (next_record start 0 0 command past) command legal;
     }
 step-grows-by-next keeps start all finished past steps.Nak legal at between = record {
-  grows = (next-between start all finished past (Some steps.Nak) at between, between.grows);
-  finished_is = ap (λ n. n + 1) between.finished_is;
+  grows = (next-between start all finished past (Some steps.Nak) at between, between.behind.grows);
+  finished_is = ap (λ n. n + 1) between.behind.finished_is;
   received_is = refl;
-  over = λ operations. ap (λ (dialogue : Dialogue). dialogue_behind_record start (next_record start 0 0 commands.Nak past) dialogue) (between.over operations);
+  over = λ operations. ap (λ (dialogue : Dialogue). dialogue_behind_record start (next_record start 0 0 commands.Nak past) dialogue) (between.behind.over operations);
 }
 step-grows-by-next keeps start all finished past (steps.Event event number) legal at between = record {
-  grows = (next-between start all finished past (Some (steps.Event event number)) at between, between.grows);
-  finished_is = ap (λ n. n + 1) between.finished_is;
+  grows = (next-between start all finished past (Some (steps.Event event number)) at between, between.behind.grows);
+  finished_is = ap (λ n. n + 1) between.behind.finished_is;
   received_is = refl;
   over = λ operations. refl;
 }
@@ -330,7 +327,7 @@ AreLeft all finished left = (place more : ℕ) → place ≡ finished + more →
 steps-grow-by-next : RoundsKeepLimit → (start : Start) (all left : List Step) (finished : ℕ) (past : List Item) → AreLegalSteps left → AreLeft all finished left
     → Between start all finished past → Ends start all (past_behind start left past)
 steps-grow-by-next keeps start all [] finished past legal at between = record {
-  grows = between.grows;
+  grows = between.behind.grows;
   ends = next-between start all finished past None (at finished 0 (omega arith)) between;
 }
 steps-grow-by-next keeps start all (step ∷ left) finished past legal at between =
@@ -338,10 +335,7 @@ steps-grow-by-next keeps start all (step ∷ left) finished past legal at betwee
     let behind : Behind start all (finished + 1) now = step-grows-by-next keeps start all finished past step legal.0 (at finished 0 (omega arith)) between in
     steps-grow-by-next keeps start all left (finished + 1) now legal.1 (λ place more is. at place (suc more) (omega (arith, is)))
     (record {
-      grows = behind.grows;
-      finished_is = behind.finished_is;
-      received_is = behind.received_is;
-      over = behind.over;
+      behind = behind;
       rounds = between.rounds + rounds_of (step ∷ []);
       added = adds-on [] past now between.rounds (rounds_of (step ∷ [])) between.added (step-adds keeps start step past legal.0);
     })
@@ -349,7 +343,7 @@ steps-grow-by-next keeps start all (step ∷ left) finished past legal at betwee
 history-ends : RoundsKeepLimit → (start : Start) (all : List Step) → AreLegalSteps all → Ends start all (history_of start all)
 history-ends keeps start all legal =
     steps-grow-by-next keeps start all all 0 [] legal (λ place more is. ap (λ n. slice_get all n) (is ∙ omega arith))
-    (record { grows = tt; finished_is = refl; received_is = refl; over = λ operations. refl; rounds = 0; added = adds-none [] })
+    (record { behind = record { grows = tt; finished_is = refl; received_is = refl; over = λ operations. refl }; rounds = 0; added = adds-none [] })
 
 pub history-grows : RoundsKeepLimit → (start : Start) (all : List Step) → AreLegalSteps all → GrowsByNext start all (history_of start all)
 history-grows keeps start all legal = (history-ends keeps start all legal).grows

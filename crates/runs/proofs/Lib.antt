@@ -11,7 +11,6 @@ pub mod HeadlineSent
 pub mod HeadlineSlots
 pub mod HeadlineTags
 pub mod HeadlineTold
-pub mod HeardRecords
 pub mod LegalPasts
 pub mod LegalStart
 pub mod MadeRecords
@@ -24,7 +23,6 @@ pub mod TagBetween
 pub mod WholeRound
 pub mod TagsInRound
 pub mod TagEnds
-pub mod Honesty
 pub mod Population
 pub mod Heard
 pub mod OtherRounds

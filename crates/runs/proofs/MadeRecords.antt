@@ -1,10 +1,11 @@
--- Each record of a history is the one that its command makes, and what the channel gave in it is a raw stream only where one is chosen.
-use Rattle.std.proofs.Common.{◌≡◌, ℕ, ◌+◌, ◌==◌, Bool, true, false, List, [], ◌∷◌, ◌++◌, if◌then◌else◌, refl, ap, sym, ◌∙◌, subst}
+-- What is known of each record of a history: it is the one that its command makes; what the channel gave in it is a raw stream only where one is
+-- chosen, and is else what is expected; and a round is honest where nothing is said of its records.
+use Rattle.std.proofs.Common.{◌≡◌, ℕ, ◌+◌, ◌==◌, Bool, true, false, List, [], ◌∷◌, ◌++◌, if◌then◌else◌, refl, ap, sym, ◌∙◌, subst, Some, append_assoc}
 use Rattle.air_events.specs.Entries.{entry_at, no_entry}
 use Rattle.air_events.specs.declared.Entry.{Entry}
 use Rattle.air_model.specs.Channel.{Given, raw, IsReadBy, IsOfReplies, GoesByReplies}
-use Rattle.tag_machine.specs.Exchange.{replies_in}
-use Rattle.air_model.specs.Past.{Start, Record, Item, tags_behind, exchanges_in, next_entry, next_record}
+use Rattle.tag_machine.specs.Exchange.{replies_in, AreLegalTags}
+use Rattle.air_model.specs.Past.{Start, Record, Item, tags_behind, exchanges_in, next_entry, next_record, exchanged}
 use Rattle.air_model.proofs.GivenLaws.{given_is_read, given_of_replies}
 use Rattle.bit_strings.specs.declared.code.Code.{Code}
 use Rattle.runs.specs.Headline.{IsRecordOf, HasNoRawStream}
@@ -14,6 +15,13 @@ use Rattle.runs.specs.Listing.{Listed, listed_by}
 use Rattle.runs.proofs.Growth.{run-always}
 use Rattle.runs.proofs.Records.{AllRecords, records-at}
 use Rattle.scenario.specs.declared.values.Step.{Step}
+use Rattle.access_ops.specs.laws.OperationLaws.{Expects}
+use Rattle.air_model.specs.Reception.{HoldsOfSent, IsGivenFor, IsUnmistakable}
+use Rattle.runs.proofs.Answering.{TagLaws, given-in-expected, given-unmistakable}
+use Rattle.runs.specs.NextItem.{expectation_of}
+use Rattle.reply_grammar.specs.declared.expected.Expect.{Expect}
+use Rattle.access_ops.specs.declared.OpList.{OpList}
+use Rattle.runs.specs.Honest.{IsHonest}
 
 -- each record is the one that its command makes, sent when this was past
 abbrev AreMade : Start → List Item → Type 0
@@ -77,3 +85,44 @@ none-sent (one ∷ more) code trext levels = refl
 -- a record that was given a raw stream lists no tag
 pub raw-unsent : (sent : Record) (code : Code) (trext : Bool) (levels : List Bool) → sent.given ≡ raw code trext levels → sender_listed_by sent ≡ []
 raw-unsent sent code trext levels is = ap (λ (given : Given). sender_where (listed_by sent) given) is ∙ none-sent (listed_by sent) code trext levels
+
+-- the pasts behind a record of a history are fronts of it
+pub behind-record : (history : List Item) (sent : Record) (earlier : List Item) (recorded : IsRecordOf history sent earlier)
+    → history ≡ (recorded.later ++ exchanged sent ∷ []) ++ earlier
+behind-record history sent earlier recorded = recorded.is ∙ sym (append_assoc recorded.later (exchanged sent ∷ []) earlier)
+
+pub recorded-expected : TagLaws → (start : Start) (sent : Record) (earlier : List Item) (expect : Expect)
+    → sent ≡ next_record start sent.round sent.slot sent.command earlier → AreLegalTags (tags_behind start earlier) → expectation_of sent.command ≡ Some expect
+    → IsGivenFor expect sent.given
+recorded-expected laws start sent earlier expect made legal asked =
+    subst (λ (g : Given). IsGivenFor expect g) (sym (ap (λ (r : Record). r.given) made))
+    (given-in-expected laws start sent.command expect (next_entry start earlier) (tags_behind start earlier) asked legal)
+
+pub recorded-unmistakable : TagLaws → (start : Start) (sent : Record) (earlier : List Item) (expect : Expect) (extended : Bool)
+    → sent ≡ next_record start sent.round sent.slot sent.command earlier → AreLegalTags (tags_behind start earlier) → Expects sent.command expect extended
+    → HoldsOfSent (IsUnmistakable expect) sent.given
+recorded-unmistakable laws start sent earlier expect extended made legal asked =
+    subst (λ (g : Given). HoldsOfSent (IsUnmistakable expect) g) (sym (ap (λ (r : Record). r.given) made))
+    (given-unmistakable laws start sent.command expect extended (next_entry start earlier) (tags_behind start earlier) asked legal)
+
+-- each record is what its command makes of what was past: a law of runs
+abbrev pub RecordsFollow : Type 0
+RecordsFollow = (start : Start) (taken : List Step) (sent : Record) (earlier : List Item) → IsRecordOf (history_of start taken) sent earlier
+    → sent ≡ next_record start sent.round sent.slot sent.command earlier
+
+pub honest-exchanges : RecordsFollow → (start : Start) (taken : List Step) (round : ℕ) (operations : OpList) → operations.ops ≡ []
+    → ((sent : Record) (earlier : List Item) → IsRecordOf (history_of start taken) sent earlier → sent.round ≡ round → entry_at start.entries sent.exchange ≡ no_entry)
+    → IsHonest (history_of start taken) round operations
+honest-exchanges follow start taken round operations none unsaid = record {
+  no_operations = none;
+  unsaid = λ sent earlier recorded same.
+      let made = follow start taken sent earlier recorded in
+      ap (λ (r : Record). r.entry) made
+      ∙ ap (λ n. entry_at start.entries n) (sym (ap (λ (r : Record). r.exchange) made))
+      ∙ unsaid sent earlier recorded same;
+}
+
+pub honest-run : RecordsFollow → (start : Start) (taken : List Step) (round : ℕ) (operations : OpList) → operations.ops ≡ [] → start.entries ≡ []
+    → IsHonest (history_of start taken) round operations
+honest-run follow start taken round operations none silent =
+    honest-exchanges follow start taken round operations none (λ sent earlier recorded same. ap (λ (entries : List (ℕ × Entry)). entry_at entries sent.exchange) silent)

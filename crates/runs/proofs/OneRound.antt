@@ -12,7 +12,6 @@ use Rattle.q_round.specs.SpecValue.{SpecValue, IsLegalSpec}
 use Rattle.q_round.specs.declared.round.RoundEnd.{RoundEnd}
 use Rattle.q_round.specs.declared.round.RoundEnd.TheVariants as ends
 use Rattle.scenario.specs.declared.values.Step.TheVariants as steps
-use Rattle.session_flags.specs.Flags.{matches}
 use Rattle.tag_machine.specs.TagValue.{StateValue, TagValue, ReadyState, is_present}
 use Rattle.two_portals.specs.Played.{AreReady, IsLeftByRound, IsPairOf, IsQuietRound, ListsItsTags, Played, flags_in_round, is_named, pc_and_epc_of, times}
 use Rattle.two_portals.proofs.Independence.{Laws}
@@ -20,17 +19,16 @@ use Rattle.runs.specs.Listed.{tags_listed_in, tags_listed_where}
 use Rattle.runs.specs.Moments.{ending_of, flags_after_query, is_matched_in, tag_after_query}
 use Rattle.scenario.specs.Limits.{no_operations}
 use Rattle.runs.specs.RoundsTold.{played_of, start_with}
-use Rattle.runs.specs.TagInRound.{flags_behind_query, is_matched}
+use Rattle.runs.specs.TagInRound.{flags_behind_query}
 use Rattle.runs.proofs.Tags.{length-tags}
 use Rattle.runs.proofs.CompleteRound.{IsTold, complete-inventory, history-told}
 use Rattle.runs.proofs.RoundsAmong.{played}
-use Rattle.runs.proofs.EveryTag.{IsOneRun, IsThere, ListsTags, after-query, among_of, history_of_round, key, key_of, lists-tags}
-use Rattle.runs.proofs.Honesty.{honest-run}
+use Rattle.runs.proofs.EveryTag.{IsOneRun, IsThere, ListsTags, after-query, among_of, history_of_round, key, key_of, lists-tags, ready-matched}
+use Rattle.runs.proofs.MadeRecords.{honest-run, made-record}
 use Rattle.runs.proofs.Keeping.{Keeps}
-use Rattle.runs.proofs.MadeRecords.{made-record}
 use Rattle.runs.proofs.PlainRounds.{one-round-played}
 use Rattle.runs.proofs.Population.{tag_stepped}
-use Rattle.runs.proofs.TagQuery.{query-flags, query-matched}
+use Rattle.runs.proofs.TagQuery.{query-flags}
 use Rattle.runs.proofs.TagsInRound.{query_command}
 
 -- the run of one round that begins with these tags
@@ -88,13 +86,6 @@ zip-at R number (first ∷ starts) past (suc place) tag each at =
     subst (λ (n : ℕ). R tag (tag_behind n tag past)) (omega arith) (zip-at R (number + 1) starts past place tag each.1 at)
 
 -- a tag that was ready, just after the Query
-ready-matched : (spec : SpecValue) (link : LinkValue) (number : ℕ) (tag after : TagValue) → after ≡ tag_stepped (query_command spec link) [] number tag → tag.state ≡ ReadyState
-    → is_matched after.state ≡ is_named spec tag
-ready-matched spec link number tag after is ready =
-    ap (λ (t : TagValue). is_matched t.state) is
-    ∙ query-matched link.dr link.code link.trext spec.sel spec.session spec.target spec.q tag
-    ∙ ap (λ (state : StateValue). is_present state && matches spec.sel spec.session spec.target (flags_behind_query spec.session state tag.body.flags)) ready
-
 ready-flags : (spec : SpecValue) (link : LinkValue) (number : ℕ) (tag after : TagValue) → after ≡ tag_stepped (query_command spec link) [] number tag → tag.state ≡ ReadyState
     → after.body.flags ≡ tag.body.flags
 ready-flags spec link number tag after is ready =

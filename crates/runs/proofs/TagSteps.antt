@@ -141,6 +141,13 @@ not_listed_now on of before outcome none known =
     subst (λ (b : Bool). GoesOn on of.first (of.listed || b) b before outcome) (sym none)
     (subst (λ (b : Bool). GoesOn on of.first b false before outcome) (sym (or-false of.listed)) known)
 
+-- a tag that is ready or takes no part is silent
+rests : (next : Frame) (of : Member) (state : StateValue) (body : BodyValue) → slot_answer_of state ≡ None → of.listed_now ≡ false
+    → IsAfterSlot next.session next.q next.slots (is_matched of.first.state) of.listed state → KeepsBody next.session of.listed of.first.body body
+    → GoesOn next of.first (of.listed || of.listed_now) of.listed_now body.flags (silent state body)
+rests next of state body silent_then not_now is kept =
+    not_listed_now next of body.flags (silent state body) not_now (stays next of.first of.listed state body silent_then is kept)
+
 -- ... and one that was
 listed_then : (on : Frame) (of : Member) (before : Flags) (outcome : Outcome) → of.listed_now ≡ true → GoesOn on of.first true true before outcome
     → GoesOn on of.first (of.listed || of.listed_now) of.listed_now before outcome
@@ -171,9 +178,7 @@ counts_down next of own_q slot body its counter kept =
 rep-goes : (on : Frame) (by : Turn on) (of : Member) (state : StateValue) (body : BodyValue) → length (by.outcome ∷ on.slots) < 2 ^ on.q
     → MayStand on by.outcome of state → KeepsBody on.session of.listed of.first.body body
     → GoesOn (frame_with on by.outcome) of.first (of.listed || of.listed_now) of.listed_now body.flags (query_rep on.session state body)
-rep-goes on by of ReadyState body room is kept =
-    let next = frame_with on by.outcome in
-    not_listed_now next of body.flags (silent ReadyState body) is.not_now (stays next of.first of.listed ReadyState body refl is.earlier kept)
+rep-goes on by of ReadyState body room is kept = rests (frame_with on by.outcome) of ReadyState body refl is.not_now is.earlier kept
 rep-goes on by of (ArbitrateState own own_q slot) body room is kept =
     let next = frame_with on by.outcome in
     same_session (λ after. GoesOn next of.first (of.listed || of.listed_now) of.listed_now body.flags after) own on.session
@@ -197,12 +202,8 @@ rep-goes on by of (AcknowledgedState own own_q rn) body room is kept =
     (close on.session body) (silent (AcknowledgedState own own_q rn) body) is.unlisted.session_is
     (listed_then next of body.flags (close on.session body) is.now
     (closes next of.first of.listed body is.unlisted.takes_part is.unlisted.not_listed kept))
-rep-goes on by of KilledState body room is kept =
-    let next = frame_with on by.outcome in
-    not_listed_now next of body.flags (silent KilledState body) is.1 (stays next of.first of.listed KilledState body refl is.0 kept)
-rep-goes on by of UnpoweredState body room is kept =
-    let next = frame_with on by.outcome in
-    not_listed_now next of body.flags (silent UnpoweredState body) is.1 (stays next of.first of.listed UnpoweredState body refl is.0 kept)
+rep-goes on by of KilledState body room is kept = rests (frame_with on by.outcome) of KilledState body refl is.1 is.0 kept
+rep-goes on by of UnpoweredState body room is kept = rests (frame_with on by.outcome) of UnpoweredState body refl is.1 is.0 kept
 rep-goes on by of state body room is kept = absurd is
 
 -- 6.3.2.11.2.2 QueryAdjust: the tag moves its Q as the interrogator does
@@ -222,9 +223,7 @@ adjust-enters on by of updn own_q body moves is kept =
 adjust-goes : (on : Frame) (by : Turn on) (of : Member) (updn : UpDn) (state : StateValue) (body : BodyValue) → IsMoved updn on.q by.next_q
     → MayStand on by.outcome of state → KeepsBody on.session of.listed of.first.body body
     → GoesOn (begun on.session by.next_q) of.first (of.listed || of.listed_now) of.listed_now body.flags (query_adjust on.session updn state body)
-adjust-goes on by of updn ReadyState body moves is kept =
-    let next = begun on.session by.next_q in
-    not_listed_now next of body.flags (silent ReadyState body) is.not_now (stays next of.first of.listed ReadyState body refl is.earlier kept)
+adjust-goes on by of updn ReadyState body moves is kept = rests (begun on.session by.next_q) of ReadyState body refl is.not_now is.earlier kept
 adjust-goes on by of updn (ArbitrateState own own_q slot) body moves is kept =
     let next = begun on.session by.next_q in
     let entered = enter on.session (q_after_adjust updn own_q) body in
@@ -245,12 +244,8 @@ adjust-goes on by of updn (AcknowledgedState own own_q rn) body moves is kept =
     (close on.session body) (silent (AcknowledgedState own own_q rn) body) is.unlisted.session_is
     (listed_then next of body.flags (close on.session body) is.now
     (closes next of.first of.listed body is.unlisted.takes_part is.unlisted.not_listed kept))
-adjust-goes on by of updn KilledState body moves is kept =
-    let next = begun on.session by.next_q in
-    not_listed_now next of body.flags (silent KilledState body) is.1 (stays next of.first of.listed KilledState body refl is.0 kept)
-adjust-goes on by of updn UnpoweredState body moves is kept =
-    let next = begun on.session by.next_q in
-    not_listed_now next of body.flags (silent UnpoweredState body) is.1 (stays next of.first of.listed UnpoweredState body refl is.0 kept)
+adjust-goes on by of updn KilledState body moves is kept = rests (begun on.session by.next_q) of KilledState body refl is.1 is.0 kept
+adjust-goes on by of updn UnpoweredState body moves is kept = rests (begun on.session by.next_q) of UnpoweredState body refl is.1 is.0 kept
 adjust-goes on by of updn state body moves is kept = absurd is
 
 -- the frame that goes on behind the slot

@@ -1,4 +1,4 @@
-use Rattle.runs.proofs.Honesty.{honest-exchanges, honest-run}
+use Rattle.runs.proofs.MadeRecords.{honest-exchanges, honest-run}
 use Rattle.runs.proofs.inventory.rounds_are_honest_where_nothing_is_said.Goals as goal
 
 pub returns-clause-exchanges : goal.returns-clause-exchanges

@@ -1,7 +1,6 @@
 use Rattle.std.proofs.Common.{◌∷◌, ◌++◌, []}
 use Rattle.air_model.specs.Past.{exchanged}
-use Rattle.runs.proofs.HeardRecords.{behind-record, recorded-expected, recorded-unmistakable}
-use Rattle.runs.proofs.MadeRecords.{made-read}
+use Rattle.runs.proofs.MadeRecords.{behind-record, recorded-expected, recorded-unmistakable, made-read}
 use Rattle.runs.specs.ScenarioStart.{start_of, history}
 use Rattle.runs.proofs.laws.histories_hear_what_is_received.Goals as goal
 
