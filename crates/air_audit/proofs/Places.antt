@@ -23,6 +23,7 @@ use Rattle.runs.specs.Headline.{IsSelect, IsLegalStep, AreLegalSteps, begins_slo
 use Rattle.runs.specs.NextItem.{GrowsByNext, dialogue_left, dialogue_behind_exchange, dialogue_behind_record, dialogue_behind_result, item_by_rule, item_in_round, item_of_slots, item_of_step, outcomes_of_round, reception_of_slot, rn_of, rn_received, finished_in}
 use Rattle.runs.proofs.Growth.{begun-awaits}
 use Rattle.runs.proofs.HeadlineLines.{and-false, and-true}
+use Rattle.runs.proofs.HeadlineNext.{select-begins-none}
 use Rattle.runs.proofs.HeadlineSlots.{expects-begins-none, next-begins}
 use Rattle.scenario.specs.declared.values.Step.{Step}
 use Rattle.scenario.specs.declared.values.Step.TheVariants as steps
@@ -66,10 +67,6 @@ place-kept place (commands.Query dr line_code trext sel session target q) none =
 place-kept place (commands.QueryRep session) none = absurd (cc)
 place-kept place (commands.QueryAdjust session updn) none = absurd (cc)
 place-kept place command none = refl
-
-select-begins-none : (command : Command) → IsSelect command → begins_slot command ≡ false
-select-begins-none (commands.Select target action bank pointer mask) is = refl
-select-begins-none command is = absurd is
 
 -- neither a Select, a command of an operation nor one that begins a slot is an ACK
 select-no-ack : (command : Command) → IsSelect command → IsAck command → ⊥
