@@ -1,5 +1,5 @@
 -- A history grows by what comes next alone, and stops where nothing does.
-use Rattle.std.proofs.Common.{◌≡◌, ℕ, zero, suc, ◌+◌, ◌<◌, ◌==◌, Bool, true, false, List, [], ◌∷◌, ◌++◌, length, map, Option, Some, None, slice_get, refl, ap, sym, ◌∙◌, subst, arith, add-one, ne_eqb, eq-eqb}
+use Rattle.std.proofs.Common.{◌≡◌, ℕ, suc, ◌+◌, ◌==◌, Bool, true, false, List, [], ◌∷◌, ◌++◌, length, map, Option, Some, None, slice_get, refl, ap, sym, ◌∙◌, subst, arith, add-one, ne_eqb, eq-eqb, ◌⊎◌, inl, inr, append-nil}
 use Rattle.access_ops.proofs.DialogueLaws.{AwaitsReplies}
 use Rattle.access_ops.specs.laws.OperationLaws.{Expects}
 use Rattle.access_ops.specs.Operations.{Dialogue, sends, tells, done}
@@ -9,7 +9,7 @@ use Rattle.reply_grammar.specs.Reception.{Reception}
 use Rattle.runs.specs.Headline.{IsSelect, IsLegalStep, AreLegalSteps, begins_slot, begins_slot_of, slot_records, rounds_of}
 use Rattle.runs.specs.History.{outcome_of, operation_reception, past_behind_dialogue, dialogue_begun, ack_reception, past_behind_ack, past_behind_answer, slot_reception, past_behind_round, past_behind_step, past_behind, history_of}
 use Rattle.runs.specs.NextItem.{finished_in, reception_of_slot, outcomes_of_round, rn_of, rn_received, item_by_rule, dialogue_behind_record, dialogue_behind_result, dialogue_behind_exchange, dialogue_left, results_behind_exchange, results_told_in, item_of_slots, item_in_round, item_of_step, next_item, GrowsByNext}
-use Rattle.runs.proofs.Growth.{RoundsKeepLimit, dialogue-holds, begun-awaits, answer-cases, next_at_end, round-holds}
+use Rattle.runs.proofs.Growth.{Grows, grows-more, RoundsKeepLimit, dialogue-holds, begun-awaits, answer-cases, next_at_end, round-holds}
 use Rattle.runs.proofs.HeadlineLines.{and-true}
 use Rattle.runs.proofs.HeadlineSlots.{no-slots, next-begins, expects-begins-none}
 use Rattle.runs.proofs.OtherRounds.{Adds, adds-none, adds-on, step-adds}
@@ -351,60 +351,55 @@ history-grows keeps start all legal = (history-ends keeps start all legal).grows
 pub history-stops : RoundsKeepLimit → (start : Start) (all : List Step) → AreLegalSteps all → next_item start all (history_of start all) ≡ None
 history-stops keeps start all legal = (history-ends keeps start all legal).ends
 
--- two pasts that grow by what comes next and are as long are the same
-pub same-growth : (start : Start) (all : List Step) (first second : List Item) → GrowsByNext start all first → GrowsByNext start all second
-    → length first ≡ length second → first ≡ second
-same-growth start all [] [] left right count = refl
-same-growth start all [] (item ∷ second) left right count = absurd (omega (arith, count))
-same-growth start all (item ∷ first) [] left right count = absurd (omega (arith, count))
-same-growth start all (item ∷ first) (other ∷ second) left right count =
-    let same : first ≡ second = same-growth start all first second left.1 right.1 (omega (arith, count)) in
-    let items : Some item ≡ Some other = sym left.0 ∙ ap (λ (past : List Item). next_item start all past) same ∙ right.0 in
-    cc
-
-pub data Compared (m n : ℕ) : Type 0 where
-  equal : (m ≡ n) → Compared m n
-  below : (m < n) → Compared m n
-  above : (n < m) → Compared m n
-
-compared-on : (m n : ℕ) → Compared m n → Compared (suc m) (suc n)
-compared-on m n (equal is) = equal (ap suc is)
-compared-on m n (below is) = below (omega (arith, is))
-compared-on m n (above is) = above (omega (arith, is))
-
-pub compared : (m n : ℕ) → Compared m n
-compared zero zero = equal refl
-compared zero (suc n) = below (omega arith)
-compared (suc m) zero = above (omega arith)
-compared (suc m) (suc n) = compared-on m n (compared m n)
-
--- one that stops is not shorter than another
-shorter : (start : Start) (all : List Step) (first second : List Item) → GrowsByNext start all first → GrowsByNext start all second
-    → next_item start all first ≡ None → length first < length second → ⊥
-shorter start all first [] left right stops less = absurd (omega (arith, less))
-shorter start all first (item ∷ second) left right stops less =
-    elim (compared (length first) (length second)) [
-      | equal same ↦
-          let is : first ≡ second = same-growth start all first second left right.1 same in
-          let next : next_item start all second ≡ None = ap (λ (past : List Item). next_item start all past) (sym is) ∙ stops in
-          let both : Some item ≡ None = sym right.0 ∙ next in
-          absurd (cc)
-      | below is ↦ shorter start all first second left right.1 stops is
-      | above is ↦ absurd (omega (arith, is, less))
-    ]
-
--- the history is the one past that grows by what comes next and stops where nothing does
-pub one-growth : (start : Start) (all : List Step) (first second : List Item) → GrowsByNext start all first → GrowsByNext start all second
-    → next_item start all first ≡ None → next_item start all second ≡ None → first ≡ second
-one-growth start all first second left right left_stops right_stops =
-    elim (compared (length first) (length second)) [
-      | equal is ↦ same-growth start all first second left right is
-      | below is ↦ absurd (shorter start all first second left right left_stops is)
-      | above is ↦ absurd (shorter start all second first right left right_stops is)
-    ]
-
 -- each item of it came next behind what was past
 pub growth-at : (start : Start) (all : List Step) (later : List Item) (item : Item) (earlier : List Item) → GrowsByNext start all (later ++ item ∷ earlier)
     → next_item start all earlier ≡ Some item
 growth-at start all [] item earlier grows = grows.0
 growth-at start all (other ∷ later) item earlier grows = growth-at start all later item earlier grows.1
+
+-- what was added to a past is nothing, or begins with an item
+grown-of : (own past : List Item) → (own ++ past ≡ past) ⊎ ((later : List Item) × (item : Item) × (own ++ past ≡ later ++ item ∷ past))
+grown-of [] past = inl refl
+grown-of (latest ∷ own) past = elim (grown-of own past) [
+  | inl same ↦ inr ([], latest, ap (λ (items : List Item). latest ∷ items) same)
+  | inr more ↦ inr (latest ∷ more.0, more.1, ap (λ (items : List Item). latest ∷ items) more.2)
+]
+
+-- where a past has grown from another, behind which this item comes next, it is that one, or has grown from it and the item
+further : (start : Start) (all : List Step) (first second : List Item) (item : Item) → Grows second first → GrowsByNext start all first → next_item start all second ≡ Some item
+    → Grows first (item ∷ second) ⊎ Grows (item ∷ second) first
+further start all first second item grown grows next = elim (grown-of grown.own second) [
+  | inl same ↦ inl (record { own = item ∷ []; is = ap (λ (items : List Item). item ∷ items) (sym (grown.is ∙ same)) })
+  | inr more ↦
+      let is : first ≡ more.0 ++ more.1 ∷ second = grown.is ∙ more.2 in
+      let both : Some more.1 ≡ Some item = sym (growth-at start all more.0 more.1 second (subst (λ (past : List Item). GrowsByNext start all past) is grows)) ∙ next in
+      let one : more.1 ≡ item = cc in
+      inr (record { own = more.0; is = is ∙ ap (λ (i : Item). more.0 ++ i ∷ second) one })
+]
+
+-- of two pasts that grow by what comes next one has grown from the other
+pub fronts : (start : Start) (all : List Step) (first second : List Item) → GrowsByNext start all first → GrowsByNext start all second
+    → Grows first second ⊎ Grows second first
+fronts start all first [] left right = inr (record { own = first; is = sym (append-nil first) })
+fronts start all first (item ∷ second) left right = elim (fronts start all first second left right.1) [
+  | inl grown ↦ inl (grows-more first second item grown)
+  | inr grown ↦ further start all first second item grown left right.0
+]
+
+-- what has grown from a past that stops is that past
+stopped : (start : Start) (all : List Step) (past behind : List Item) → Grows past behind → GrowsByNext start all behind → next_item start all past ≡ None → past ≡ behind
+stopped start all past behind grown grows stops = elim (grown-of grown.own past) [
+  | inl same ↦ sym (grown.is ∙ same)
+  | inr more ↦
+      let both : None ≡ Some more.1 =
+      sym stops ∙ growth-at start all more.0 more.1 past (subst (λ (items : List Item). GrowsByNext start all items) (grown.is ∙ more.2) grows) in
+      absurd (cc)
+]
+
+-- the history is the one past that grows by what comes next and stops where nothing does
+pub one-growth : (start : Start) (all : List Step) (first second : List Item) → GrowsByNext start all first → GrowsByNext start all second
+    → next_item start all first ≡ None → next_item start all second ≡ None → first ≡ second
+one-growth start all first second left right left_stops right_stops = elim (fronts start all first second left right) [
+  | inl grown ↦ stopped start all first second grown right left_stops
+  | inr grown ↦ sym (stopped start all second first grown left right_stops)
+]

@@ -4,11 +4,11 @@ use Rattle.std.specs.Prelude.{◌==◌, Option, Some, None, if◌then◌else◌}
 use Rattle.command_fields.specs.declared.choices.Sel.{Sel}
 use Rattle.command_fields.specs.declared.choices.Side.{Side}
 use Rattle.command_fields.specs.declared.choices.UpDn.{UpDn}
-use Rattle.session_flags.specs.Flags.{matches}
 use Rattle.tag_machine.specs.Answers.{Outcome}
-use Rattle.tag_machine.specs.Draws.{body_after_inversion, enter, slot_of_draw}
-use Rattle.tag_machine.specs.Inventory.{ack, end_turn, q_after_adjust, query, query_adjust, query_rep, slot_below, take_part, unless_half}
+use Rattle.tag_machine.specs.Draws.{enter, slot_of_draw}
+use Rattle.tag_machine.specs.Inventory.{ack, end_turn, q_after_adjust, query, query_adjust, query_rep, slot_below, unless_half}
 use Rattle.tag_machine.specs.TagValue.{StateValue, ReadyState, ArbitrateState, ReplyState, AcknowledgedState, OpenState, SecuredState, KilledState, UnpoweredState, BodyValue, TagValue, is_present}
+use Rattle.runs.proofs.TagQuery.{query-begins}
 use Rattle.tag_machine.specs.declared.states.Half.{Half}
 use Rattle.tag_machine.specs.declared.states.Held.{Held}
 
@@ -38,17 +38,6 @@ half body (Some one) instead outcome first second = first
 enters : (session q : ℕ) (body : BodyValue) → Stays body (enter session q body)
 enters session q body = either body (slot_of_draw q body == 0) _ _ (stays body _ refl refl refl) (stays body _ refl refl refl)
 
-takes-part : (sel : Sel) (session : ℕ) (target : Side) (q : ℕ) (body : BodyValue) → Stays body (take_part sel session target q body)
-takes-part sel session target q body =
-    either body (matches sel session target body.flags) _ _ (enters session q body) (stays body _ refl refl refl)
-
-closes : (sel : Sel) (session : ℕ) (target : Side) (q : ℕ) (body : BodyValue) (test : Bool)
-    → Stays body (take_part sel session target q (if test then body_after_inversion session body else body))
-closes sel session target q body true =
-    let part = takes-part sel session target q (body_after_inversion session body) in
-    stays body _ part.memory part.locks part.present
-closes sel session target q body false = takes-part sel session target q body
-
 ends-turn : (session : ℕ) (held : Held) (body : BodyValue) → Stays body (end_turn session held body)
 ends-turn session held body = half body held.half _ _ (stays body _ refl refl refl) (stays body _ refl refl refl)
 
@@ -62,14 +51,9 @@ absent state body = record { memory = refl; locks = refl; present = λ is. is }
 
 pub query-keeps : (sel : Sel) (session : ℕ) (target : Side) (q : ℕ) (state : StateValue) (body : BodyValue)
     → Keeps (record { state = state; body = body }) (query sel session target q state body).tag
-query-keeps sel session target q ReadyState body = kept ReadyState body _ (takes-part sel session target q body)
-query-keeps sel session target q (ArbitrateState own own_q slot) body = kept (ArbitrateState own own_q slot) body _ (takes-part sel session target q body)
-query-keeps sel session target q (ReplyState own own_q rn) body = kept (ReplyState own own_q rn) body _ (takes-part sel session target q body)
-query-keeps sel session target q (AcknowledgedState own own_q rn) body = kept (AcknowledgedState own own_q rn) body _ (closes sel session target q body (own == session))
-query-keeps sel session target q (OpenState held) body = kept (OpenState held) body _ (closes sel session target q body (held.session == session))
-query-keeps sel session target q (SecuredState held) body = kept (SecuredState held) body _ (closes sel session target q body (held.session == session))
-query-keeps sel session target q KilledState body = absent KilledState body
-query-keeps sel session target q UnpoweredState body = absent UnpoweredState body
+query-keeps sel session target q state body =
+    let known = query-begins sel session target q state body in
+    record { memory = known.memory; locks = known.locks; present = λ is. known.present ∙ is }
 
 pub query_rep-keeps : (session : ℕ) (state : StateValue) (body : BodyValue) → Keeps (record { state = state; body = body }) (query_rep session state body).tag
 query_rep-keeps session ReadyState body = absent ReadyState body

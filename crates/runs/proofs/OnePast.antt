@@ -1,23 +1,12 @@
 -- Of two pasts that grow by what comes next, one is a front of the other. So the events and the exchanges determine a past, but for
 -- the results and ends that follow them.
-use Rattle.std.proofs.Common.{◌≡◌, ◌+◌, ◌<◌, ◌⊎◌, inl, inr, List, [], ◌∷◌, ◌++◌, length, refl, ap, sym, ◌∙◌, arith, length-append}
+use Rattle.std.proofs.Common.{◌≡◌, ◌+◌, ◌⊎◌, inl, inr, List, [], ◌∷◌, ◌++◌, length, refl, ap, sym, ◌∙◌, arith, length-append}
 use Rattle.air_model.specs.Past.{Start, Item, befell, exchanged, operated, ended}
-use Rattle.runs.proofs.Growth.{Grows, grows-more}
-use Rattle.runs.proofs.HeadlineNext.{compared, equal, below, above, same-growth}
+use Rattle.runs.proofs.Growth.{Grows}
+use Rattle.runs.proofs.HeadlineNext.{fronts}
 use Rattle.runs.specs.EventsAndRecords.{events_and_records_of, IsConcluded}
 use Rattle.runs.specs.NextItem.{GrowsByNext}
 use Rattle.scenario.specs.declared.values.Step.{Step}
-
--- a past that is longer than another has grown from it
-longer-grows : (start : Start) (all : List Step) (first second : List Item) → GrowsByNext start all first → GrowsByNext start all second
-    → length first < length second → Grows first second
-longer-grows start all first [] left right less = absurd (omega (arith, less))
-longer-grows start all first (item ∷ second) left right less =
-    elim (compared (length first) (length second)) [
-      | equal is ↦ record { own = item ∷ []; is = ap (λ (past : List Item). item ∷ past) (sym (same-growth start all first second left right.1 is)) }
-      | below is ↦ grows-more first second item (longer-grows start all first second left right.1 is)
-      | above is ↦ absurd (omega (arith, is, less))
-    ]
 
 events_and_records_of-append : (own past : List Item) → events_and_records_of (own ++ past) ≡ events_and_records_of own ++ events_and_records_of past
 events_and_records_of-append [] past = refl
@@ -41,9 +30,7 @@ concluded past behind grown same = record {
 
 pub one-past : (start : Start) (all : List Step) (one other : List Item) → GrowsByNext start all one → GrowsByNext start all other → events_and_records_of one ≡ events_and_records_of other
     → IsConcluded one other ⊎ IsConcluded other one
-one-past start all one other left right same =
-    elim (compared (length one) (length other)) [
-      | equal is ↦ inl (concluded one other (record { own = []; is = sym (same-growth start all one other left right is) }) same)
-      | below is ↦ inl (concluded one other (longer-grows start all one other left right is) same)
-      | above is ↦ inr (concluded other one (longer-grows start all other one right left is) (sym same))
-    ]
+one-past start all one other left right same = elim (fronts start all one other left right) [
+  | inl grown ↦ inl (concluded one other grown same)
+  | inr grown ↦ inr (concluded other one grown (sym same))
+]

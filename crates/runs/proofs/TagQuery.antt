@@ -16,40 +16,43 @@ use Rattle.runs.specs.TagInRound.{is_matched, IsAfterSlot, flags_closed, flags_b
 
 -- What is known of what the Query makes of a tag that is present or not, and takes part or doesn't. The flags are those behind the
 -- Query, and the body is that before it.
-record Begins (session q : ℕ) (there takes_part : Bool) (flags : Flags) (before : BodyValue) (outcome : Outcome) : Type 0 where
-  state : IsAfterSlot session q [] (is_matched outcome.tag.state) false outcome.tag.state
-  answer : outcome.answer ≡ slot_answer_of outcome.tag.state
-  matched : is_matched outcome.tag.state ≡ takes_part
-  present : is_present outcome.tag.state ≡ there
-  flags_are : outcome.tag.body.flags ≡ flags
-  memory : outcome.tag.body.memory ≡ before.memory
+pub record Begins (session q : ℕ) (there takes_part : Bool) (flags : Flags) (before : BodyValue) (outcome : Outcome) : Type 0 where
+  pub state : IsAfterSlot session q [] (is_matched outcome.tag.state) false outcome.tag.state
+  pub answer : outcome.answer ≡ slot_answer_of outcome.tag.state
+  pub matched : is_matched outcome.tag.state ≡ takes_part
+  pub present : is_present outcome.tag.state ≡ there
+  pub flags_are : outcome.tag.body.flags ≡ flags
+  pub memory : outcome.tag.body.memory ≡ before.memory
+  pub locks : outcome.tag.body.locks ≡ before.locks
 
 -- a slot is drawn
-drawn : (session q : ℕ) (body after : BodyValue) (test : Bool) → (test ≡ false → slot_of_draw q body ≢ 0) → after.flags ≡ body.flags → after.memory ≡ body.memory
+drawn : (session q : ℕ) (body after : BodyValue) (test : Bool) → (test ≡ false → slot_of_draw q body ≢ 0) → after.flags ≡ body.flags → after.memory ≡ body.memory → after.locks ≡ body.locks
     → Begins session q true true body.flags body (if test then begin_reply session q after else silent (ArbitrateState session q (slot_of_draw q body)) after)
-drawn session q body after true some flags memory = record {
+drawn session q body after true some flags memory locks = record {
   state = record { session_is = refl; q_is = refl; takes_part = refl; not_listed = refl };
   answer = refl;
   matched = refl;
   present = refl;
   flags_are = flags;
   memory = memory;
+  locks = locks;
 }
-drawn session q body after false some flags memory = record {
+drawn session q body after false some flags memory locks = record {
   state = record { unlisted = record { session_is = refl; q_is = refl; takes_part = refl; not_listed = refl }; counter = inl (slot_drawn q body (some refl)) };
   answer = refl;
   matched = refl;
   present = refl;
   flags_are = flags;
   memory = memory;
+  locks = locks;
 }
 
 entered : (session q : ℕ) (body : BodyValue) → Begins session q true true body.flags body (enter session q body)
-entered session q body = drawn session q body (body_after_draw body) (slot_of_draw q body == 0) (λ is e. let is_zero = eq-eqb (slot_of_draw q body) 0 e in cc) refl refl
+entered session q body = drawn session q body (body_after_draw body) (slot_of_draw q body == 0) (λ is e. let is_zero = eq-eqb (slot_of_draw q body) 0 e in cc) refl refl refl
 
 took_part : (session q : ℕ) (body : BodyValue) (test : Bool) → Begins session q true test body.flags body (if test then enter session q body else silent ReadyState body)
 took_part session q body true = entered session q body
-took_part session q body false = record { state = refl; answer = refl; matched = refl; present = refl; flags_are = refl; memory = refl }
+took_part session q body false = record { state = refl; answer = refl; matched = refl; present = refl; flags_are = refl; memory = refl; locks = refl }
 
 -- a tag that was inventoried in a session
 closed_flags : (session : ℕ) (body : BodyValue) (test : Bool)
@@ -57,9 +60,10 @@ closed_flags : (session : ℕ) (body : BodyValue) (test : Bool)
 closed_flags session body true = refl
 closed_flags session body false = refl
 
-closed_memory : (session : ℕ) (body : BodyValue) (test : Bool) → (if test then body_after_inversion session body else body).memory ≡ body.memory
-closed_memory session body true = refl
-closed_memory session body false = refl
+closed_kept : (session : ℕ) (body : BodyValue) (test : Bool)
+    → let after = if test then body_after_inversion session body else body in (after.memory ≡ body.memory) × (after.locks ≡ body.locks)
+closed_kept session body true = (refl, refl)
+closed_kept session body false = (refl, refl)
 
 closed-begins : (sel : Sel) (session : ℕ) (target : Side) (q own : ℕ) (body : BodyValue)
     → Begins session q true (matches sel session target (flags_closed own session body.flags)) (flags_closed own session body.flags) body (take_part sel session target q (body_after_close own session body))
@@ -73,10 +77,11 @@ closed-begins sel session target q own body =
       matched = known.matched ∙ ap (λ (f : Flags). matches sel session target f) flags;
       present = known.present;
       flags_are = known.flags_are ∙ flags;
-      memory = known.memory ∙ closed_memory session body (own == session);
+      memory = known.memory ∙ (closed_kept session body (own == session)).0;
+      locks = known.locks ∙ (closed_kept session body (own == session)).1;
     }
 
-query-begins : (sel : Sel) (session : ℕ) (target : Side) (q : ℕ) (state : StateValue) (body : BodyValue)
+pub query-begins : (sel : Sel) (session : ℕ) (target : Side) (q : ℕ) (state : StateValue) (body : BodyValue)
     → Begins session q (is_present state) (is_present state && matches sel session target (flags_behind_query session state body.flags)) (flags_behind_query session state body.flags) body (query sel session target q state body)
 query-begins sel session target q ReadyState body = took_part session q body (matches sel session target body.flags)
 query-begins sel session target q (ArbitrateState own own_q slot) body = took_part session q body (matches sel session target body.flags)
@@ -91,6 +96,7 @@ query-begins sel session target q state body = record {
   present = refl;
   flags_are = refl;
   memory = refl;
+  locks = refl;
 }
 
 -- Behind the Query each tag stands in the first slot of the round, and isn't listed.
