@@ -13,6 +13,7 @@ use Rattle.log_judge.specs.declared.verdict.Want.TheVariants as wants
 use Rattle.log_judge.specs.declared.verdict.Verdict.{Verdict}
 use Rattle.log_judge.specs.declared.verdict.Verdict.TheVariants as judged
 
+-- what is seen where the tag sent this reply, by the mark of its preamble, or nothing
 abbrev pub seen_marked : Answered → Reply → Option Seen
 seen_marked Silent reply = None
 seen_marked Plain reply = Some (record { reply = reply; extended = false })
@@ -31,6 +32,7 @@ code_of_reply (replies.Words words) = None
 code_of_reply replies.Header = None
 code_of_reply (replies.Error code) = Some code
 
+-- the error code that was seen, or none
 abbrev pub code_in : Option Seen → Option ℕ
 code_in None = None
 code_in (Some seen) = code_of_reply seen.reply
@@ -42,6 +44,7 @@ want_in wants.AnyRn16 = verdicts.AnyRn16
 want_in wants.AnyHandle = verdicts.AnyHandle
 want_in wants.NothingOrAnyRn16 = verdicts.NothingOrAnyRn16
 
+-- what is judged, as the definition of verdicts says it
 abbrev pub verdict_in : Verdict → verdicts.Verdict
 verdict_in judged.Yes = verdicts.Yes
 verdict_in (judged.Profile number want) = verdicts.Profile number (want_in want)

@@ -13,6 +13,7 @@ use Rattle.log_verdicts.specs.laws.Known.{want_of_answer}
 use Rattle.log_judge.specs.declared.draws.Draws.{Draws}
 use Rattle.log_judge.specs.declared.draws.Draws.TheVariants as draws
 
+-- 6.3.2.11 Interrogator commands and Tag replies: what a tag may draw at a command
 abbrev pub draws_at : Command → Draws
 draws_at (commands.QueryRep session) = draws.Turn session
 draws_at (commands.Query dr line_code trext sel session target q) = draws.Slot session
@@ -25,6 +26,7 @@ abbrev pub first_slot : Option Seen → ℕ
 first_slot None = 1
 first_slot (Some seen) = 0
 
+-- the word that a tag is given to draw first: its slot, or the number in its answer
 abbrev pub first_word : Draws → Option Seen → ℕ
 first_word (draws.Slot session) seen = first_slot seen
 first_word (draws.Turn session) seen = number_seen seen
@@ -47,12 +49,14 @@ most_behind (draws.Turn session) own q slot most = most
 most_behind draws.Number own q slot most = most
 most_behind draws.Nothing own q slot most = most
 
+-- ... from the numbers that the state of the tag holds
 abbrev pub slots_told : Draws → StateNumbers → Option ℕ → Option ℕ
 slots_told drawn numbers.None most = None
 slots_told drawn (numbers.Waiting session q slot) most = most_behind drawn session q slot most
 slots_told drawn (numbers.Replied session q rn) most = None
 slots_told drawn (numbers.Held held) most = None
 
+-- ... and from its state
 abbrev pub slots_behind : Draws → StateValue → Option ℕ → Option ℕ
 slots_behind drawn state most = slots_told drawn (numbers_of state) most
 
@@ -64,6 +68,7 @@ falls_in_turn session answered (numbers.Waiting own q slot) most = (if own == se
 falls_in_turn session answered (numbers.Replied own q rn) most = None
 falls_in_turn session answered (numbers.Held held) most = None
 
+-- ... behind a command, by what it may draw there
 abbrev pub fallen : Draws → Bool → StateNumbers → Option ℕ → Option ℕ
 fallen (draws.Slot session) answered held_numbers most = None
 fallen (draws.Turn session) answered held_numbers None = None
@@ -83,6 +88,7 @@ want_told session answered (numbers.Waiting own q slot) = (if not answered && ha
 want_told session answered (numbers.Replied own q rn) = (if answered then rn16_wanted (q == 0) else Nothing)
 want_told session answered (numbers.Held held) = Nothing
 
+-- ... by the answer and the state behind the command
 abbrev pub want_of_slot : ℕ → Option Seen → StateValue → Want
 want_of_slot session answer state = want_told session (is_some answer) (numbers_of state)
 
@@ -91,9 +97,11 @@ abbrev pub comes_now : Option ℕ → Bool
 comes_now None = true
 comes_now (Some most) = most == 1
 
+-- an RN16 in the tag's turn, now or later
 abbrev pub want_in_turn : Option ℕ → Want
 want_in_turn most = rn16_wanted (comes_now most)
 
+-- what had to be answered to a QueryRep, at which only a tag whose turn came answers
 abbrev pub want_of_turn : Option Seen → Option ℕ → Want
 want_of_turn None most = Nothing
 want_of_turn (Some seen) most = want_in_turn most
@@ -103,6 +111,7 @@ abbrev pub want_of_number : Option Seen → Want
 want_of_number None = Nothing
 want_of_number (Some seen) = AnyHandle
 
+-- what had to be answered to a command, by what a tag may draw there
 abbrev pub want_behind : Draws → Option Seen → StateValue → Option ℕ → Want
 want_behind (draws.Slot session) answer state most = want_of_slot session answer state
 want_behind (draws.Turn session) answer state most = want_of_turn answer most

@@ -30,14 +30,17 @@ abbrev pub takes_second : Password → ℕ → ℕ → Bool
 takes_second passwords.Kill both password = false
 takes_second passwords.Access both password = password == both
 
+-- ... as a first half any, and as a second one where it makes the password whole
 abbrev pub takes_half : Option Half → ℕ → ℕ → Bool
 takes_half None value password = true
 takes_half (Some half) value password = takes_second half.password (whole_of half.value value) password
 
+-- a half is uncovered by the RN16 that the tag gave last to cover it; without one no half is taken
 abbrev pub takes_cover : Option ℕ → Option Half → ℕ → ℕ → Bool
 takes_cover None half covered password = false
 takes_cover (Some cover) half covered password = takes_half half (bit_xor covered cover) password
 
+-- the half of an Access is taken by a tag that holds this
 abbrev pub takes_access : Held → ℕ → ℕ → Bool
 takes_access held covered password = takes_cover held.cover held.half covered password
 
@@ -58,12 +61,14 @@ answers_held (commands.Access covered rn) held password = held.handle == rn && t
 answers_held (commands.BlockWrite bank pointer words rn) held password = held.handle == rn && is_none held.half
 answers_held (commands.BlockErase bank pointer count rn) held password = held.handle == rn && is_none held.half
 
+-- ... and in no other state
 abbrev pub answers_with : Command → StateNumbers → ℕ → Bool
 answers_with command numbers.None password = false
 answers_with command (numbers.Waiting session q slot) password = false
 answers_with command (numbers.Replied session q rn) password = false
 answers_with command (numbers.Held held) password = answers_held command held password
 
+-- a tag answers the command, which it need not have
 abbrev pub answers_now : Command → TagValue → Bool
 answers_now command tag = answers_with command (numbers_of tag.state) (access_word_of tag.body.memory)
 

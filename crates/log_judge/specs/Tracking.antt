@@ -18,6 +18,7 @@ use Rattle.log_judge.specs.declared.shown.Shown.TheVariants as shown
 abbrev pub wordless : TagValue → TagValue
 wordless tag = record { state = tag.state; body = reworded [] 0 tag.body }
 
+-- what is known, but for the words
 abbrev pub known_wordless : Known → Known
 known_wordless known = record { tag = wordless known.tag; any = known.any }
 
@@ -26,12 +27,14 @@ abbrev pub known_of : TagValue → Option ℕ → Known
 known_of tag None = record { tag = wordless tag; any = false }
 known_of tag (Some most) = record { tag = wordless (record { state = at_slot most tag.state; body = tag.body }); any = true }
 
+-- the tag has slot 1 of those that it may have, up to one
 pub record IsInFirstSlot (state : StateValue) (most : ℕ) : Type 0 where
   pub session : ℕ
   pub q : ℕ
   pub is : state ≡ ArbitrateState session q 1
   pub least : 1 ≤ most
 
+-- ... where its slot may be any
 abbrev pub HasFirstSlot : Option ℕ → StateValue → Type 0
 HasFirstSlot None state = Unit {0}
 HasFirstSlot (Some most) state = IsInFirstSlot state most
@@ -42,6 +45,7 @@ pub record Goes (manner : Manner) (known : Known) (entry : LogEntry) (behind : K
   pub follows : Follows manner known entry next
   pub is : behind ≡ known_wordless next
 
+-- what is known may go on with the entry
 abbrev pub MayGo : Manner → Known → LogEntry → Type 0
 MayGo manner known entry = (next : Known) × Follows manner known entry next
 

@@ -39,6 +39,7 @@ pub record IsOtherError (answer seen : Option Seen) : Type 0 where
   pub said : seen ≡ Some (record { reply = Error other; extended = extended })
   pub apart : other ≢ code
 
+-- The tag sends an error with a code of its own, and becomes what it becomes by the tables.
 pub record TakesCode (heard : Option Command) (seen : Option Seen) (tag behind : TagValue) : Type 0 where
   pub other : IsOtherError (seen_answer_to heard tag) seen
   pub becomes : behind ≡ (outcome_of_heard heard tag).tag
@@ -79,6 +80,7 @@ pub data Manner : Type 0 where
   ByTables : Manner
   WithLiberties : Manner
 
+-- the tag may do what the entry says, in this manner, and becomes this
 abbrev pub Allows : Manner → LogEntry → TagValue → TagValue → Type 0
 Allows ByTables entry tag behind = Explains entry tag behind
 Allows WithLiberties entry tag behind = Excuses entry tag behind
@@ -104,6 +106,7 @@ pub record IsExcused (tag : LoggedTag) (log : List LogEntry) : Type 0 where
   pub words : List ℕ
   pub excuse : IsLedBy words WithLiberties tag log
 
+-- some words do what the log says, in this manner
 abbrev pub IsAllowed : Manner → LoggedTag → List LogEntry → Type 0
 IsAllowed ByTables tag log = IsExplained tag log
 IsAllowed WithLiberties tag log = IsExcused tag log

@@ -27,6 +27,7 @@ abbrev pub line_count : LogEntry → ℕ
 line_count (Exchange heard seen) = 2
 line_count (Befalls event) = 1
 
+-- how many lines the entries of a log take
 abbrev pub lines_in : List LogEntry → ℕ
 lines_in [] = 0
 lines_in (entry ∷ log) = line_count entry + lines_in log

@@ -24,11 +24,13 @@ pub record IsRn16 (answer : Option Seen) : Type 0 where
   pub range : number < 2 ^ 16
   pub is : answer ≡ Some (record { reply = Rn16 number; extended = false })
 
+-- ... a handle or a cover
 pub record IsHandle (answer : Option Seen) : Type 0 where
   pub number : ℕ
   pub range : number < 2 ^ 16
   pub is : answer ≡ Some (record { reply = Handle number; extended = false })
 
+-- the answer is one that is meant
 abbrev pub Means : Want → Option Seen → Type 0
 Means Nothing answer = answer ≡ None
 Means (Exactly seen) answer = answer ≡ Some seen
@@ -60,6 +62,7 @@ pub record FailsFirst (manner : Manner) (tag : LoggedTag) (log : List LogEntry) 
   pub place : number ≡ last_line (before ++ Exchange heard seen ∷ [])
   pub wanted : IsWanted manner tag before heard want
 
+-- what is said of a log
 pub data Verdict : Type 0 where
   -- the log can be that of a tag that follows the tables
   Yes : Verdict
@@ -68,15 +71,18 @@ pub data Verdict : Type 0 where
   -- no tag can have this log, not even one that takes liberties: the answer line of this number is the first that can't come
   No : (number : ℕ) (want : Want) → Verdict
 
+-- No words explain the log, some excuse it, and this is the first answer that the tables alone do not give.
 pub record IsProfile (tag : LoggedTag) (log : List LogEntry) (number : ℕ) (want : Want) : Type 0 where
   pub unexplained : ¬ IsExplained tag log
   pub excused : IsExcused tag log
   pub first : FailsFirst ByTables tag log number want
 
+-- No words excuse the log, and this is the first answer that no liberty gives.
 pub record IsNo (tag : LoggedTag) (log : List LogEntry) (number : ℕ) (want : Want) : Type 0 where
   pub unexcused : ¬ IsExcused tag log
   pub first : FailsFirst WithLiberties tag log number want
 
+-- this is the verdict on the log
 abbrev pub IsVerdict : LoggedTag → List LogEntry → Verdict → Type 0
 IsVerdict tag log Yes = IsExplained tag log
 IsVerdict tag log (Profile number want) = IsProfile tag log number want

@@ -19,12 +19,14 @@ use Rattle.tag_machine.specs.Step.{step}
 abbrev pub reworded : List ℕ → ℕ → BodyValue → BodyValue
 reworded words place body = record body { words = words; next_draw = place }
 
+-- an outcome of a tag with other words
 abbrev pub outcome_reworded : List ℕ → ℕ → Outcome → Outcome
 outcome_reworded words place outcome = record {
   tag = record { state = outcome.tag.state; body = reworded words place outcome.tag.body };
   answer = outcome.answer;
 }
 
+-- what a command does to a tag, but for the words that are drawn
 pub data Kind : Type 0 where
   -- the tag draws nothing at the command, whose outcome is this
   Settled : (outcome : Outcome) → Kind
@@ -43,9 +45,11 @@ outcome_from (Replies session q body) words place = begin_reply session q (rewor
 outcome_from (Gives state body) words place =
     plain_answer (state (draw_of (reworded words place body))) (body_after_draw (reworded words place body)) (Handle (draw_of (reworded words place body))) 0
 
+-- 6.3.2.11.2.1 Query: ENTER where the flags are those that it speaks to, and else the tag is ready
 abbrev pub take_kind : Sel → ℕ → Side → ℕ → BodyValue → Kind
 take_kind sel session target q body = (if matches sel session target body.flags then Enters session q body else Settled (silent ReadyState body))
 
+-- ... in each state; a tag that was inventoried in the session closes first
 abbrev pub query_kind : Sel → ℕ → Side → ℕ → StateValue → BodyValue → Kind
 query_kind sel session target q ReadyState body = take_kind sel session target q body
 query_kind sel session target q (ArbitrateState own own_q slot) body = take_kind sel session target q body
@@ -56,10 +60,12 @@ query_kind sel session target q (SecuredState held) body = take_kind sel session
 query_kind sel session target q KilledState body = Settled (silent KilledState body)
 query_kind sel session target q UnpoweredState body = Settled (silent UnpoweredState body)
 
+-- 6.3.2.11.2.3 QueryRep: the slot counter falls by 1, and at 0 the tag answers
 abbrev pub count_kind : ℕ → ℕ → ℕ → BodyValue → Kind
 count_kind session q slot body =
     (if slot_below slot == 0 then Replies session q body else Settled (silent (ArbitrateState session q (slot_below slot)) body))
 
+-- ... in each state
 abbrev pub rep_kind : ℕ → StateValue → BodyValue → Kind
 rep_kind session ReadyState body = Settled (silent ReadyState body)
 rep_kind session (ArbitrateState own q slot) body =
@@ -75,6 +81,7 @@ rep_kind session (SecuredState held) body =
 rep_kind session KilledState body = Settled (silent KilledState body)
 rep_kind session UnpoweredState body = Settled (silent UnpoweredState body)
 
+-- 6.3.2.11.2.2 QueryAdjust
 abbrev pub adjust_kind : ℕ → UpDn → StateValue → BodyValue → Kind
 adjust_kind session updn ReadyState body = Settled (silent ReadyState body)
 adjust_kind session updn (ArbitrateState own q slot) body =
@@ -94,6 +101,7 @@ adjust_kind session updn UnpoweredState body = Settled (silent UnpoweredState bo
 abbrev pub first_held : ℕ → ℕ → BodyValue → ℕ → StateValue
 first_held session q body number = held_state (first_level body) (new_held session q number)
 
+-- 6.3.2.11.3.1 Req_RN
 abbrev pub number_kind : ℕ → StateValue → BodyValue → Kind
 number_kind rn ReadyState body = Settled (silent ReadyState body)
 number_kind rn (ArbitrateState session q slot) body = Settled (silent (ArbitrateState session q slot) body)
@@ -134,11 +142,13 @@ pub data ArbitrateMove : Type 0 where
   -- it falls by 1, in a round of this session
   Counts : (session : ℕ) → ArbitrateMove
 
+-- ... where it has this slot
 abbrev pub kind_at : ArbitrateMove → ℕ → ℕ → BodyValue → ℕ → Kind
 kind_at Stays session q body slot = Settled (silent (ArbitrateState session q slot) body)
 kind_at (Leaves kind) session q body slot = kind
 kind_at (Counts other) session q body slot = count_kind other q slot body
 
+-- ... by the command, in a round of this session and Q
 abbrev pub move_of : Option Command → ℕ → ℕ → BodyValue → ArbitrateMove
 move_of None own q body = Stays
 move_of (Some (commands.QueryRep session)) own q body = (if own == session then Counts session else Stays)
@@ -167,6 +177,7 @@ HasSmallQ (SecuredState held) = held.q ≤ 15
 HasSmallQ KilledState = Unit {0}
 HasSmallQ UnpoweredState = Unit {0}
 
+-- ... behind a command of this kind
 abbrev pub KeepsSmallQ : Kind → Type 0
 KeepsSmallQ (Settled outcome) = HasSmallQ outcome.tag.state
 KeepsSmallQ (Enters session q body) = q ≤ 15

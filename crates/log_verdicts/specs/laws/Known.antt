@@ -43,6 +43,7 @@ slot_word (Some seen) = 0
 abbrev pub guessed : Option Command → Option Seen → List ℕ
 guessed heard seen = (if draws_slot heard then slot_word seen else number_seen seen) ∷ number_seen seen ∷ []
 
+-- a tag in arbitrate with another slot
 abbrev pub at_slot : ℕ → StateValue → StateValue
 at_slot slot ReadyState = ReadyState
 at_slot slot (ArbitrateState session q old) = ArbitrateState session q slot
@@ -66,6 +67,7 @@ prepared known heard seen = record {
   body = reworded (guessed heard seen) 0 known.tag.body;
 }
 
+-- the tag is in arbitrate
 abbrev pub waits : StateValue → Bool
 waits ReadyState = false
 waits (ArbitrateState session q slot) = true
@@ -76,6 +78,7 @@ waits (SecuredState held) = false
 waits KilledState = false
 waits UnpoweredState = false
 
+-- a slot is drawn
 abbrev pub is_enters : Kind → Bool
 is_enters (Settled outcome) = false
 is_enters (Enters session q body) = true
@@ -98,12 +101,14 @@ abbrev pub want_of_answer : Option Seen → Want
 want_of_answer None = Nothing
 want_of_answer (Some seen) = Exactly seen
 
+-- ... by the kind of the command
 abbrev pub want_of_kind : Kind → Want
 want_of_kind (Settled outcome) = want_of_answer (seen_of outcome.answer)
 want_of_kind (Enters session q body) = (if q == 0 then AnyRn16 else NothingOrAnyRn16)
 want_of_kind (Replies session q body) = AnyRn16
 want_of_kind (Gives state body) = AnyHandle
 
+-- ... in arbitrate, where the slot may be any up to this
 abbrev pub want_of_move : ArbitrateMove → ℕ → Want
 want_of_move Stays most = Nothing
 want_of_move (Leaves kind) most = want_of_kind kind
@@ -120,6 +125,7 @@ want_at heard (SecuredState held) body = Nothing
 want_at heard KilledState body = Nothing
 want_at heard UnpoweredState body = Nothing
 
+-- what has to be answered to what was heard
 abbrev pub want_of : Known → Option Command → Want
 want_of known heard = (if known.any then want_at heard known.tag.state known.tag.body else want_of_kind (kind_of heard known.tag.state known.tag.body))
 
@@ -134,10 +140,12 @@ pub record IsWithin (known state : StateValue) : Type 0 where
   pub least : 1 ≤ slot
   pub within : slot ≤ most
 
+-- a state that is meant, where the slot may be any or not
 abbrev pub CoversState : Bool → StateValue → StateValue → Type 0
 CoversState false known state = state ≡ known
 CoversState true known state = IsWithin known state
 
+-- a tag that is meant
 pub record Covers (words : List ℕ) (place : ℕ) (known : Known) (tag : TagValue) : Type 0 where
   pub state : CoversState known.any known.tag.state tag.state
   pub body : tag.body ≡ reworded words place known.tag.body

@@ -25,6 +25,7 @@ number_of_reply (Words words) = 0
 number_of_reply Header = 0
 number_of_reply (Error code) = 0
 
+-- ... of what was seen, 0 of nothing
 abbrev pub number_seen : Option Seen → ℕ
 number_seen None = 0
 number_seen (Some seen) = number_of_reply seen.reply
@@ -34,10 +35,12 @@ pub record IsLegalExchange (heard : Option Command) (seen : Option Seen) : Type 
   pub heard_is : IsLegalHeard heard
   pub seen_is : number_seen seen < 2 ^ 16
 
+-- the numbers of an entry are in their ranges
 abbrev pub IsLegalEntry : LogEntry → Type 0
 IsLegalEntry (Exchange heard seen) = IsLegalExchange heard seen
 IsLegalEntry (Befalls event) = Unit {0}
 
+-- ... of each entry of a log
 abbrev pub IsLegalLog : List LogEntry → Type 0
 IsLegalLog log = AllByRecursion IsLegalEntry log
 

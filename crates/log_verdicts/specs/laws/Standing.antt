@@ -6,6 +6,7 @@ use Rattle.log_verdicts.specs.Explaining.{Leads, Manner}
 use Rattle.log_verdicts.specs.laws.Kinds.{HasSmallQ, reworded}
 use Rattle.log_verdicts.specs.laws.Known.{Known, Covers, CoversState}
 
+-- what is known has its numbers in their ranges
 pub record IsValid (known : Known) : Type 0 where
   pub small : HasSmallQ known.tag.state
   -- the largest slot is one of those that may be
