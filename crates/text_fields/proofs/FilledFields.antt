@@ -1,5 +1,5 @@
 -- Lists of so many fields, none of them empty.
-use Rattle.std.proofs.Common.{◌≡◌, ◌≢◌, ℕ, suc, List, [], ◌∷◌, ap, arith, refl}
+use Rattle.std.proofs.Common.{◌≡◌, ◌≢◌, ℕ, suc, List, [], ◌∷◌, ap, arith, refl, ◌∙◌}
 use Rattle.std.proofs.lemmas.List.Elements.{All-cons, All-head, All-nil, All-tail}
 use Rattle.text_fields.specs.NamedFields.{AreFilled}
 
@@ -24,57 +24,49 @@ pub nothing_more : (fields : List (List ℕ)) → AreFilled 0 fields → fields 
 nothing_more [] are = refl
 nothing_more (field ∷ fields) are = let number = are.number in absurd (omega arith)
 
--- a field can't be wanting where one is there
+-- a field with others behind it
+abbrev behind : List ℕ → List (List ℕ) → List (List ℕ)
+behind field fields = field ∷ fields
+
+-- a field is there, and behind it one less
+some_field : (count : ℕ) (fields : List (List ℕ)) → AreFilled (suc count) fields
+    → ((a : List ℕ) (rest : List (List ℕ)) → fields ≡ a ∷ rest → Filled a → AreFilled count rest → ⊥) → ⊥
+some_field count [] are wanting = let number = are.number in absurd (omega arith)
+some_field count (field ∷ fields) are wanting =
+    let parts = one_less count field fields are in
+    wanting field fields refl parts.0 parts.1
+
+-- so many fields can't be wanting where they are there
 pub have_1 : (fields : List (List ℕ)) → AreFilled 1 fields → ((a : List ℕ) → fields ≡ a ∷ [] → Filled a → ⊥) → ⊥
-have_1 [] are wanting = let number = are.number in absurd (omega arith)
-have_1 (field ∷ fields) are wanting =
-    let parts = one_less 0 field fields are in
-    wanting field (ap (λ (rest : List (List ℕ)). field ∷ rest) (nothing_more fields parts.1)) parts.0
+have_1 fields are wanting =
+    some_field 0 fields are (λ a rest is ha more. wanting a (rw (nothing_more rest more) at is) ha)
 
 pub have_2 : (fields : List (List ℕ)) → AreFilled 2 fields
     → ((a b : List ℕ) → fields ≡ a ∷ b ∷ [] → Filled a → Filled b → ⊥) → ⊥
-have_2 [] are wanting = let number = are.number in absurd (omega arith)
-have_2 (field ∷ fields) are wanting =
-    let parts = one_less 1 field fields are in
-    have_1 fields parts.1 (λ b are_these hb.
-    wanting field b (ap (λ (rest : List (List ℕ)). field ∷ rest) are_these) parts.0 hb)
+have_2 fields are wanting =
+    some_field 1 fields are (λ a rest is ha more. have_1 rest more (λ b are_these. wanting a b (is ∙ ap (behind a) are_these) ha))
 
 pub have_3 : (fields : List (List ℕ)) → AreFilled 3 fields
     → ((a b c : List ℕ) → fields ≡ a ∷ b ∷ c ∷ [] → Filled a → Filled b → Filled c → ⊥) → ⊥
-have_3 [] are wanting = let number = are.number in absurd (omega arith)
-have_3 (field ∷ fields) are wanting =
-    let parts = one_less 2 field fields are in
-    have_2 fields parts.1 (λ b c are_these hb hc.
-    wanting field b c (ap (λ (rest : List (List ℕ)). field ∷ rest) are_these) parts.0 hb hc)
+have_3 fields are wanting =
+    some_field 2 fields are (λ a rest is ha more. have_2 rest more (λ b c are_these. wanting a b c (is ∙ ap (behind a) are_these) ha))
 
 pub have_4 : (fields : List (List ℕ)) → AreFilled 4 fields
     → ((a b c d : List ℕ) → fields ≡ a ∷ b ∷ c ∷ d ∷ [] → Filled a → Filled b → Filled c → Filled d → ⊥) → ⊥
-have_4 [] are wanting = let number = are.number in absurd (omega arith)
-have_4 (field ∷ fields) are wanting =
-    let parts = one_less 3 field fields are in
-    have_3 fields parts.1 (λ b c d are_these hb hc hd.
-    wanting field b c d (ap (λ (rest : List (List ℕ)). field ∷ rest) are_these) parts.0 hb hc hd)
+have_4 fields are wanting =
+    some_field 3 fields are (λ a rest is ha more. have_3 rest more (λ b c d are_these. wanting a b c d (is ∙ ap (behind a) are_these) ha))
 
 pub have_5 : (fields : List (List ℕ)) → AreFilled 5 fields
     → ((a b c d e : List ℕ) → fields ≡ a ∷ b ∷ c ∷ d ∷ e ∷ [] → Filled a → Filled b → Filled c → Filled d → Filled e → ⊥) → ⊥
-have_5 [] are wanting = let number = are.number in absurd (omega arith)
-have_5 (field ∷ fields) are wanting =
-    let parts = one_less 4 field fields are in
-    have_4 fields parts.1 (λ b c d e are_these hb hc hd he.
-    wanting field b c d e (ap (λ (rest : List (List ℕ)). field ∷ rest) are_these) parts.0 hb hc hd he)
+have_5 fields are wanting =
+    some_field 4 fields are (λ a rest is ha more. have_4 rest more (λ b c d e are_these. wanting a b c d e (is ∙ ap (behind a) are_these) ha))
 
 pub have_6 : (fields : List (List ℕ)) → AreFilled 6 fields
     → ((a b c d e f : List ℕ) → fields ≡ a ∷ b ∷ c ∷ d ∷ e ∷ f ∷ [] → Filled a → Filled b → Filled c → Filled d → Filled e → Filled f → ⊥) → ⊥
-have_6 [] are wanting = let number = are.number in absurd (omega arith)
-have_6 (field ∷ fields) are wanting =
-    let parts = one_less 5 field fields are in
-    have_5 fields parts.1 (λ b c d e f are_these hb hc hd he hf.
-    wanting field b c d e f (ap (λ (rest : List (List ℕ)). field ∷ rest) are_these) parts.0 hb hc hd he hf)
+have_6 fields are wanting =
+    some_field 5 fields are (λ a rest is ha more. have_5 rest more (λ b c d e f are_these. wanting a b c d e f (is ∙ ap (behind a) are_these) ha))
 
 pub have_7 : (fields : List (List ℕ)) → AreFilled 7 fields
     → ((a b c d e f g : List ℕ) → fields ≡ a ∷ b ∷ c ∷ d ∷ e ∷ f ∷ g ∷ [] → Filled a → Filled b → Filled c → Filled d → Filled e → Filled f → Filled g → ⊥) → ⊥
-have_7 [] are wanting = let number = are.number in absurd (omega arith)
-have_7 (field ∷ fields) are wanting =
-    let parts = one_less 6 field fields are in
-    have_6 fields parts.1 (λ b c d e f g are_these hb hc hd he hf hg.
-    wanting field b c d e f g (ap (λ (rest : List (List ℕ)). field ∷ rest) are_these) parts.0 hb hc hd he hf hg)
+have_7 fields are wanting =
+    some_field 6 fields are (λ a rest is ha more. have_6 rest more (λ b c d e f g are_these. wanting a b c d e f g (is ∙ ap (behind a) are_these) ha))

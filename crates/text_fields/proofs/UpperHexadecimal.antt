@@ -1,12 +1,12 @@
 -- Upper-case hexadecimal digits are ASCII, and words are written in them.
-use Rattle.std.proofs.Common.{◌≡◌, ◌<◌, ◌^◌, ◌/◌, ◌%◌, ℕ, zero, suc, true, false, ◌==◌, List, [], ◌∷◌, length, slice_index, arith, lit<, refl}
+use Rattle.std.proofs.Common.{◌≡◌, ◌<◌, ◌^◌, ℕ, zero, suc, true, false, ◌==◌, List, [], ◌∷◌, length, slice_index, arith, lit<, refl}
 use Rattle.std.specs.List.{AllPass, flat_map}
 use Rattle.std.specs.Str.{IsAscii}
 use Rattle.std.proofs.lemmas.Bool.Decides.{nat_tests}
-use Rattle.std.proofs.lemmas.List.Elements.{All-cons, All-from_get_or, All-head, All-nil, All-tail}
-use Rattle.text_fields.specs.Hexadecimal.{hex_byte, hex_digit, hex_word, hex_words}
+use Rattle.std.proofs.lemmas.List.Elements.{All-from_get_or, All-head, All-tail}
+use Rattle.text_fields.specs.Hexadecimal.{hex_word, hex_words}
 use Rattle.text_fields.specs.WordLists.{is_upper_hex_digit}
-use Rattle.text_fields.proofs.WordDigits.{digits_pass, hex_digit_is_digit}
+use Rattle.text_fields.proofs.WordDigits.{digits_pass}
 
 -- the fact of `AllPass is_upper_hex_digit`
 abbrev IsDigit : ℕ → Type 0
@@ -26,13 +26,6 @@ digits_ascii digits are = digits_below digits are
 -- the digits of words that fit 16 bits
 pub words_pass : (words : List ℕ) → ((i : ℕ) → slice_index words i < 2 ^ 16) → AllPass is_upper_hex_digit (flat_map hex_word words)
 words_pass words fit = digits_pass words (All-from_get_or (λ word. word < 2 ^ 16) words 0 (λ i within. fit i))
-
--- the digits of a byte
-pub byte_passes : (byte : ℕ) → byte < 2 ^ 8 → AllPass is_upper_hex_digit (hex_byte byte)
-byte_passes byte fits =
-    let low = hex_digit (byte % 16) in
-    All-cons IsDigit (hex_digit (byte / 16)) (low ∷ []) (hex_digit_is_digit (byte / 16) (omega arith))
-    (All-cons IsDigit low [] (hex_digit_is_digit (byte % 16) (omega arith)) (All-nil IsDigit))
 
 -- the spelling of some words is their digits
 pub words_filled : (words : List ℕ) → (length words == 0) ≡ false → hex_words words ≡ flat_map hex_word words

@@ -1,15 +1,13 @@
 -- Lists of words and their digits.
-use Rattle.std.proofs.Common.{◌≡◌, ◌≢◌, ◌<◌, ◌≤◌, ◌^◌, ◌/◌, ◌%◌, ◌+◌, ◌*◌, ℕ, zero, suc, true, List, [], ◌∷◌, ◌++◌, length, take, drop, get_or, slice_set, Some, arith, ap, sym, ◌∙◌, refl, subst}
-use Rattle.std.specs.Prelude.{All, IfSome, None, Option, slice_get}
+use Rattle.std.proofs.Common.{◌≡◌, ◌≢◌, ◌<◌, ◌^◌, ◌/◌, ◌%◌, ◌+◌, ◌*◌, ℕ, suc, true, List, [], ◌∷◌, ◌++◌, length, map, slice_index, arith, ap, sym, ◌∙◌, refl, subst}
+use Rattle.std.specs.Prelude.{All}
 use Rattle.std.specs.List.{AllPass, flat_map}
 use Rattle.std.specs.Simd.{first_chunks}
 use Rattle.std.proofs.lemmas.Bool.Decides.{nat_tests}
-use Rattle.std.proofs.lemmas.List.{append_assoc, append-nil, drop-drop, drop_all, take_all, take_more_set}
 use Rattle.std.proofs.lemmas.List.Elements.{All-append, All-cons, All-head, All-nil, All-tail}
 use Rattle.text_fields.specs.Binary.{hyphen}
-use Rattle.text_fields.specs.Hexadecimal.{hex_byte, hex_digit, hex_word, hex_words}
-use Rattle.text_fields.specs.WordLists.{AreWordDigits, digit_number, is_upper_hex_digit, word_number, words_of_digits}
-use Rattle.text_fields.proofs.Groups.{group_at}
+use Rattle.text_fields.specs.Hexadecimal.{hex_byte, hex_digit, hex_word}
+use Rattle.text_fields.specs.WordLists.{AreWordDigits, digit_number, first_word, is_upper_hex_digit, word_number, words_of_digits}
 
 -- the fact of `AllPass is_upper_hex_digit`
 abbrev IsDigit : ℕ → Type 0
@@ -29,7 +27,7 @@ number_small digit = grind (arith, nat_tests)
 number_back : (n : ℕ) → n < 16 → digit_number (hex_digit n) ≡ n
 number_back n small = grind (arith, nat_tests)
 
-pub hex_digit_is_digit : (n : ℕ) → n < 16 → IsDigit (hex_digit n)
+hex_digit_is_digit : (n : ℕ) → n < 16 → IsDigit (hex_digit n)
 hex_digit_is_digit n small = grind (arith, nat_tests)
 
 -- the four digits of four numbers below 16
@@ -113,16 +111,15 @@ pub digits_length : (words : List ℕ) → length (flat_map hex_word words) ≡ 
 digits_length [] = refl
 digits_length (word ∷ words) = omega (arith, digits_length words)
 
+byte_passes : (byte : ℕ) → byte < 2 ^ 8 → AllPass is_upper_hex_digit (hex_byte byte)
+byte_passes byte fits =
+    let low = hex_digit (byte % 16) in
+    All-cons IsDigit (hex_digit (byte / 16)) (low ∷ []) (hex_digit_is_digit (byte / 16) (omega arith))
+    (All-cons IsDigit low [] (hex_digit_is_digit (byte % 16) (omega arith)) (All-nil IsDigit))
+
 pub word_passes : (word : ℕ) → IsSmall word → AllPass is_upper_hex_digit (hex_word word)
 word_passes word fits =
-    let d = hex_digit (word % 256 % 16) in
-    let c = hex_digit (word % 256 / 16) in
-    let b = hex_digit (word / 256 % 16) in
-    let a = hex_digit (word / 256 / 16) in
-    All-cons IsDigit a (b ∷ c ∷ d ∷ []) (hex_digit_is_digit (word / 256 / 16) (omega arith))
-    (All-cons IsDigit b (c ∷ d ∷ []) (hex_digit_is_digit (word / 256 % 16) (omega arith))
-    (All-cons IsDigit c (d ∷ []) (hex_digit_is_digit (word % 256 / 16) (omega arith))
-    (All-cons IsDigit d [] (hex_digit_is_digit (word % 256 % 16) (omega arith)) (All-nil IsDigit))))
+    All-append IsDigit (hex_byte (word / 256)) (hex_byte (word % 256)) (byte_passes (word / 256) (omega arith)) (byte_passes (word % 256) (omega arith))
 
 pub digits_pass : (words : List ℕ) → All (λ word. word < 2 ^ 16) words → AllPass is_upper_hex_digit (flat_map hex_word words)
 digits_pass [] small = All-nil IsDigit
@@ -148,67 +145,23 @@ four_digits (a ∷ b ∷ c ∷ []) four upper = absurd (omega arith)
 four_digits (a ∷ b ∷ c ∷ d ∷ []) four upper = (word_number a b c d, word_small a b c d, words_spelled (a ∷ b ∷ c ∷ d ∷ []) upper refl, refl)
 four_digits (a ∷ b ∷ c ∷ d ∷ e ∷ digits) four upper = absurd (omega arith)
 
--- the first word of digits is that of the first four
-front_word : (digits : List ℕ) (word : ℕ) → words_of_digits (take 4 digits) ≡ word ∷ [] → words_of_digits digits ≡ word ∷ words_of_digits (drop 4 digits)
-front_word [] word is = cc
-front_word (a ∷ []) word is = cc
-front_word (a ∷ b ∷ []) word is = cc
-front_word (a ∷ b ∷ c ∷ []) word is = cc
-front_word (a ∷ b ∷ c ∷ d ∷ digits) word is = ap (λ (list : List ℕ). list ++ words_of_digits digits) is
+-- the words of digits are those of their groups of four
+pub words_in_groups : (digits : List ℕ) → map first_word (first_chunks 4 (length digits / 4) digits) ≡ words_of_digits digits
+words_in_groups [] = refl
+words_in_groups (a ∷ []) = refl
+words_in_groups (a ∷ b ∷ []) = refl
+words_in_groups (a ∷ b ∷ c ∷ []) = refl
+words_in_groups (a ∷ b ∷ c ∷ d ∷ digits) =
+    let count : length (a ∷ b ∷ c ∷ d ∷ digits) / 4 ≡ suc (length digits / 4) = omega arith in
+    ap (λ (n : ℕ). map first_word (first_chunks 4 n (a ∷ b ∷ c ∷ d ∷ digits))) count
+    ∙ ap (λ (words : List ℕ). word_number a b c d ∷ words) (words_in_groups digits)
 
--- the words from a place on begin with that of the group there
-pub group_word : (digits : List ℕ) (count at word : ℕ) (default : List ℕ) → at < count → words_of_digits (get_or (first_chunks 4 count digits) at default) ≡ word ∷ []
-    → words_of_digits (drop (4 * at) digits) ≡ word ∷ words_of_digits (drop (4 * (at + 1)) digits)
-group_word digits count at word default within is =
-    let place : 4 * at + 4 ≡ 4 * (at + 1) = omega arith in
-    let here : words_of_digits (take 4 (drop (4 * at) digits)) ≡ word ∷ [] = sym (ap words_of_digits (group_at 4 digits count at default within)) ∙ is in
-    front_word (drop (4 * at) digits) word here
-    ∙ ap (λ (list : List ℕ). word ∷ words_of_digits list) (drop-drop 4 (4 * at) digits ∙ ap (λ (n : ℕ). drop n digits) place)
+-- four digits spell their word
+pub one_word : (digits : List ℕ) (word : ℕ) → length digits ≡ 4 → AllPass is_upper_hex_digit digits → word ≡ first_word digits → digits ≡ hex_word word
+one_word digits word four upper is =
+    let found = four_digits digits four upper in
+    found.2 ∙ ap (λ n. hex_word n) (sym (is ∙ ap (λ (words : List ℕ). slice_index words 0) found.3))
 
--- four digits less are a word less
-words_dropped : (digits : List ℕ) (at : ℕ) → words_of_digits (drop (4 * at) digits) ≡ drop at (words_of_digits digits)
-words_dropped digits zero = refl
-words_dropped [] (suc at) = ap words_of_digits (drop_all (4 * suc at) [] (omega arith))
-words_dropped (a ∷ []) (suc at) = ap words_of_digits (drop_all (4 * suc at) (a ∷ []) (omega arith))
-words_dropped (a ∷ b ∷ []) (suc at) = ap words_of_digits (drop_all (4 * suc at) (a ∷ b ∷ []) (omega arith))
-words_dropped (a ∷ b ∷ c ∷ []) (suc at) = ap words_of_digits (drop_all (4 * suc at) (a ∷ b ∷ c ∷ []) (omega arith))
-words_dropped (a ∷ b ∷ c ∷ d ∷ digits) (suc at) =
-    let place : 4 * suc at ≡ suc (suc (suc (suc (4 * at)))) = omega arith in
-    ap (λ (n : ℕ). words_of_digits (drop n (a ∷ b ∷ c ∷ d ∷ digits))) place ∙ words_dropped digits at
-
--- one word more is written
-pub word_step : (digits words out : List ℕ) (at word : ℕ) → at < length out → words_of_digits digits ≡ words
-    → words_of_digits (drop (4 * at) digits) ≡ word ∷ words_of_digits (drop (4 * (at + 1)) digits)
-    → words ≡ take at out ++ drop at words → words ≡ take (at + 1) (slice_set out at word) ++ drop (at + 1) words
-word_step digits words out at word room are is so_far =
-    let before : words_of_digits (drop (4 * at) digits) ≡ drop at words = words_dropped digits at ∙ ap (λ (list : List ℕ). drop at list) are in
-    let behind : words_of_digits (drop (4 * (at + 1)) digits) ≡ drop (at + 1) words = words_dropped digits (at + 1) ∙ ap (λ (list : List ℕ). drop (at + 1) list) are in
-    so_far
-    ∙ ap (λ (list : List ℕ). take at out ++ list) (sym before ∙ is ∙ ap (λ (list : List ℕ). word ∷ list) behind)
-    ∙ sym (append_assoc (take at out) (word ∷ []) (drop (at + 1) words))
-    ∙ ap (λ (front : List ℕ). front ++ drop (at + 1) words) (sym (take_more_set out at word room))
-
--- all words are written
-pub words_done : (words out : List ℕ) (at : ℕ) → length out ≡ length words → length out ≤ at → words ≡ take at out ++ drop at words → out ≡ words
-words_done words out at count behind so_far =
-    sym (so_far ∙ rw (drop_all at words (omega (arith, count, behind)), take_all at out behind) (append-nil out))
-
-pub one_small : (word : ℕ) → IsSmall word → All (λ word. word < 2 ^ 16) (word ∷ [])
-one_small word small = All-cons IsSmall word [] small (All-nil IsSmall)
-
--- a list of at most one word is spelled as its word
-pub one_spelled : (field words : List ℕ) (first : Option ℕ) → field ≡ hex_words words → length words ≤ 1 → first ≡ slice_get words 0
-    → IfSome first (λ word. field ≡ hex_word word)
-one_spelled field [] first is few there = rw there tt
-one_spelled field (word ∷ []) first is few there = rw there is
-one_spelled field (word ∷ second ∷ words) first is few there = absurd (omega arith)
-
--- the first word is that of the first group
-pub first_group : (digits : List ℕ) (word : ℕ) (default : List ℕ) → 0 < length digits / 4 → words_of_digits (get_or (first_chunks 4 (length digits / 4) digits) 0 default) ≡ word ∷ []
-    → slice_get (words_of_digits digits) 0 ≡ Some word
-first_group digits word default some is = ap (λ (words : List ℕ). slice_get words 0) (group_word digits (length digits / 4) 0 word default some is)
-
--- and without a group there is none
-pub no_group : (words : List ℕ) → length words ≡ 0 → slice_get words 0 ≡ None
-no_group [] none = refl
-no_group (word ∷ words) none = absurd (omega arith)
+-- and no other word
+pub same_word : (word : ℕ) → IsSmall word → first_word (hex_word word) ≡ word
+same_word word small = word_back word small

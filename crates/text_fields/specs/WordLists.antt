@@ -1,5 +1,5 @@
 -- Profile: the words that upper-case hexadecimal digits spell, four digits a word.
-use Rattle.std.specs.Prelude.{◌≡◌, ℕ, ◌+◌, ◌-◌, ◌*◌, ◌/◌, ◌<◌, ◌≤◌, ◌^◌, nat_le, Bool, ◌&&◌, ◌||◌, List, [], ◌∷◌, length, All, if◌then◌else◌}
+use Rattle.std.specs.Prelude.{◌≡◌, ℕ, ◌+◌, ◌-◌, ◌*◌, ◌/◌, ◌<◌, ◌≤◌, ◌^◌, nat_le, Bool, ◌&&◌, ◌||◌, List, [], ◌∷◌, length, slice_index, All, if◌then◌else◌}
 use Rattle.std.specs.List.{flat_map}
 use Rattle.text_fields.specs.Hexadecimal.{hex_word}
 
@@ -21,6 +21,10 @@ word_number a b c d = ((digit_number a * 16 + digit_number b) * 16 + digit_numbe
 abbrev pub words_of_digits : List ℕ → List ℕ
 words_of_digits (a ∷ b ∷ c ∷ d ∷ digits) = word_number a b c d ∷ words_of_digits digits
 words_of_digits digits = []
+
+-- the first word of digits
+abbrev pub first_word : List ℕ → ℕ
+first_word digits = slice_index (words_of_digits digits) 0
 
 -- the digits spell their words, and these are fewer than 2 ^ 32
 pub record AreWordDigits (digits : List ℕ) : Type 0 where

@@ -5,6 +5,7 @@ ghost use Rattle.std.specs.String.{string_bytes};
 ghost use Rattle.text_fields.specs.Binary.{binary, binary_digit, hyphen, is_binary_digit, or_hyphen};
 
 use crate::ascii::push_ascii;
+use crate::byte_tests::{ByteTest, all_pass};
 use bit_strings::{Bits, List, OutOfMemory};
 use std::alloc::Global;
 use std::marker::Model;
@@ -39,16 +40,15 @@ pub fn is_binary_digit(byte: u8) -> bool
     matches!(byte, b'0' | b'1')
 }
 
-/// Whether each byte is one of the digits 0 and 1.
-fn is_binary(digits: &[u8]) -> bool
-    ensures { IsTrue result ↔ AllPass is_binary_digit digits.now }
-{
-    // The loop goes on to the end, so that the compiler can look at many digits at once.
-    let mut binary = true;
-    for digit in digits {
-        binary &= is_binary_digit(*digit);
+/// The test of the digits 0 and 1.
+struct BinaryDigit;
+
+impl ByteTest for BinaryDigit {
+    ghost test = { is_binary_digit };
+
+    fn passes(byte: u8) -> bool {
+        is_binary_digit(byte)
     }
-    binary
 }
 
 /// The digits that a field spells a list with, which are none where the field is a hyphen. None exactly
@@ -74,7 +74,7 @@ impl<'a> Digits<'a> {
             → IsSomeAnd result (λ it. it ≡ bits) }
     {
         let digits = list_digits(field)?;
-        if digits.len() > most as usize || !is_binary(digits) {
+        if digits.len() > most as usize || !all_pass::<BinaryDigit>(digits) {
             return None;
         }
         Some(Digits { digits })

@@ -1,8 +1,8 @@
 //! Bytes that are read as hexadecimal digits of either case.
-ghost use Rattle.std.specs.Prelude.{◌≡◌, ◌≤◌, ◌↔◌, ℕ, List, length, IsTrue, IfSome, IsSomeAnd};
-ghost use Rattle.std.specs.List.{AllPass};
+ghost use Rattle.std.specs.Prelude.{◌≡◌, ◌≤◌, ℕ, List, length, IfSome, IsSomeAnd};
 ghost use Rattle.hex.specs.Hex.{decode_of, is_hex_digit};
 
+use crate::byte_tests::{ByteTest, all_pass};
 use std::marker::Model;
 
 /// At least one byte, which a field spells in two hexadecimal digits a byte, of either case. A
@@ -23,23 +23,15 @@ impl<'a> Model for HexBytes<'a> {
     ghost invariant = { λ a. IsHexText a.digits.now };
 }
 
-/// Whether a byte is a hexadecimal digit of either case.
-fn is_hex_digit(byte: u8) -> bool
-    ensures { result ≡ is_hex_digit byte }
-{
-    matches!(byte, b'0'..=b'9' | b'A'..=b'F' | b'a'..=b'f')
-}
+/// The test of hexadecimal digits of either case.
+struct HexDigit;
 
-/// Whether each byte is a hexadecimal digit of either case.
-fn is_hexadecimal(digits: &[u8]) -> bool
-    ensures { IsTrue result ↔ AllPass is_hex_digit digits.now }
-{
-    // The loop goes on to the end, so that the compiler can look at many digits at once.
-    let mut hexadecimal = true;
-    for digit in digits {
-        hexadecimal &= is_hex_digit(*digit);
+impl ByteTest for HexDigit {
+    ghost test = { is_hex_digit };
+
+    fn passes(byte: u8) -> bool {
+        matches!(byte, b'0'..=b'9' | b'A'..=b'F' | b'a'..=b'f')
     }
-    hexadecimal
 }
 
 impl<'a> HexBytes<'a> {
@@ -54,7 +46,11 @@ impl<'a> HexBytes<'a> {
             → length bytes ≤ most → IsSomeAnd result (λ it. it ≡ bytes) }
     {
         let count = field.len() / 2;
-        if count < 1 || count > most as usize || field.len() % 2 == 1 || !is_hexadecimal(field) {
+        if count < 1
+            || count > most as usize
+            || field.len() % 2 == 1
+            || !all_pass::<HexDigit>(field)
+        {
             return None;
         }
         Some(HexBytes { digits: field })

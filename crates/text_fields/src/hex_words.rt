@@ -6,7 +6,8 @@ ghost use Rattle.std.specs.String.{string_bytes};
 ghost use Rattle.text_fields.specs.Hexadecimal.{hex_byte, hex_digit, hex_word, hex_words};
 
 use crate::ascii::push_ascii;
-use crate::word_lists::{Words, is_upper_hexadecimal};
+use crate::byte_tests::all_pass;
+use crate::word_lists::{UpperHexDigit, word_of};
 use bit_strings::OutOfMemory;
 use hex::FromHex;
 
@@ -16,7 +17,7 @@ pub fn byte(field: &[u8]) -> Option<u8>
     ensures value { IfSome result (λ n. field.now ≡ hex_byte n) }
     ensures only { (n : ℕ) → n < 2 ^ 8 → field.now ≡ hex_byte n → result ≡ Some n }
 {
-    if !is_upper_hexadecimal(field) {
+    if !all_pass::<UpperHexDigit>(field) {
         return None;
     }
     let [byte] = <[u8; 1] as FromHex>::from_hex(field).ok()?;
@@ -29,8 +30,14 @@ pub fn word(field: &[u8]) -> Option<u16>
     ensures value { IfSome result (λ n. field.now ≡ hex_word n) }
     ensures only { (n : ℕ) → n < 2 ^ 16 → field.now ≡ hex_word n → result ≡ Some n }
 {
-    let words = Words::new(field, 1)?;
-    words.first()
+    let digits = field.first_chunk::<4>()?;
+    if field.len() != 4 {
+        return None;
+    }
+    if !all_pass::<UpperHexDigit>(field) {
+        return None;
+    }
+    Some(word_of(digits))
 }
 
 /// The upper-case hexadecimal digit of a number below 16.

@@ -7,6 +7,7 @@
 #![tactic(auto)]
 
 mod ascii;
+mod byte_tests;
 mod code_names;
 mod decimal_numbers;
 mod digits;

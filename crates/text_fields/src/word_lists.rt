@@ -1,10 +1,11 @@
 //! Lists of words as fields.
-ghost use Rattle.std.specs.Prelude.{◌≡◌, ◌≢◌, ◌≤◌, ◌<◌, ◌^◌, ◌%◌, ℕ, ◌↔◌, List, [], ◌∷◌, length, slice_get, All, IsTrue, IfOk, OnOk, IfSome, IsSomeAnd};
+ghost use Rattle.std.specs.Prelude.{◌≡◌, ◌≤◌, ◌<◌, ◌^◌, ℕ, ◌↔◌, List, [], length, map, All, IsTrue, IfOk, OnOk, IfSome, IsSomeAnd};
 ghost use Rattle.std.specs.List.{AllPass};
 ghost use Rattle.text_fields.specs.Binary.{hyphen};
 ghost use Rattle.text_fields.specs.Hexadecimal.{hex_words};
-ghost use Rattle.text_fields.specs.WordLists.{AreWordDigits, is_upper_hex_digit, words_of_digits};
+ghost use Rattle.text_fields.specs.WordLists.{first_word, is_upper_hex_digit};
 
+use crate::byte_tests::{ByteTest, all_pass};
 use crate::digits::list_digits;
 use bit_strings::OutOfMemory;
 use std::alloc::Global;
@@ -28,35 +29,38 @@ impl<'a> Model for Words<'a> {
     ghost invariant = { λ a. AreWordDigits a.digits.now };
 }
 
-/// Whether a byte of a field is one of the digits 0 to 9 or of the letters A to F.
-fn is_upper_hex_digit(byte: u8) -> bool
-    ensures { result ≡ is_upper_hex_digit byte }
-{
-    matches!(byte, b'0'..=b'9' | b'A'..=b'F')
-}
+/// The test of the digits 0 to 9 and of the letters A to F.
+pub(crate) struct UpperHexDigit;
 
-/// Whether each byte is an upper-case hexadecimal digit.
-pub(crate) fn is_upper_hexadecimal(digits: &[u8]) -> bool
-    ensures { IsTrue result ↔ AllPass is_upper_hex_digit digits.now }
-{
-    // The loop goes on to the end, so that the compiler can look at many digits at once.
-    let mut hexadecimal = true;
-    for digit in digits {
-        hexadecimal &= is_upper_hex_digit(*digit);
+impl ByteTest for UpperHexDigit {
+    ghost test = { is_upper_hex_digit };
+
+    fn passes(byte: u8) -> bool {
+        matches!(byte, b'0'..=b'9' | b'A'..=b'F')
     }
-    hexadecimal
 }
 
 /// The word of 16 bits that four upper-case hexadecimal digits spell.
 #[inline(always)]
-fn word_of(digits: &[u8; 4]) -> u16
+pub(crate) fn word_of(digits: &[u8; 4]) -> u16
     requires { AllPass is_upper_hex_digit digits.now }
-    ensures { words_of_digits digits.now ≡ result ∷ [] }
+    ensures { result ≡ first_word digits.now }
 {
     let mut bytes = [0; 2];
     match hex::decode_to_slice(digits.as_slice(), &mut bytes) {
         Ok(()) => u16::from_be_bytes(bytes),
         Err(_) => unreachable!(),
+    }
+}
+
+/// Writes the word of each group of four upper-case hexadecimal digits.
+fn write_words(groups: &[[u8; 4]], out: &mut [u16])
+    requires digits { All (AllPass is_upper_hex_digit) groups.now }
+    requires count { length groups.now ≡ length out.old }
+    ensures { out.new ≡ map first_word groups.now }
+{
+    for (at, digits) in groups.iter().enumerate() {
+        out[at] = word_of(digits);
     }
 }
 
@@ -73,7 +77,7 @@ impl<'a> Words<'a> {
     {
         let digits = list_digits(field)?;
         let is_short = digits.len() / 4 <= most as usize;
-        if digits.len() % 4 != 0 || !is_short || !is_upper_hexadecimal(digits) {
+        if digits.len() % 4 != 0 || !is_short || !all_pass::<UpperHexDigit>(digits) {
             return None;
         }
         Some(Words { digits })
@@ -93,27 +97,13 @@ impl<'a> Words<'a> {
         self.len() == 0
     }
 
-    /// The first word; none exactly where there are no words.
-    pub fn first(&self) -> Option<u16>
-        ensures { result ≡ slice_get self.now 0 }
-    {
-        let (words, _) = self.digits.as_chunks::<4>();
-        if words.is_empty() {
-            None
-        } else {
-            Some(word_of(&words[0]))
-        }
-    }
-
     /// Writes the words over `out`, which has room for exactly these.
     pub fn write_to(&self, out: &mut [u16])
         requires { length out.old ≡ length self.now }
         ensures { out.new ≡ self.now }
     {
-        let (words, _) = self.digits.as_chunks::<4>();
-        for at in 0..out.len() {
-            out[at] = word_of(&words[at]);
-        }
+        let (groups, _) = self.digits.as_chunks::<4>();
+        write_words(groups, out);
     }
 
     /// Writes the words into a list in place of what it holds. After an error it may hold others.

@@ -1,18 +1,20 @@
--- A word is a list of one word.
-use Rattle.std.proofs.Common.{◌∷◌, [], List, ℕ, ap, arith, ◌∙◌}
-use Rattle.std.specs.Prelude.{slice_get}
-use Rattle.text_fields.proofs.WordDigits.{one_small, one_spelled}
+-- The word is that of the four digits.
+use Rattle.std.proofs.Common.{◌≡◌, length, ap, arith, ◌∙◌, take_all, rules}
+use Rattle.std.specs.Prelude.{Some}
+use Rattle.std.specs.List.{AllPass}
+use Rattle.text_fields.specs.WordLists.{first_word, is_upper_hex_digit}
+use Rattle.text_fields.proofs.WordDigits.{one_word, same_word}
 use Rattle.text_fields.proofs.hex_words.word.Goals as goal
-
-pub returns-in_err-words-clause-only : goal.returns-in_err-words-clause-only
-returns-in_err-words-clause-only c = λ n small is. absurd (c.in_err-words.ensures.only (n ∷ []) (one_small n small) (omega arith) is)
 
 pub returns-clause-value : goal.returns-clause-value
 returns-clause-value c =
-    let spelled = c.in_ok-words.ensures.value in
-    one_spelled c.args.field.now _ _ spelled.0 spelled.1 c.first.ensures
+    let upper : AllPass is_upper_hex_digit c.args.field.now = search rules in
+    let four : length c.args.field.now ≡ 4 = search rules in
+    let whole : c.in_ok-digits.digits.now ≡ c.args.field.now = c.in_ok-digits.ensures.cases.same ∙ take_all 4 c.args.field.now (omega (arith, four)) in
+    one_word c.args.field.now c.word_of.result four upper (c.word_of.ensures ∙ ap (λ digits. first_word digits) whole)
 
 pub returns-clause-only : goal.returns-clause-only
 returns-clause-only c = λ n small is.
-    let only = c.in_ok-words.ensures.only (n ∷ []) (one_small n small) (omega arith) is in
-    c.first.ensures ∙ ap (λ (words : List ℕ). slice_get words 0) only
+    let four : length c.args.field.now ≡ 4 = search rules in
+    let whole : c.in_ok-digits.digits.now ≡ c.args.field.now = c.in_ok-digits.ensures.cases.same ∙ take_all 4 c.args.field.now (omega (arith, four)) in
+    ap Some (c.word_of.ensures ∙ ap (λ digits. first_word digits) (whole ∙ is) ∙ same_word n small)

@@ -1,5 +1,5 @@
 -- The word is that of the bytes that are read.
-use Rattle.std.proofs.Common.{◌∷◌, [], ℕ, ap, sym, ◌∙◌, refl}
+use Rattle.std.proofs.Common.{slice_index, ap, sym, ◌∙◌}
 use Rattle.text_fields.proofs.ByteDigits.{word_read}
 use Rattle.text_fields.proofs.word_lists.word_of.Goals as goal
 
@@ -12,4 +12,4 @@ pub returns : goal.returns
 returns c =
     let found = word_read c.args.digits.now c.told-digits c.requires in
     let out = (rw (c.as_slice.ensures, found.1) at c.decode_to_slice.ensures.value).1 in
-    found.2 ∙ ap (λ (word : ℕ). word ∷ []) (sym (c.from_be_bytes.ensures ∙ rw out refl))
+    c.from_be_bytes.ensures ∙ rw out (sym (ap (λ words. slice_index words 0) found.2))

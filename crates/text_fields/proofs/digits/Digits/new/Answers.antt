@@ -5,7 +5,7 @@ use Rattle.std.specs.List.{AllPass}
 use Rattle.text_fields.specs.Binary.{binary_digit, bits_of_digits, is_binary_digit}
 use Rattle.text_fields.proofs.BinaryLaws.{no_hyphen, spells_bits, bits_of_digits-map, AllPass-digits}
 use Rattle.text_fields.proofs.digits.Digits.new.Goals as goal
-use Rattle.text_fields.proofs.digits.Digits.new.Goals.{then-digits-most-via-then-digits-most, then-digits-most-via-else-digits-most+then-not-is_binary}
+use Rattle.text_fields.proofs.digits.Digits.new.Goals.{then-digits-most-via-then-digits-most, then-digits-most-via-else-digits-most+then-not-all_pass}
 
 pub returns-in_err-digits-clause-only : goal.returns-in_err-digits-clause-only
 returns-in_err-digits-clause-only c = λ bits few spells.
@@ -18,7 +18,7 @@ returns-then-digits-most-clause-only c = λ bits few spells.
     let digits : AllPass is_binary_digit c.in_ok-digits.digits.now = rw is (AllPass-digits bits) in
     elim c.then-digits-most.branch [
       | then-digits-most-via-then-digits-most w ↦ omega arith
-      | then-digits-most-via-else-digits-most+then-not-is_binary w ↦ grind arith
+      | then-digits-most-via-else-digits-most+then-not-all_pass w ↦ grind arith
     ]
 
 pub returns-clause-value : goal.returns-clause-value

@@ -6,7 +6,7 @@ use Rattle.text_fields.specs.Hexadecimal.{hex_word}
 use Rattle.text_fields.specs.WordLists.{is_upper_hex_digit, words_of_digits}
 use Rattle.text_fields.proofs.WordDigits.{words_spelled, words_small, words_length, words_back, digits_length, digits_pass, digits_no_hyphen}
 use Rattle.text_fields.proofs.word_lists.Words.new.Goals as goal
-use Rattle.text_fields.proofs.word_lists.Words.new.Goals.{then-digits-ne0-via-then-digits-ne0, then-digits-ne0-via-else-digits-ne0+then-not-is_short, then-digits-ne0-via-else-digits-ne0+else-not-is_short+then-not-is_upper_hexadecimal}
+use Rattle.text_fields.proofs.word_lists.Words.new.Goals.{then-digits-ne0-via-then-digits-ne0, then-digits-ne0-via-else-digits-ne0+then-not-is_short, then-digits-ne0-via-else-digits-ne0+else-not-is_short+then-not-all_pass}
 
 pub returns-in_err-digits-clause-only : goal.returns-in_err-digits-clause-only
 returns-in_err-digits-clause-only c = λ words small few spells.
@@ -20,7 +20,7 @@ returns-then-digits-ne0-clause-only c = λ words small few spells.
     elim c.then-digits-ne0.branch [
       | then-digits-ne0-via-then-digits-ne0 w ↦ omega arith
       | then-digits-ne0-via-else-digits-ne0+then-not-is_short w ↦ grind (arith, common_steps)
-      | then-digits-ne0-via-else-digits-ne0+else-not-is_short+then-not-is_upper_hexadecimal w ↦ grind (arith, common_steps)
+      | then-digits-ne0-via-else-digits-ne0+else-not-is_short+then-not-all_pass w ↦ grind (arith, common_steps)
     ]
 
 pub invariant_of-result : goal.invariant_of-result

@@ -1,38 +1,21 @@
--- Each word is that of its group of digits.
-use Rattle.std.proofs.Common.{◌≡◌, ◌<◌, ◌/◌, List, ℕ, length, get_or, arith, ap, ◌∙◌, sym, subst}
+-- The words of the groups are those of the digits.
+use Rattle.std.proofs.Common.{◌∙◌, List, ℕ, length, map, ap, arith, ◌/◌, subst, sym}
 use Rattle.std.specs.List.{AllPass}
-use Rattle.std.proofs.lemmas.List.{length-set}
-use Rattle.text_fields.specs.WordLists.{is_upper_hex_digit, words_of_digits}
-use Rattle.text_fields.proofs.Groups.{group_passes}
-use Rattle.text_fields.proofs.WordDigits.{digits_upper, group_word, word_step, words_done, words_length}
+use Rattle.std.specs.Prelude.{All}
+use Rattle.text_fields.specs.WordLists.{first_word, is_upper_hex_digit}
+use Rattle.text_fields.proofs.Groups.{groups_pass}
+use Rattle.text_fields.proofs.WordDigits.{digits_upper, words_in_groups, words_length}
 use Rattle.text_fields.proofs.word_lists.Words.write_to.Goals as goal
 
-pub bounds-words-at : goal.bounds-words-at
-bounds-words-at c =
-    let size : length c.args.out.now ≡ length c.args.self.now = c.requires in
-    omega (arith, size, ap length c.self.view_is, words_length c.self.inside.digits.now, c.as_chunks.ensures.front_len, c.loop-at-test.true)
-
-pub word_of-requires : goal.word_of-requires
-word_of-requires c =
+pub write_words-requires-clause-digits : goal.write_words-requires-clause-digits
+write_words-requires-clause-digits c =
     let digits = c.self.inside.digits.now in
-    let size : length c.args.out.now ≡ length c.args.self.now = c.requires in
-    let there : c.loop-at.at < length digits / 4 = omega (arith, c.loop-at-test.true, size, ap length c.self.view_is, words_length digits) in
-    subst (λ (groups : List (List ℕ)). AllPass is_upper_hex_digit (get_or groups c.loop-at.at _)) (sym c.as_chunks.ensures.front)
-    (group_passes is_upper_hex_digit 4 digits (length digits / 4) c.loop-at.at _ there (digits_upper digits c.self.invariant))
+    subst (λ (groups : List (List ℕ)). All (AllPass is_upper_hex_digit) groups) (sym c.as_chunks.ensures.front)
+    (groups_pass is_upper_hex_digit 4 (length digits / 4) digits (digits_upper digits c.self.invariant))
 
-pub loop-at-preserved : goal.loop-at-preserved
-loop-at-preserved c =
-    let digits = c.self.inside.digits.now in
-    let size : length c.args.out.now ≡ length c.args.self.now = c.requires in
-    let there : c.loop-at.at < length digits / 4 = omega (arith, c.loop-at-test.true, size, ap length c.self.view_is, words_length digits) in
-    let room : c.loop-at.at < length c.loop-at.out = omega (arith, c.loop-at.invariant.count, c.loop-at-test.true) in
-    let here = ap (λ (groups : List (List ℕ)). words_of_digits (get_or groups c.loop-at.at _)) (sym c.as_chunks.ensures.front) ∙ c.word_of.ensures in
-    record {
-      so_far = word_step digits c.args.self.now c.loop-at.out c.loop-at.at c.word_of.result room c.self.view_is
-          (group_word digits (length digits / 4) c.loop-at.at c.word_of.result _ there here) c.loop-at.invariant.so_far;
-      count = length-set c.loop-at.out c.loop-at.at c.word_of.result ∙ c.loop-at.invariant.count;
-    }
+pub write_words-requires-clause-count : goal.write_words-requires-clause-count
+write_words-requires-clause-count c =
+    omega (arith, c.requires, ap length c.self.view_is, words_length c.self.inside.digits.now, c.as_chunks.ensures.front_len)
 
 pub returns : goal.returns
-returns c =
-    words_done c.args.self.now c.loop-at.out c.loop-at.at (c.loop-at.invariant.count ∙ c.requires) (omega (arith, c.loop-at.invariant.count, c.loop-at-test.false)) c.loop-at.invariant.so_far
+returns c = c.write_words.ensures ∙ ap (map first_word) c.as_chunks.ensures.front ∙ words_in_groups c.self.inside.digits.now ∙ c.self.view_is
