@@ -1,6 +1,6 @@
 -- Lists of words and their digits.
-use Rattle.std.proofs.Common.{◌≡◌, ◌≢◌, ◌<◌, ◌^◌, ◌/◌, ◌%◌, ◌+◌, ◌*◌, ℕ, suc, true, List, [], ◌∷◌, ◌++◌, length, map, slice_index, arith, ap, sym, ◌∙◌, refl, subst}
-use Rattle.std.specs.Prelude.{All}
+use Rattle.std.proofs.Common.{◌≡◌, ◌≢◌, ◌<◌, ◌≤◌, ◌^◌, ◌/◌, ◌%◌, ◌+◌, ◌*◌, ℕ, suc, true, List, [], ◌∷◌, ◌++◌, length, map, take, slice_index, Some, arith, ap, sym, ◌∙◌, refl, subst}
+use Rattle.std.specs.Prelude.{All, None, slice_get}
 use Rattle.std.specs.List.{AllPass, flat_map}
 use Rattle.std.specs.Simd.{first_chunks}
 use Rattle.std.proofs.lemmas.Bool.Decides.{nat_tests}
@@ -144,6 +144,21 @@ four_digits (a ∷ b ∷ []) four upper = absurd (omega arith)
 four_digits (a ∷ b ∷ c ∷ []) four upper = absurd (omega arith)
 four_digits (a ∷ b ∷ c ∷ d ∷ []) four upper = (word_number a b c d, word_small a b c d, words_spelled (a ∷ b ∷ c ∷ d ∷ []) upper refl, refl)
 four_digits (a ∷ b ∷ c ∷ d ∷ e ∷ digits) four upper = absurd (omega arith)
+
+-- where there are four digits there is a first word, and else there is none
+pub first_is : (digits : List ℕ) → 4 ≤ length digits → slice_get (words_of_digits digits) 0 ≡ Some (first_word (take 4 digits))
+first_is [] enough = absurd (omega arith)
+first_is (a ∷ []) enough = absurd (omega arith)
+first_is (a ∷ b ∷ []) enough = absurd (omega arith)
+first_is (a ∷ b ∷ c ∷ []) enough = absurd (omega arith)
+first_is (a ∷ b ∷ c ∷ d ∷ digits) enough = refl
+
+pub no_word : (digits : List ℕ) → length digits < 4 → slice_get (words_of_digits digits) 0 ≡ None
+no_word [] few = refl
+no_word (a ∷ []) few = refl
+no_word (a ∷ b ∷ []) few = refl
+no_word (a ∷ b ∷ c ∷ []) few = refl
+no_word (a ∷ b ∷ c ∷ d ∷ digits) few = absurd (omega arith)
 
 -- the words of digits are those of their groups of four
 pub words_in_groups : (digits : List ℕ) → map first_word (first_chunks 4 (length digits / 4) digits) ≡ words_of_digits digits

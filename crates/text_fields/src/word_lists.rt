@@ -1,5 +1,5 @@
 //! Lists of words as fields.
-ghost use Rattle.std.specs.Prelude.{◌≡◌, ◌≤◌, ◌<◌, ◌^◌, ℕ, ◌↔◌, List, [], length, map, All, IsTrue, IfOk, OnOk, IfSome, IsSomeAnd};
+ghost use Rattle.std.specs.Prelude.{◌≡◌, ◌≤◌, ◌<◌, ◌^◌, ℕ, ◌↔◌, List, [], length, slice_get, map, All, IsTrue, IfOk, OnOk, IfSome, IsSomeAnd};
 ghost use Rattle.std.specs.List.{AllPass};
 ghost use Rattle.text_fields.specs.Binary.{hyphen};
 ghost use Rattle.text_fields.specs.Hexadecimal.{hex_words};
@@ -95,6 +95,14 @@ impl<'a> Words<'a> {
         ensures { IsTrue result ↔ (self.now ≡ []) }
     {
         self.len() == 0
+    }
+
+    /// The first word; none exactly where there are no words.
+    pub fn first(&self) -> Option<u16>
+        ensures { result ≡ slice_get self.now 0 }
+    {
+        let digits = self.digits.first_chunk::<4>()?;
+        Some(word_of(digits))
     }
 
     /// Writes the words over `out`, which has room for exactly these.
