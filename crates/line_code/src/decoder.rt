@@ -111,11 +111,14 @@ fn whole_lead<C: LineCode>(trext: bool, levels: &[bool]) -> Option<usize>
     }
 }
 
-/// Whether the levels are those of a block or of a lead that has as many.
-fn same_levels(levels: &[bool], others: &[bool]) -> bool
-    requires { length levels.now ≡ length others.now }
+/// Whether the levels are the same.
+#[inline]
+pub fn same_levels(levels: &[bool], others: &[bool]) -> bool
     ensures { IsTrue result ↔ (levels.now ≡ others.now) }
 {
+    if levels.len() != others.len() {
+        return false;
+    }
     // The loop goes on to the end, so that the compiler can look at many levels at once.
     let mut same = true;
     for (at, level) in levels.iter().enumerate() {

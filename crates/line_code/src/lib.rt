@@ -11,7 +11,7 @@ mod refusal;
 mod states;
 
 pub use code::LineCode;
-pub use decoder::decode;
+pub use decoder::{decode, same_levels};
 pub use encoder::encode;
 pub use laws::{one_answer, states_begin_streams};
 pub use masks::word_of_levels;

@@ -1,4 +1,3 @@
-pub mod Faults
 pub mod FourSymbols
 pub mod Miller
 pub mod SymbolContext

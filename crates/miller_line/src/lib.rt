@@ -3,7 +3,7 @@
 
 mod miller;
 mod subcarrier;
-mod symbol_words;
+mod symbols;
 
 pub use miller::{Miller2, Miller4, Miller8};
 pub use subcarrier::SymbolBefore;

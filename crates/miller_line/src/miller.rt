@@ -4,7 +4,7 @@ ghost use Rattle.miller_line.specs.SymbolContext.{context};
 ghost use Rattle.miller_line.specs.laws.Miller.{two, four, eight, miller_even, miller_has_lead, miller_tells_bits, miller_refuses_flips, miller_hides_lead};
 
 use crate::subcarrier::{self, SymbolBefore};
-use crate::symbol_words::{sixteen_of_eight_cycles, sixteen_of_four_cycles, sixteen_of_two_cycles};
+use crate::symbols::sixteen_bits;
 use line_code::LineCode;
 
 /// Miller-modulated subcarrier with M = 2 (6.3.1.3.2.3 of the standard): two cycles of the subcarrier,
@@ -50,7 +50,7 @@ impl LineCode for Miller2 {
     }
 
     fn sixteen_bits(mark: SymbolBefore, levels: &[bool]) -> Option<([bool; 16], SymbolBefore)> {
-        sixteen_of_two_cycles(mark, levels)
+        sixteen_bits(2, mark, levels)
     }
 
     fn after(mark: SymbolBefore, bit: bool) -> SymbolBefore {
@@ -96,7 +96,7 @@ impl LineCode for Miller4 {
     }
 
     fn sixteen_bits(mark: SymbolBefore, levels: &[bool]) -> Option<([bool; 16], SymbolBefore)> {
-        sixteen_of_four_cycles(mark, levels)
+        sixteen_bits(4, mark, levels)
     }
 
     fn after(mark: SymbolBefore, bit: bool) -> SymbolBefore {
@@ -142,7 +142,7 @@ impl LineCode for Miller8 {
     }
 
     fn sixteen_bits(mark: SymbolBefore, levels: &[bool]) -> Option<([bool; 16], SymbolBefore)> {
-        sixteen_of_eight_cycles(mark, levels)
+        sixteen_bits(8, mark, levels)
     }
 
     fn after(mark: SymbolBefore, bit: bool) -> SymbolBefore {
