@@ -17,20 +17,11 @@ use std::marker::{Model, PhantomData};
 /// The decoder before the data, while the pilot and the preamble come (6.3.1.3.2 of the standard).
 ///
 /// A contract sees it as the TRext and the number of levels taken.
+#[derive(Drop)]
 pub struct Seeking<C: LineCode> {
     trext: bool,
     taken: u32,
     code: PhantomData<C>,
-}
-
-impl<C: LineCode> Drop for Seeking<C> {
-    fn drop(self) {
-        let Seeking {
-            trext: _,
-            taken: _,
-            code: _,
-        } = self;
-    }
 }
 
 impl<C: LineCode> Model for Seeking<C> {
@@ -49,6 +40,7 @@ impl<C: LineCode> Model for Seeking<C> {
 /// A contract sees it as the context of the block that is begun, how many of its levels were taken,
 /// whether it may still be the block of a 0 and of a 1, how many levels were taken in all, how many
 /// bits were put into the buffer, and the last of them.
+#[derive(Drop)]
 pub struct Inside<C: LineCode> {
     mark: C::Mark,
     place: u32,
@@ -57,20 +49,6 @@ pub struct Inside<C: LineCode> {
     taken: u32,
     put: u32,
     last: Option<bool>,
-}
-
-impl<C: LineCode> Drop for Inside<C> {
-    fn drop(self) {
-        let Inside {
-            mark: _,
-            place: _,
-            zero_fits: _,
-            one_fits: _,
-            taken: _,
-            put: _,
-            last: _,
-        } = self;
-    }
 }
 
 impl<C: LineCode> Model for Inside<C> {
@@ -94,15 +72,10 @@ impl<C: LineCode> Model for Inside<C> {
 }
 
 /// The decoder behind a whole stream. A contract sees it as the number of its bits.
+#[derive(Drop)]
 pub struct Ended<C: LineCode> {
     bits: u32,
     code: PhantomData<C>,
-}
-
-impl<C: LineCode> Drop for Ended<C> {
-    fn drop(self) {
-        let Ended { bits: _, code: _ } = self;
-    }
 }
 
 impl<C: LineCode> Model for Ended<C> {

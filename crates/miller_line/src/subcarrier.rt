@@ -17,47 +17,30 @@ pub struct SymbolBefore {
     pub(crate) phase: bool,
 }
 
-/// The levels of each symbol with M = 2, by the phase at its start and by its bit.
-const SYMBOLS_2: [[[bool; 4]; 2]; 2] = [
-    [[true, false, true, false], [true, false, false, true]],
-    [[false, true, false, true], [false, true, true, false]],
-];
+/// The levels of each symbol by its halves, by the phase at its start and by its bit. A half in phase 0 is `$high`, and one in phase 1 `$low`.
+macro_rules! symbols {
+    ($high:expr, $low:expr) => {
+        [
+            [[$high, $high], [$high, $low]],
+            [[$low, $low], [$low, $high]],
+        ]
+    };
+}
 
-/// The levels of each symbol with M = 4, by the phase at its start and by its bit.
-const SYMBOLS_4: [[[bool; 8]; 2]; 2] = [
-    [
-        [true, false, true, false, true, false, true, false],
-        [true, false, true, false, false, true, false, true],
-    ],
-    [
-        [false, true, false, true, false, true, false, true],
-        [false, true, false, true, true, false, true, false],
-    ],
-];
+/// The levels of each symbol with M = 2.
+const SYMBOLS_2: [[[[bool; 2]; 2]; 2]; 2] = symbols!([true, false], [false, true]);
 
-/// The levels of each symbol with M = 8, by the phase at its start and by its bit.
-const SYMBOLS_8: [[[bool; 16]; 2]; 2] = [
-    [
-        [
-            true, false, true, false, true, false, true, false, true, false, true, false, true,
-            false, true, false,
-        ],
-        [
-            true, false, true, false, true, false, true, false, false, true, false, true, false,
-            true, false, true,
-        ],
-    ],
-    [
-        [
-            false, true, false, true, false, true, false, true, false, true, false, true, false,
-            true, false, true,
-        ],
-        [
-            false, true, false, true, false, true, false, true, true, false, true, false, true,
-            false, true, false,
-        ],
-    ],
-];
+/// The levels of each symbol with M = 4.
+const SYMBOLS_4: [[[[bool; 4]; 2]; 2]; 2] = symbols!(
+    [true, false, true, false],
+    [false, true, false, true]
+);
+
+/// The levels of each symbol with M = 8.
+const SYMBOLS_8: [[[[bool; 8]; 2]; 2]; 2] = symbols!(
+    [true, false, true, false, true, false, true, false],
+    [false, true, false, true, false, true, false, true]
+);
 
 /// The levels of four symbols, one behind the other: those of their halves, of which one in phase 0 is `$high` and one in phase 1 `$low`. The
 /// phase at the start of the first symbol and their bits are the digits of the row's number.
@@ -115,63 +98,29 @@ const FOUR_SYMBOLS_8: [[[bool; 8]; 8]; 32] = four_symbols!(
     [false, true, false, true, false, true, false, true]
 );
 
-/// The levels of the pilot, which has 16 symbols, and of the preamble with M = 2 and TRext 1.
-const LEAD_2: [bool; 88] = [
-    true, false, true, false, true, false, true, false, true, false, true, false, true, false,
-    true, false, true, false, true, false, true, false, true, false, true, false, true, false,
-    true, false, true, false, true, false, true, false, true, false, true, false, true, false,
-    true, false, true, false, true, false, true, false, true, false, true, false, true, false,
-    true, false, true, false, true, false, true, false, true, false, true, false, true, false,
-    false, true, false, true, false, true, false, true, true, false, true, false, false, true,
-    false, true, true, false,
-];
+/// The levels of the pilot with TRext 1, which has 16 symbols, and of the preamble, by halves of symbols as those of four symbols.
+macro_rules! long_lead {
+    ($high:expr, $low:expr) => {
+        [
+            $high, $high, $high, $high, $high, $high, $high, $high, $high, $high, $high, $high,
+            $high, $high, $high, $high, $high, $high, $high, $high, $high, $high, $high, $high,
+            $high, $high, $high, $high, $high, $high, $high, $high, $high, $high, $high, $low,
+            $low, $low, $low, $high, $high, $low, $low, $high,
+        ]
+    };
+}
 
-/// The levels of the pilot, which has 16 symbols, and of the preamble with M = 4 and TRext 1.
-const LEAD_4: [bool; 176] = [
-    true, false, true, false, true, false, true, false, true, false, true, false, true, false,
-    true, false, true, false, true, false, true, false, true, false, true, false, true, false,
-    true, false, true, false, true, false, true, false, true, false, true, false, true, false,
-    true, false, true, false, true, false, true, false, true, false, true, false, true, false,
-    true, false, true, false, true, false, true, false, true, false, true, false, true, false,
-    true, false, true, false, true, false, true, false, true, false, true, false, true, false,
-    true, false, true, false, true, false, true, false, true, false, true, false, true, false,
-    true, false, true, false, true, false, true, false, true, false, true, false, true, false,
-    true, false, true, false, true, false, true, false, true, false, true, false, true, false,
-    true, false, true, false, true, false, true, false, true, false, true, false, true, false,
-    false, true, false, true, false, true, false, true, false, true, false, true, false, true,
-    false, true, true, false, true, false, true, false, true, false, false, true, false, true,
-    false, true, false, true, true, false, true, false,
-];
+/// The levels of the pilot and of the preamble with M = 2 and TRext 1.
+const LEAD_2: [[bool; 2]; 44] = long_lead!([true, false], [false, true]);
 
-/// The levels of the pilot, which has 16 symbols, and of the preamble with M = 8 and TRext 1.
-const LEAD_8: [bool; 352] = [
-    true, false, true, false, true, false, true, false, true, false, true, false, true, false,
-    true, false, true, false, true, false, true, false, true, false, true, false, true, false,
-    true, false, true, false, true, false, true, false, true, false, true, false, true, false,
-    true, false, true, false, true, false, true, false, true, false, true, false, true, false,
-    true, false, true, false, true, false, true, false, true, false, true, false, true, false,
-    true, false, true, false, true, false, true, false, true, false, true, false, true, false,
-    true, false, true, false, true, false, true, false, true, false, true, false, true, false,
-    true, false, true, false, true, false, true, false, true, false, true, false, true, false,
-    true, false, true, false, true, false, true, false, true, false, true, false, true, false,
-    true, false, true, false, true, false, true, false, true, false, true, false, true, false,
-    true, false, true, false, true, false, true, false, true, false, true, false, true, false,
-    true, false, true, false, true, false, true, false, true, false, true, false, true, false,
-    true, false, true, false, true, false, true, false, true, false, true, false, true, false,
-    true, false, true, false, true, false, true, false, true, false, true, false, true, false,
-    true, false, true, false, true, false, true, false, true, false, true, false, true, false,
-    true, false, true, false, true, false, true, false, true, false, true, false, true, false,
-    true, false, true, false, true, false, true, false, true, false, true, false, true, false,
-    true, false, true, false, true, false, true, false, true, false, true, false, true, false,
-    true, false, true, false, true, false, true, false, true, false, true, false, true, false,
-    true, false, true, false, true, false, true, false, true, false, true, false, true, false,
-    false, true, false, true, false, true, false, true, false, true, false, true, false, true,
-    false, true, false, true, false, true, false, true, false, true, false, true, false, true,
-    false, true, false, true, true, false, true, false, true, false, true, false, true, false,
-    true, false, true, false, true, false, false, true, false, true, false, true, false, true,
-    false, true, false, true, false, true, false, true, true, false, true, false, true, false,
-    true, false,
-];
+/// The levels of the pilot and of the preamble with M = 4 and TRext 1.
+const LEAD_4: [[bool; 4]; 44] = long_lead!([true, false, true, false], [false, true, false, true]);
+
+/// The levels of the pilot and of the preamble with M = 8 and TRext 1.
+const LEAD_8: [[bool; 8]; 44] = long_lead!(
+    [true, false, true, false, true, false, true, false],
+    [false, true, false, true, false, true, false, true]
+);
 
 /// The phase at the start of a bit's symbol: a data-0 after a data-0 inverts it there.
 fn phase_at_start(before: SymbolBefore, bit: bool) -> bool
@@ -197,9 +146,9 @@ fn long_lead(m: u32) -> &'static [bool]
     ensures { result.now ≡ miller_lead m true }
 {
     match m {
-        2 => &LEAD_2,
-        4 => &LEAD_4,
-        _ => &LEAD_8,
+        2 => LEAD_2.as_flattened(),
+        4 => LEAD_4.as_flattened(),
+        _ => LEAD_8.as_flattened(),
     }
 }
 
@@ -233,9 +182,9 @@ fn symbol_of(m: u32, start: bool, bit: bool) -> &'static [bool]
     ensures { result.now ≡ symbol m start (middle_phase start bit) }
 {
     match m {
-        2 => &SYMBOLS_2[start as usize][bit as usize],
-        4 => &SYMBOLS_4[start as usize][bit as usize],
-        _ => &SYMBOLS_8[start as usize][bit as usize],
+        2 => SYMBOLS_2[start as usize][bit as usize].as_flattened(),
+        4 => SYMBOLS_4[start as usize][bit as usize].as_flattened(),
+        _ => SYMBOLS_8[start as usize][bit as usize].as_flattened(),
     }
 }
 
