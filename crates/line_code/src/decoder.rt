@@ -112,7 +112,6 @@ fn whole_lead<C: LineCode>(trext: bool, levels: &[bool]) -> Option<usize>
 }
 
 /// Whether the levels are the same.
-#[inline]
 pub fn same_levels(levels: &[bool], others: &[bool]) -> bool
     ensures { IsTrue result ↔ (levels.now ≡ others.now) }
 {

@@ -36,7 +36,6 @@ fn bits_of(number: u16) -> [bool; 4]
 
 /// The four bits whose symbols, one behind the other, the levels begin with, what stands before the bit that follows them, and the levels that are
 /// left. It may be none for any levels, which are then taken one by one.
-#[inline(always)]
 fn next_four<'a>(
     m: u32,
     before: SymbolBefore,
