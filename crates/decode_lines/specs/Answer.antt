@@ -43,6 +43,7 @@ use Rattle.decode_lines.specs.declared.request.Request.{Request}
 use Rattle.decode_lines.specs.declared.request.RequestKind.{RequestKind}
 use Rattle.decode_lines.specs.declared.request.Request.TheVariants.{Stream, Samples, Reply as ReplyLine, Heard as HeardLine, Pie as PieLine, Command as CommandLine, Sgtin as SgtinLine, Uri as UriLine}
 
+-- the answer to a decode line: one kind for each kind of line
 pub data Answer : Type 0 where
   -- the levels are the stream of these bits, or are none
   StreamAnswer : Result (List Bool) LineRefusal → Answer

@@ -13,7 +13,7 @@ use std::alloc::{AllocError, Global};
 /// How many bytes one read may take.
 const BUFFER_BYTES: usize = 65536;
 
-// What each read is lent a part of.
+/// The bytes that each read is lent a part of.
 fn empty_buffer(alloc: Global) -> Result<Vec<u8>, AllocError>
     ensures { IfOk result (λ buffer. vec_len buffer ≡ BUFFER_BYTES) }
 {

@@ -6,6 +6,7 @@ pub record Context : Type 0 where
   pub before : Bool
   pub phase : Bool
 
+-- a line code, by what it puts before the data and by the levels of each bit
 pub record Table : Type 0 where
   -- pilot and preamble, for TRext 0 and 1
   pub lead : Bool → List Bool

@@ -30,6 +30,7 @@ abbrev pub middle_phase : Bool → Bool → Bool
 middle_phase start true = not start
 middle_phase start false = start
 
+-- the levels of a bit: its symbol, which begins in the phase that the context gives
 abbrev pub miller_block : ℕ → Context → Bool → List Bool
 miller_block m c bit = symbol m (start_phase c bit) (middle_phase (start_phase c bit) bit)
 
@@ -48,5 +49,6 @@ abbrev pub miller_lead : ℕ → Bool → List Bool
 miller_lead m false = carrier (8 * m) false ++ miller_preamble m
 miller_lead m true = carrier (32 * m) false ++ miller_preamble m
 
+-- the code of this M; data begins as after a data-1 that ended in phase 0
 abbrev pub miller : ℕ → Table
 miller m = record { lead = miller_lead m; start = record { before = true; phase = false }; block = miller_block m; next = miller_next }
