@@ -1,11 +1,15 @@
 -- How a run ends: what a failed write left, and which status an input that the grammar allows has.
 use Rattle.std.proofs.Common.{◌≡◌, ◌≢◌, ◌⊎◌, ℕ, ◌+◌, ◌≤◌, ◌<◌, Bool, List, ◌++◌, length, take, drop, Option, Some, None, Result, Ok, Err, true, false, [], refl, sym, ◌∙◌, ap, subst, arith, inl, inr, length-append}
+use Rattle.std.proofs.lemmas.Bool.{cases_Bool}
 use Rattle.std.proofs.lemmas.List.{take-append-drop, append-nil}
 use Rattle.air_io.specs.Flow.{TakesBytes, Adds, AtEnd, FaultsRose}
 use Rattle.checked_lines.specs.FaultWords.{reason_word}
 use Rattle.checked_lines.specs.TextRules.{IsFaultText, IsFirstFault, TextRules}
 use Rattle.checked_lines.specs.declared.fault.FaultReason.{FaultReason}
+use Rattle.report_lines.specs.declared.mode.PlayFault.{PlayFault}
+use Rattle.report_lines.specs.declared.mode.PlayFault.TheVariants as plays
 use Rattle.text_fields.specs.FaultLine.{fault_line}
+use Rattle.top_call.specs.Ending.{end_of_play}
 use Rattle.top_call.specs.Job.{Job, Defines, IsLawful}
 use Rattle.top_call.specs.Outcome.{input_limit, ReadsWithin, TakesInput, AddsFront, EndsSo, IsTextOf, WritesAs, SinkChange, SourceChange, Tells, WritesWhole, NothingFailed, WritesFront}
 use Rattle.top_call.specs.declared.ending.Wrote.{Wrote}
@@ -51,6 +55,10 @@ ends_so job bytes wrote sink text (Err ends.Fault) so named =
     (so.0, record { front = so.1.front; rest = so.1.rest; named = subst (Defines job bytes) (sym so.1.named) (defined_as job wrote bytes text named); added = so.1.added })
 ends_so job bytes wrote sink text (Err ends.OutOfMemory) so named = absurd so
 
+-- no memory is taken for it
+pub no_memory_taken : (wrote : Wrote) (sink : SinkChange) (text : List ℕ) (end : Result Wrote WriteEnd) → WritesAs end wrote text sink → end ≢ Err ends.OutOfMemory
+no_memory_taken wrote sink text end so is = subst (λ (end : Result Wrote WriteEnd). WritesAs end wrote text sink) is so
+
 -- the writing of what a word has to write ended behind a front of it: a write failed, or there was no memory
 pub ends_early : (job : Job) (bytes : List ℕ) (sink : SinkChange) (why : WriteEnd) (end : Result Wrote WriteEnd) → end ≡ Err why
     → (why ≡ ends.Fault → FaultsRose sink.writes sink.writes') → (why ≡ ends.OutOfMemory → sink.writes' ≡ sink.writes)
@@ -59,6 +67,13 @@ ends_early job bytes sink ends.Fault end is rose steady front =
     subst (EndsSo job bytes sink) (sym is) (rose refl, record { front = front.front; rest = front.rest; named = inl front.named; added = front.added })
 ends_early job bytes sink ends.OutOfMemory end is rose steady front =
     subst (EndsSo job bytes sink) (sym is) (steady refl, inr (record { front = front.front; rest = front.rest; named = inl front.named; added = front.added }))
+
+-- and so did a run of which the word tells
+pub cut_off : (job : Job) (bytes : List ℕ) (sink : SinkChange) (fault : PlayFault) (end : Result Wrote WriteEnd) → end ≡ Err (end_of_play fault)
+    → (fault ≡ plays.Write → FaultsRose sink.writes sink.writes') → (fault ≡ plays.OutOfMemory → sink.writes' ≡ sink.writes)
+    → AddsFront (job.writes bytes) sink.written sink.written' → EndsSo job bytes sink end
+cut_off job bytes sink plays.Write end is rose steady front = ends_early job bytes sink ends.Fault end is (λ same. rose refl) (λ other. absurd (cc)) front
+cut_off job bytes sink plays.OutOfMemory end is rose steady front = ends_early job bytes sink ends.OutOfMemory end is (λ other. absurd (cc)) (λ same. steady refl) front
 
 -- bytes of which two lines with two reasons are not both the first faulty one have one fault line
 pub same_fault_text : {S : Type 0} (rules : TextRules S FaultReason) → ((bytes : List ℕ) (one other : ℕ) (fault reason : FaultReason)
@@ -94,15 +109,11 @@ taken_within : (input : Bool) → input ≡ true → (told : List ℕ) (left' : 
 taken_within true reads told left' bytes taken = omega (arith, ap length (all_read told left' bytes taken.reads taken.end), taken.limit)
 taken_within false reads told left' bytes taken = absurd (cc)
 
-true_or_false : (b : Bool) → (b ≡ true) ⊎ (b ≡ false)
-true_or_false true = inl refl
-true_or_false false = inr refl
-
 -- so it has no fault line where the grammar allows what was told,
 not_bad : (job : Job) → IsLawful job → (told : List ℕ) (left' : Option (List ℕ)) (bytes text : List ℕ) → TakesInput job.input (Some told) left' bytes → job.allows told
     → job.refuses bytes text → ⊥
 not_bad job lawful told left' bytes text taken allowed refused =
-    elim (true_or_false job.input) [
+    elim (cases_Bool job.input) [
       | inl has ↦ lawful.not_refused bytes text (subst job.allows (taken_all job.input has told left' bytes taken) allowed) refused
       | inr none ↦ lawful.unread none bytes text refused
     ]
@@ -111,7 +122,7 @@ not_bad job lawful told left' bytes text taken allowed refused =
 not_told_bad : (job : Job) → IsLawful job → (told : List ℕ) (left' : Option (List ℕ)) (bytes text : List ℕ) → TakesInput job.input (Some told) left' bytes → job.allows bytes
     → job.refuses told text → ⊥
 not_told_bad job lawful told left' bytes text taken allowed refused =
-    elim (true_or_false job.input) [
+    elim (cases_Bool job.input) [
       | inl has ↦ lawful.not_refused told text (subst job.allows (sym (taken_all job.input has told left' bytes taken)) allowed) refused
       | inr none ↦ lawful.unread none told text refused
     ]

@@ -1,6 +1,7 @@
 -- The lines before a place of the input, with their names.
 use Rattle.std.proofs.Common.{◌≡◌, ℕ, ◌+◌, ◌≤◌, List, [], ◌∷◌, ◌++◌, length, refl, sym, ◌∙◌, ap, subst, arith, append_assoc, length-append, Option, inl, inr}
 use Rattle.std.specs.List.{AllZip, flat_map}
+use Rattle.std.proofs.lemmas.Grind.{flat_map-append}
 use Rattle.std.proofs.lemmas.List.{append_cancel_right, append-nil}
 use Rattle.text_fields.specs.Lines.{lines_of, line_feed, text_with}
 use Rattle.epc_sgtin.specs.SgtinValue.{SgtinValue}
@@ -112,10 +113,6 @@ zip_append R [] [] us vs first second = second
 zip_append R [] (y ∷ ys) us vs first second = absurd first
 zip_append R (x ∷ xs) [] us vs first second = absurd first
 zip_append R (x ∷ xs) (y ∷ ys) us vs first second = (first.0, zip_append R xs ys us vs first.1 second)
-
-flat_map-append : {A B : Type 0} (f : A → List B) (xs ys : List A) → flat_map f (xs ++ ys) ≡ flat_map f xs ++ flat_map f ys
-flat_map-append f [] ys = refl
-flat_map-append f (x ∷ xs) ys = ap (λ t. f x ++ t) (flat_map-append f xs ys) ∙ sym (append_assoc (f x) (flat_map f xs) (flat_map f ys))
 
 -- with the lines that are left, the lines so far are all
 names_rest : (input rest text tail : List ℕ) → (so_far : NamesTo input rest text) → AreWithNames so_far.others.0 tail → AddsNames input (text ++ tail)

@@ -7,7 +7,7 @@ use Rattle.line_objects.specs.declared.line_members.LineSet.TheVariants as sets
 use Rattle.report_lines.specs.declared.mode.Mode.{Mode}
 use Rattle.report_lines.specs.declared.mode.Mode.TheVariants.{Exchanges}
 use Rattle.top_call.specs.Job.{Job, Defines, IsLawful}
-use Rattle.top_call.specs.Outcome.{EndsSo, ReadsWithin, SinkChange, SourceChange, TakesInput, Tells, status_of}
+use Rattle.top_call.specs.Outcome.{EndsSo, NothingFailed, ReadsWithin, SinkChange, SourceChange, TakesInput, Tells, WritesWhole, status_of}
 use Rattle.top_call.specs.words.Audited.{audit_job}
 use Rattle.top_call.specs.words.Decoded.{decode_job}
 use Rattle.top_call.specs.words.Judged.{judge_job}
@@ -89,23 +89,14 @@ text_kept start held text none added = let all : held ≡ start ++ text = cc in 
 abbrev pub kept_change : (start held : List ℕ) (writes writes' : ℕ) → SinkChange
 kept_change start held writes writes' = record { written = Some start; written' = Some held; writes = writes; writes' = writes' }
 
--- the objects of a plain text that was written whole,
-pub done_tells : (set : LineSet) (job : Job) (source : SourceChange) (sink : SinkChange) (kept untouched : Type 0) (start held : List ℕ) (writes writes' : ℕ) (end : Result Wrote WriteEnd)
-    → start ≡ [] → Tells job source (kept_change start held writes writes') kept Done
-    → ((bytes : List ℕ) → job.writes bytes held → EndsSo (objects_of_job set job) bytes sink end) → Tells (objects_of_job set job) source sink untouched (status_of end)
-done_tells set job source sink kept untouched start held writes writes' end none tells so =
+-- a plain text that was written whole, as that of the word or as its fault line, by what is written for it,
+pub whole_tells : (set : LineSet) (job : Job) (T : List ℕ → List ℕ → Type 0) (source : SourceChange) (sink : SinkChange) (untouched : Type 0) (start held : List ℕ) (writes writes' : ℕ)
+    (end : Result Wrote WriteEnd) → start ≡ [] → NothingFailed source (kept_change start held writes writes') × WritesWhole job T source.left source.left' (Some start) (Some held)
+    → ((bytes : List ℕ) → T bytes held → EndsSo (objects_of_job set job) bytes sink end) → Tells (objects_of_job set job) source sink untouched (status_of end)
+whole_tells set job T source sink untouched start held writes writes' end none tells so =
     let whole = tells.1 in
     let same = text_kept start held whole.adds.text none whole.adds.added in
-    ends_tell (objects_of_job set job) source sink untouched whole.bytes end tells.0.0 whole.taken (so whole.bytes (subst (job.writes whole.bytes) (sym same) whole.adds.named))
-
--- the fault line of one that is refused,
-pub bad_tells : (set : LineSet) (job : Job) (source : SourceChange) (sink : SinkChange) (kept untouched : Type 0) (start held : List ℕ) (writes writes' : ℕ) (end : Result Wrote WriteEnd)
-    → start ≡ [] → Tells job source (kept_change start held writes writes') kept BadInput
-    → ((bytes : List ℕ) → job.refuses bytes held → EndsSo (objects_of_job set job) bytes sink end) → Tells (objects_of_job set job) source sink untouched (status_of end)
-bad_tells set job source sink kept untouched start held writes writes' end none tells so =
-    let whole = tells.1 in
-    let same = text_kept start held whole.adds.text none whole.adds.added in
-    ends_tell (objects_of_job set job) source sink untouched whole.bytes end tells.0.0 whole.taken (so whole.bytes (subst (job.refuses whole.bytes) (sym same) whole.adds.named))
+    ends_tell (objects_of_job set job) source sink untouched whole.bytes end tells.0.0 whole.taken (so whole.bytes (subst (T whole.bytes) (sym same) whole.adds.named))
 
 -- a plain text for which there was no memory,
 pub unkept_tells : (set : LineSet) (job : Job) (source : SourceChange) (plain sink : SinkChange) (kept untouched : Type 0) → Tells job source plain kept WriteFault

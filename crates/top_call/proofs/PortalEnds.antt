@@ -20,14 +20,7 @@ use Rattle.top_call.proofs.RunEnds.{AreNotFaulty, AreToldApart, HasOneFault, sam
 same_number : (one other : ℕ) → Some one ≡ Some other → one ≡ other
 same_number one other same = cc
 
--- an input has one text of its portals
-pub same_lines : AreToldApart → (bytes one other : List ℕ) → Compares bytes one → Compares bytes other → one ≡ other
-same_lines told_apart bytes one other left right =
-    let scenarios : left.of.scenario ≡ right.of.scenario =
-    told_apart left.of.scenario right.of.scenario left.of.legal right.of.legal (sym left.of.spelled ∙ right.of.spelled) in
-    left.lines ∙ ap (λ (scenario : Scenario). portals_text (portals_told scenario)) scenarios ∙ sym right.lines
-
--- and one fault line
+-- an input has one fault line
 same_fault : AreToldApart → (bytes one other : List ℕ) → RefusesPortal bytes one → RefusesPortal bytes other → one ≡ other
 same_fault told_apart bytes one other left right =
     let scenarios : left.scenario ≡ right.scenario = told_apart left.scenario right.scenario left.legal right.legal (sym left.spelled ∙ right.spelled) in

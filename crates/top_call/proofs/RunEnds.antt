@@ -1,7 +1,6 @@
--- The texts of `run`, by the laws of scenarios: what holds of reports and fault lines, and how a run ends.
-use Rattle.std.proofs.Common.{◌≡◌, ◌⊎◌, ℕ, List, ◌++◌, Option, Result, Err, refl, sym, ◌∙◌, ap, subst, inl, inr}
-use Rattle.std.specs.Prelude.{IsErrOf}
-use Rattle.air_io.specs.Flow.{Adds, FaultsRose}
+-- The texts of `run`, by the laws of scenarios: what holds of reports and fault lines.
+use Rattle.std.proofs.Common.{◌≡◌, ◌⊎◌, ℕ, List, ◌++◌, Option, refl, sym, ◌∙◌, ap, subst, inl, inr}
+use Rattle.air_io.specs.Flow.{Adds}
 use Rattle.scenario.specs.declared.values.Scenario.{Scenario}
 use Rattle.checked_lines.specs.declared.fault.FaultReason.{FaultReason}
 use Rattle.scenario.specs.Limits.{IsScenario}
@@ -10,15 +9,9 @@ use Rattle.scenario_text.specs.Faults.{IsFirstScenarioFault}
 use Rattle.checked_lines.specs.FaultWords.{reason_word}
 use Rattle.text_fields.specs.FaultLine.{fault_line}
 use Rattle.report_lines.specs.declared.mode.Mode.{Mode}
-use Rattle.report_lines.specs.declared.mode.PlayFault.{PlayFault}
 use Rattle.runs.specs.Report.{report_text_of}
-use Rattle.report_lines.specs.declared.mode.PlayFault.TheVariants as plays
-use Rattle.top_call.specs.words.Reported.{Reports, RefusesScenario, run_job}
-use Rattle.top_call.specs.Job.{Defines}
-use Rattle.top_call.specs.Outcome.{AddsFront, EndsSo, SinkChange}
-use Rattle.top_call.specs.Ending.{end_of_play}
-use Rattle.top_call.specs.declared.ending.Wrote.{Wrote}
-use Rattle.top_call.specs.declared.ending.WriteEnd.{WriteEnd}
+use Rattle.top_call.specs.words.Reported.{Reports, RefusesScenario}
+use Rattle.top_call.specs.Outcome.{AddsFront}
 
 -- what the laws of scenarios say: a text spells one scenario,
 abbrev pub AreToldApart : Type 0
@@ -37,11 +30,9 @@ pub text_not_refused : AreNotFaulty → (bytes text : List ℕ) → IsScenarioTe
 text_not_refused not_faulty bytes text allowed refused =
     not_faulty allowed.0 refused.number refused.fault allowed.1 (subst (λ b. IsFirstScenarioFault b refused.number refused.fault) allowed.2 refused.first)
 
--- an input has one report
-pub same_report : AreToldApart → (mode : Mode) (bytes one other : List ℕ) → Reports mode bytes one → Reports mode bytes other → one ≡ other
-same_report told_apart mode bytes one other left right =
-    let scenarios : left.scenario ≡ right.scenario = told_apart left.scenario right.scenario left.legal right.legal (sym left.spelled ∙ right.spelled) in
-    left.report ∙ ap (report_text_of mode) scenarios ∙ sym right.report
+-- what a word writes of the one scenario that bytes spell is one text
+pub same_of_scenario : AreToldApart → (text_of : Scenario → List ℕ) (bytes one other : List ℕ) (left right : IsScenarioText bytes) → one ≡ text_of left.0 → other ≡ text_of right.0 → one ≡ other
+same_of_scenario told_apart text_of bytes one other left right first second = first ∙ ap text_of (told_apart left.0 right.0 left.1 right.1 (sym left.2 ∙ right.2)) ∙ sym second
 
 -- an input has one fault line
 pub same_refusal : HasOneFault → (bytes one other : List ℕ) → RefusesScenario bytes one → RefusesScenario bytes other → one ≡ other
@@ -55,25 +46,12 @@ pub some_text : (T : List ℕ → Type 0) (bytes : List ℕ) → (IsScenarioText
 some_text T bytes texts (inl spelled) = let found = texts spelled in (found.0, inl found.1)
 some_text T bytes texts (inr faulty) = (fault_line faulty.0 (reason_word faulty.1), inr (record { number = faulty.0; fault = faulty.1; first = faulty.2; line = refl }))
 
--- a front of the report was added
-abbrev pub AddsPart : Mode → Scenario → (written written' : Option (List ℕ)) → Type 0
-AddsPart mode scenario written written' = (front : List ℕ) × (rest : List ℕ) × (report_text_of mode scenario ≡ front ++ rest) × Adds written written' front
-
--- what is there of a report is a front of the defined text
-front_of_report : (mode : Mode) (bytes : List ℕ) (scenario : Scenario) (written written' : Option (List ℕ)) → IsScenario scenario → bytes ≡ scenario_text scenario → AddsPart mode scenario written written'
-    → AddsFront (Defines (run_job mode) bytes) written written'
-front_of_report mode bytes scenario written written' legal spelled part = record {
+-- what is there of a report is a front of one
+pub front_of_report : (mode : Mode) (bytes : List ℕ) (text : IsScenarioText bytes) (written written' : Option (List ℕ))
+    → (front : List ℕ) × (rest : List ℕ) × (report_text_of mode text.0 ≡ front ++ rest) × Adds written written' front → AddsFront (Reports mode bytes) written written'
+front_of_report mode bytes text written written' part = record {
   front = part.0;
   rest = part.1;
-  named = inl (record { scenario = scenario; legal = legal; spelled = spelled; report = sym part.2 });
+  named = record { scenario = text.0; legal = text.1; spelled = text.2; report = sym part.2 };
   added = part.3;
 }
-
--- the writing of a report ended where its run was cut off
-pub play_failed : (mode : Mode) (bytes : List ℕ) (text : IsScenarioText bytes) (sink : SinkChange) (fault : PlayFault) (end : Result Wrote WriteEnd) → end ≡ Err (end_of_play fault)
-    → (IsErrOf {T = Unit {0}} (Err fault) plays.Write → FaultsRose sink.writes sink.writes') → (IsErrOf {T = Unit {0}} (Err fault) plays.OutOfMemory → sink.writes' ≡ sink.writes)
-    → AddsPart mode text.0 sink.written sink.written' → EndsSo (run_job mode) bytes sink end
-play_failed mode bytes text sink plays.Write end is rose steady part =
-    subst (EndsSo (run_job mode) bytes sink) (sym is) (rose refl, front_of_report mode bytes text.0 sink.written sink.written' text.1 text.2 part)
-play_failed mode bytes text sink plays.OutOfMemory end is rose steady part =
-    subst (EndsSo (run_job mode) bytes sink) (sym is) (steady refl, inr (front_of_report mode bytes text.0 sink.written sink.written' text.1 text.2 part))

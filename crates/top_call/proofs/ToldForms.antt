@@ -39,27 +39,18 @@ same_made seed tags seed' tags' one two = rw (one, two) refl
 
 spelled_back : (form : Form) → IsForm form → form_spelled (words_of form) ≡ form
 unfolding form_spelled
-spelled_back Decode fits = refl
-spelled_back Encode fits = refl
 spelled_back (Run Plain) fits = refl
 spelled_back (Run Trace) fits = refl
 spelled_back (Run Json) fits = refl
 spelled_back (Run Exchanges) fits = refl
 spelled_back (Run Vcd) fits = refl
-spelled_back Upgrade fits = refl
-spelled_back Portals fits = refl
-spelled_back Names fits = refl
-spelled_back Probe fits = refl
-spelled_back Judge fits = refl
-spelled_back Audit fits = refl
 spelled_back (Objects sets.Decode) fits = refl
 spelled_back (Objects sets.Probe) fits = refl
 spelled_back (Objects sets.Judge) fits = refl
 spelled_back (Objects sets.Audit) fits = refl
 spelled_back (Objects sets.Exchanges) fits = refl
-spelled_back Help fits = refl
-spelled_back Version fits = refl
 spelled_back (Gen seed tags) fits = same_made _ _ seed tags (value_of seed fits.0) (value_of tags (omega (arith, fits.1)))
+spelled_back form fits = refl
 
 pub forms_told : (words : List (List ℕ)) (one other : Form) → SpellForm words one → SpellForm words other → one ≡ other
 forms_told words one other left right =

@@ -18,12 +18,6 @@ AreLegal = (scenario : Scenario) → IsScenario scenario → IsScenario (upgrade
 abbrev pub ReportTheSame : Type 0
 ReportTheSame = (mode : Mode) (scenario : Scenario) → report_text_of mode (upgraded scenario) ≡ report_text_of mode scenario
 
--- an input has one text of version 2
-pub same_upgrade : AreToldApart → (bytes one other : List ℕ) → Upgrades bytes one → Upgrades bytes other → one ≡ other
-same_upgrade told_apart bytes one other left right =
-    let scenarios : left.scenario ≡ right.scenario = told_apart left.scenario right.scenario left.legal right.legal (sym left.spelled ∙ right.spelled) in
-    left.upgrade ∙ ap (λ scenario. scenario_text (upgraded scenario)) scenarios ∙ sym right.upgrade
-
 -- its reports are those of the input
 report_back : AreToldApart → AreLegal → ReportTheSame → (mode : Mode) (bytes text report : List ℕ) → Upgrades bytes text → Reports mode text report → Reports mode bytes report
 report_back told_apart legal same mode bytes text report writes reports =

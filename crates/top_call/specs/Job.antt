@@ -1,6 +1,7 @@
 -- Profile: what a word of the command line does, as one value.
 use Rattle.std.specs.Prelude.{◌≡◌, ℕ, Bool, false, List, ◌⊎◌}
 
+-- what a word does with the bytes of its input
 pub record Job : Type 1 where
   -- the input is read to its end; else nothing is read
   pub input : Bool

@@ -1,5 +1,5 @@
 //! How the reading of an input and the writing of a word's text ended, and the status of that.
-ghost use Rattle.std.specs.Prelude.{◌≡◌, ◌≢◌, Err, Result};
+ghost use Rattle.std.specs.Prelude.{◌≡◌, Result};
 ghost use Rattle.top_call.specs.Outcome.{WritesAs, sink_change, status_of, unread_status};
 
 use crate::status::Status;
@@ -70,9 +70,8 @@ pub(crate) fn write_text<O: Sink>(
     text: &[u8],
     output: &mut O,
 ) -> Result<Wrote, WriteEnd>
-    ensures ends { WritesAs result wrote text.now
+    ensures { WritesAs result wrote text.now
         (sink_change O.written O.faults output.old output.new) }
-    ensures memory { result ≢ Err WriteEnd.OutOfMemory }
 {
     write_all(output, text)?;
     Ok(wrote)

@@ -12,7 +12,7 @@ use made_scenario::MOST_MADE_TAGS;
 use text_fields::number;
 
 /// What the program is asked to do, by its words.
-#[derive(Clone, Copy, Debug, PartialEq, Eq)]
+#[derive(Clone, Copy)]
 pub enum Form {
     /// The word `decode`: explain the captures of the input, line by line.
     Decode,

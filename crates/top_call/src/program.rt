@@ -3,8 +3,8 @@ ghost use Rattle.std.specs.Prelude.{◌≡◌, ◌≢◌, true, false, ◌<◌, 
 ghost use Rattle.air_io.specs.Flow.{FaultsRose};
 ghost use Rattle.top_call.specs.declared.forms.Form.{Form};
 ghost use Rattle.top_call.specs.Form.{texts, SpellForm, SpellSomeForm, IsForm};
-ghost use Rattle.top_call.specs.Jobs.{job_of};
-ghost use Rattle.top_call.specs.Outcome.{input_limit, WritesWhole, WritesFront, ReadsWithin, ReadsTooMuch, SpeaksOfNoInput, Tells, source_change, sink_change};
+ghost use Rattle.top_call.specs.Jobs.{Answers, job_of};
+ghost use Rattle.top_call.specs.Outcome.{input_limit, WritesWhole, WritesFront, ReadsWithin, ReadsTooMuch, SpeaksOfNoInput, source_change, sink_change};
 ghost use Rattle.top_call.specs.words.Generated.{CountsEveryTag, gen_job};
 ghost use Rattle.top_call.specs.words.Reported.{IsOwnTrace, SaysHeadline, SaysInventory, run_job};
 ghost use Rattle.report_lines.specs.declared.mode.Mode.{Mode};
@@ -145,12 +145,9 @@ pub fn gen2run_surely(
 /// Answers the words of a form, and lets the sink hand on what it holds back of a whole text.
 fn answer<I: Source, O: Sink>(alloc: Global, form: Form, input: &mut I, output: &mut O) -> Status
     requires { IsForm form }
-    ensures tells { Tells (job_of form) (source_change I.left I.faults input.old input.new)
-        (sink_change O.written O.faults output.old output.new) (output.new ≡ output.old) result }
-    ensures unread { (job_of form).input ≡ false → (input.new ≡ input.old)
-        × SpeaksOfNoInput result }
-    ensures names_memory { form ≡ Form.Names → result ≡ Status.OutOfMemory
-        → output.new ≡ output.old }
+    ensures { Answers form (source_change I.left I.faults input.old input.new)
+        (sink_change O.written O.faults output.old output.new) (input.new ≡ input.old)
+        (output.new ≡ output.old) result }
 {
     match write_answer(alloc, form, input, output) {
         Status::Done => behind_text(Status::Done, output),
@@ -179,12 +176,9 @@ fn write_answer<I: Source, O: Sink>(
     output: &mut O,
 ) -> Status
     requires { IsForm form }
-    ensures tells { Tells (job_of form) (source_change I.left I.faults input.old input.new)
-        (sink_change O.written O.faults output.old output.new) (output.new ≡ output.old) result }
-    ensures unread { (job_of form).input ≡ false → (input.new ≡ input.old)
-        × SpeaksOfNoInput result }
-    ensures names_memory { form ≡ Form.Names → result ≡ Status.OutOfMemory
-        → output.new ≡ output.old }
+    ensures { Answers form (source_change I.left I.faults input.old input.new)
+        (sink_change O.written O.faults output.old output.new) (input.new ≡ input.old)
+        (output.new ≡ output.old) result }
 {
     match form {
         Form::Decode => decode::answer(alloc, input, output),

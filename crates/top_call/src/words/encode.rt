@@ -1,11 +1,11 @@
 //! The word `encode`: for each line the one that `decode` reads.
 ghost use Rattle.std.specs.Prelude.{◌≡◌, ◌≤◌, ℕ, List, [], ◌++◌, length, OnOk, OnErr, IsErrOf};
 ghost use Rattle.air_io.specs.Flow.{FaultsRose};
-ghost use Rattle.encode_lines.specs.EncodeLines.{Encodes, EncodesLine, AskForEncoding};
+ghost use Rattle.encode_lines.specs.EncodeLines.{EncodesLine, AskForEncoding};
 ghost use Rattle.encode_lines.specs.Request.{AsksToEncode};
 ghost use Rattle.encode_lines.specs.declared.request.Request.{Request};
 ghost use Rattle.top_call.specs.Job.{IsLawful};
-ghost use Rattle.top_call.specs.Outcome.{input_limit, AddsWhole, AddsFront, EndsSo, sink_change};
+ghost use Rattle.top_call.specs.Outcome.{input_limit, EndsSo, sink_change};
 ghost use Rattle.top_call.specs.UnwrittenBytes.{WritesWaiting, Loses};
 ghost use Rattle.top_call.specs.words.Encoded.{encode_job};
 
@@ -32,10 +32,7 @@ pub fn write_encoded<O: Sink>(
         (sink_change O.written O.faults output.old output.new) result }
 {
     match check_lines(input) {
-        Ok(()) => {
-            write_lines(alloc, input, output)?;
-            Ok(Wrote::Text)
-        }
+        Ok(()) => write_lines(alloc, input, output),
         Err(fault) => {
             let line = fault_text(fault);
             write_text(Wrote::FaultLine, line.as_slice(), output)
@@ -44,17 +41,10 @@ pub fn write_encoded<O: Sink>(
 }
 
 /// Writes a line for each line of an input.
-fn write_lines<O: Sink>(alloc: Global, input: &[u8], output: &mut O) -> Result<(), WriteEnd>
+fn write_lines<O: Sink>(alloc: Global, input: &[u8], output: &mut O) -> Result<Wrote, WriteEnd>
     requires { AskForEncoding input.now }
-    ensures ok { OnOk result
-        (AddsWhole (Encodes input.now) (O.written output.old) (O.written output.new)) }
-    ensures failed { IsErrOf result WriteEnd.Fault
-        → FaultsRose (O.faults output.old) (O.faults output.new) }
-    ensures memory { IsErrOf result WriteEnd.OutOfMemory
-        → O.faults output.new ≡ O.faults output.old }
-    ensures steady { OnOk result (O.faults output.new ≡ O.faults output.old) }
-    ensures front { OnErr result
-        (AddsFront (Encodes input.now) (O.written output.old) (O.written output.new)) }
+    ensures { EndsSo encode_job input.now
+        (sink_change O.written O.faults output.old output.new) result }
 {
     // By this law a line is written for each line that is left, so that there is a whole text.
     requests_have_a_line();
@@ -67,7 +57,7 @@ fn write_lines<O: Sink>(alloc: Global, input: &[u8], output: &mut O) -> Result<(
         rest = behind;
     }
     page.flush(output)?;
-    Ok(())
+    Ok(Wrote::Text)
 }
 
 /// Lets the line that is written for a line wait on the page. It is made in the text, in place of what that holds.

@@ -5,8 +5,8 @@ ghost use Rattle.text_fields.specs.Lines.{line_feed, text_with};
 ghost use Rattle.report_lines.specs.Names.{BecomesLines};
 ghost use Rattle.sgtin_text.specs.SgtinText.{name_line};
 ghost use Rattle.top_call.specs.Job.{Defines, IsLawful};
-ghost use Rattle.top_call.specs.words.Named.{IsOfLines, AddsNames, IsCutAt, names_job};
-ghost use Rattle.top_call.specs.Outcome.{input_limit, AddsWhole, AddsFront, EndsSo, sink_change};
+ghost use Rattle.top_call.specs.words.Named.{IsOfLines, IsCutAt, names_job};
+ghost use Rattle.top_call.specs.Outcome.{input_limit, EndsSo, sink_change};
 ghost use Rattle.top_call.specs.UnwrittenBytes.{WritesWaiting, Loses};
 
 use crate::ending::{WriteEnd, Wrote, write_text};
@@ -26,10 +26,7 @@ pub fn write_with_names<O: Sink>(input: &[u8], output: &mut O) -> Result<Wrote, 
     ensures memory { result ≢ Err WriteEnd.OutOfMemory }
 {
     match cut_line(input) {
-        None => {
-            write_named(input, output)?;
-            Ok(Wrote::Text)
-        }
+        None => write_named(input, output),
         Some(number) => {
             let line = fault_line(number, "end");
             write_text(Wrote::FaultLine, line.as_slice(), output)
@@ -53,14 +50,11 @@ fn cut_line(input: &[u8]) -> Option<u32>
 }
 
 /// Writes the lines of an input, each with its name behind it.
-fn write_named<O: Sink>(input: &[u8], output: &mut O) -> Result<(), WriteFailed>
+fn write_named<O: Sink>(input: &[u8], output: &mut O) -> Result<Wrote, WriteEnd>
     requires { IsOfLines input.now }
-    ensures ok { OnOk result
-        (AddsWhole (AddsNames input.now) (O.written output.old) (O.written output.new)) }
-    ensures failed { OnErr result (FaultsRose (O.faults output.old) (O.faults output.new)) }
-    ensures steady { OnOk result (O.faults output.new ≡ O.faults output.old) }
-    ensures front { OnErr result
-        (AddsFront (AddsNames input.now) (O.written output.old) (O.written output.new)) }
+    ensures ends { EndsSo names_job input.now
+        (sink_change O.written O.faults output.old output.new) result }
+    ensures memory { result ≢ Err WriteEnd.OutOfMemory }
 {
     // By this law each line that is left has a name or has none, so that there is a whole text.
     lines_have_names();
@@ -70,7 +64,8 @@ fn write_named<O: Sink>(input: &[u8], output: &mut O) -> Result<(), WriteFailed>
         put_named(line, &mut page, output)?;
         rest = behind;
     }
-    page.flush(output)
+    page.flush(output)?;
+    Ok(Wrote::Text)
 }
 
 /// Lets a line wait on the page, and its name behind it.

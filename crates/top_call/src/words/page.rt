@@ -65,7 +65,6 @@ impl Page {
         ensures failed { OnErr result (FaultsRose (O.faults output.old) (O.faults output.new)) }
         ensures lost { OnErr result (Loses self.old (O.written output.old) (O.written output.new)) }
         ensures steady { OnOk result (O.faults output.new ≡ O.faults output.old) }
-        ensures count { O.faults output.old ≤ O.faults output.new }
     {
         write_all(output, self.bytes.as_slice())?;
         self.bytes.clear();
@@ -85,7 +84,6 @@ impl Page {
         ensures lost { OnErr result
             (Loses (self.old ++ piece.now) (O.written output.old) (O.written output.new)) }
         ensures steady { OnOk result (O.faults output.new ≡ O.faults output.old) }
-        ensures count { O.faults output.old ≤ O.faults output.new }
     {
         if piece.len() <= self.room() {
             self.add(piece);
@@ -118,7 +116,6 @@ impl Page {
             (Loses (self.old ++ (first.now ++ second.now)) (O.written output.old)
             (O.written output.new)) }
         ensures steady { OnOk result (O.faults output.new ≡ O.faults output.old) }
-        ensures count { O.faults output.old ≤ O.faults output.new }
     {
         self.put(first, output)?;
         self.put(second, output)

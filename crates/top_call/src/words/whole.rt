@@ -1,9 +1,9 @@
 //! The words that write what is defined for their whole input, which is read first.
-ghost use Rattle.std.specs.Prelude.{◌≡◌, ◌≢◌, ◌≤◌, false, Err, length};
+ghost use Rattle.std.specs.Prelude.{◌≡◌, ◌≢◌, ◌≤◌, Err, length};
 ghost use Rattle.top_call.specs.declared.forms.Form.{Form};
 ghost use Rattle.top_call.specs.Form.{IsForm, ReadsFirst};
-ghost use Rattle.top_call.specs.Jobs.{job_of};
-ghost use Rattle.top_call.specs.Outcome.{EndsSo, SpeaksOfNoInput, Tells, input_limit, source_change, sink_change};
+ghost use Rattle.top_call.specs.Jobs.{Answers, job_of};
+ghost use Rattle.top_call.specs.Outcome.{EndsSo, input_limit, source_change, sink_change};
 
 use crate::ending::{MOST_INPUT_BYTES, WriteEnd, Wrote, status_of, unread_status};
 use crate::forms::{Form, reads_input};
@@ -25,12 +25,9 @@ pub fn answer<I: Source, O: Sink>(
 ) -> Status
     requires form { IsForm form }
     requires first { ReadsFirst form }
-    ensures tells { Tells (job_of form) (source_change I.left I.faults input.old input.new)
-        (sink_change O.written O.faults output.old output.new) (output.new ≡ output.old) result }
-    ensures unread { (job_of form).input ≡ false → (input.new ≡ input.old)
-        × SpeaksOfNoInput result }
-    ensures names_memory { form ≡ Form.Names → result ≡ Status.OutOfMemory
-        → output.new ≡ output.old }
+    ensures { Answers form (source_change I.left I.faults input.old input.new)
+        (sink_change O.written O.faults output.old output.new) (input.new ≡ input.old)
+        (output.new ≡ output.old) result }
 {
     if !reads_input(form) {
         return status_of(write_defined(alloc, form, b"", output));

@@ -41,7 +41,7 @@ returns-in-Some-clause-own_trace g c spelled done =
 pub returns-in-Some-clause-unread : goal.returns-in-Some-clause-unread
 returns-in-Some-clause-unread g c form spelled none =
     let same : c.in-Some.form ≡ form = cc (c.in-Some.ensures.only form spelled) in
-    c.answer.ensures.unread (rw same none)
+    c.answer.ensures.reads_none (rw same none)
 
 pub returns-in-Some-clause-refused : goal.returns-in-Some-clause-refused
 returns-in-Some-clause-refused g c form spelled bytes told few text refused no_read no_write =

@@ -6,7 +6,7 @@ use Rattle.top_call.proofs.words.audit.write_audited.Goals as goal
 
 pub returns-in_ok-line-in-Ok : goal.returns-in_ok-line-in-Ok
 returns-in_ok-line-in-Ok g c =
-    ends_so audit_job c.args.input.now _ _ _ _ c.write_text.ensures.ends
+    ends_so audit_job c.args.input.now _ _ _ _ c.write_text.ensures
     (rw c.as_slice.ensures.value (record {
       scenario = c.in-Ok.scenario;
       legal = c.in-Ok.ensures.ok.0;

@@ -25,5 +25,5 @@ returns-in_ok-play-in-Ok g c =
 pub returns-in-Err : goal.returns-in-Err
 returns-in-Err g c =
     let fault = c.in-Err.fault in
-    ends_so probe_job c.args.input.now _ _ _ _ c.write_text.ensures.ends
+    ends_so probe_job c.args.input.now _ _ _ _ c.write_text.ensures
     (rw c.as_slice.ensures.value (record { number = fault.line; reason = fault.reason; first = c.in-Err.ensures.refused; line = c.fault_text-line.ensures }))

@@ -1,13 +1,16 @@
 use Rattle.std.proofs.Common.{subst}
 use Rattle.report_lines.specs.declared.mode.Mode.{Mode}
+use Rattle.runs.specs.Report.{report_text_of}
 use Rattle.top_call.specs.words.Reported.{Reports}
 use Rattle.top_call.proofs.AuditEnds.{own_trace}
-use Rattle.top_call.proofs.RunEnds.{same_report, same_refusal, text_not_refused}
+use Rattle.top_call.proofs.RunEnds.{same_of_scenario, same_refusal, text_not_refused}
 use Rattle.top_call.proofs.words.run.run_is_lawful.Goals as goal
 
 pub returns : goal.returns
 returns c mode = record {
-  one_text = same_report c.scenarios_are_told_apart.ensures mode;
+  one_text = λ bytes one other left right.
+      same_of_scenario c.scenarios_are_told_apart.ensures (report_text_of mode) bytes one other
+      (left.scenario, left.legal, left.spelled) (right.scenario, right.legal, right.spelled) left.report right.report;
   one_fault_line = same_refusal c.texts_have_one_fault.ensures;
   allowed = λ bytes text writes. (writes.scenario, writes.legal, writes.spelled);
   not_refused = text_not_refused c.scenario_texts_are_not_faulty.ensures;
