@@ -81,33 +81,22 @@ flag_letters flags =
 state : (name : StateName) → IsUnescaped (state_word name)
 unfolding escape_byte
 state names.Ready = refl
-state names.Arbitrate = refl
-state names.InReply = refl
-state names.Acknowledged = refl
-state names.Opened = refl
-state names.Secured = refl
-state names.Killed = refl
-state names.Unpowered = refl
+state name = refl
 
 end_name : (end : RoundEnd) → IsUnescaped (end_word end)
 unfolding escape_byte
 end_name ends.Quiet = refl
-end_name ends.Limit = refl
+end_name end = refl
 
 result_name : (result : OpResult) → IsUnescaped (result_word result)
 unfolding escape_byte
-result_name (results.Ok words) = refl
-result_name (results.TagError code) = refl
 result_name results.Silent = refl
-result_name results.Broken = refl
-result_name results.Denied = refl
+result_name result = refl
 
 result_digits : (result : OpResult) → BringsWords result → IsUnescaped (result_value result)
 result_digits (results.Ok words) are = words_digits words are
 result_digits (results.TagError code) small = byte_digits code small
-result_digits results.Silent is = refl
-result_digits results.Broken is = refl
-result_digits results.Denied is = refl
+result_digits result is = refl
 
 -- no key and no text of a line's object has an escape
 pub plain_pairs : (line : ReportLine) → HasWords line → AllByRecursion IsPlainPair (json_pairs line)

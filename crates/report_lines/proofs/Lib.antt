@@ -9,4 +9,5 @@ pub mod OneName
 pub mod SomeName
 pub mod JsonLaws
 pub mod SeenLaws
+pub mod SentPairs
 pub mod SpelledLaws

@@ -107,13 +107,8 @@ few : (fields : List (List ℕ)) → length fields ≢ 5 → ¬ AreNamed fields
 few fields other are = other (ap length are.5)
 
 fields_answer : AreNotRefused → AreOrRefused → (fields : List (List ℕ)) → AreNamed fields ⊎ (¬ AreNamed fields)
-fields_answer not_refused or_refused [] = inr (few [] (λ same. omega arith))
-fields_answer not_refused or_refused (a ∷ []) = inr (few (a ∷ []) (λ same. omega arith))
-fields_answer not_refused or_refused (a ∷ b ∷ []) = inr (few (a ∷ b ∷ []) (λ same. omega arith))
-fields_answer not_refused or_refused (a ∷ b ∷ c ∷ []) = inr (few (a ∷ b ∷ c ∷ []) (λ same. omega arith))
-fields_answer not_refused or_refused (a ∷ b ∷ c ∷ d ∷ []) = inr (few (a ∷ b ∷ c ∷ d ∷ []) (λ same. omega arith))
 fields_answer not_refused or_refused (a ∷ b ∷ c ∷ d ∷ e ∷ []) = five_answer not_refused or_refused a b c d e
-fields_answer not_refused or_refused (a ∷ b ∷ c ∷ d ∷ e ∷ f ∷ more) = inr (few (a ∷ b ∷ c ∷ d ∷ e ∷ f ∷ more) (λ same. omega arith))
+fields_answer not_refused or_refused fields = inr (few fields (λ same. omega arith))
 
 -- each line becomes some lines
 pub some_lines : AreNotRefused → AreOrRefused → (line : List ℕ) → (lines : List (List ℕ)) × BecomesLines line lines

@@ -1,6 +1,7 @@
 -- What is told to a report of a mode, line by line, comes to its one text.
-use Rattle.std.proofs.Common.{◌≡◌, ◌≢◌, ◌⊎◌, inl, inr, ℕ, Bool, true, false, List, [], ◌∷◌, ◌++◌, refl, ap, ◌∙◌}
+use Rattle.std.proofs.Common.{◌≡◌, ◌≢◌, inl, inr, ℕ, List, [], ◌∷◌, ◌++◌, refl, ap, ◌∙◌}
 use Rattle.std.specs.Prelude.{filter}
+use Rattle.std.proofs.lemmas.Bool.{cases_Bool}
 use Rattle.pie_line.specs.Link.{LinkValue}
 use Rattle.wave_dump.specs.Drawing.{DrawingValue}
 use Rattle.wave_dump.specs.Waves.{new_dump}
@@ -14,14 +15,10 @@ use Rattle.report_lines.specs.declared.mode.Mode.TheVariants.{Vcd}
 abbrev spelling_of : Mode → DrawingValue → SpellingValue
 spelling_of mode drawing = record { mode = mode; dump = drawing }
 
-split : (b : Bool) → (b ≡ true) ⊎ (b ≡ false)
-split true = inl refl
-split false = inr refl
-
 -- the text of the lines that a mode keeps
 kept : (mode : Mode) (lines : List ReportLine) → kept_text mode lines ≡ text_by (line_text_of mode) (filter (keeps mode) lines)
 kept mode [] = refl
-kept mode (line ∷ lines) = elim (split (keeps mode line)) [
+kept mode (line ∷ lines) = elim (cases_Bool (keeps mode line)) [
   | inl is ↦ rw is (ap (λ (text : List ℕ). line_text_of mode line ++ text) (kept mode lines))
   | inr is ↦ rw is (kept mode lines)
 ]

@@ -7,7 +7,6 @@ use Rattle.access_ops.specs.declared.op_next.OpResult.{OpResult}
 use Rattle.access_ops.specs.declared.op_next.OpResult.TheVariants as results
 use Rattle.report_lines.specs.ReportLine.{ReportLine, ListLine, OpLine, RoundLine, SeenLine, TagLine, DoneLine, end_word, flags_word, state_word}
 use Rattle.tag_machine.specs.Names.{name_of}
-use Rattle.tag_memory.specs.Memory.{Banks}
 use Rattle.text_fields.specs.Hexadecimal.{hex_byte, hex_word}
 use Rattle.text_fields.specs.Lines.{line_feed}
 use Rattle.value_text.specs.ValueText.{locks_text}
@@ -36,30 +35,50 @@ result_value results.Denied = []
 abbrev pub count_value : ℕ → Data
 count_value count = number (unsigned count)
 
--- the keys of a tag, each with its value: its number, the texts of its state, its flags and its lock bits, and its banks
-abbrev pub tag_pairs : ℕ → (state flags locks : List ℕ) → Banks → List (List ℕ × Data)
-tag_pairs place state flags locks memory =
-    (codes "epc", string (digits_of memory.epc)) ∷ (codes "flags", string flags) ∷ (codes "kind", string (codes "tag")) ∷ (codes "locks", string locks)
-    ∷ (codes "number", count_value place) ∷ (codes "res", string (digits_of memory.reserved)) ∷ (codes "state", string state)
-    ∷ (codes "tid", string (digits_of memory.tid)) ∷ (codes "user", string (digits_of memory.user)) ∷ []
+-- the keys of the object of a list line, each with its value: the digits of the EPC and of the PC, the round and the slot
+abbrev pub list_pairs : (epc pc : List ℕ) → (round slot : ℕ) → List (List ℕ × Data)
+list_pairs epc pc round slot =
+    (codes "epc", string epc) ∷ (codes "kind", string (codes "list")) ∷ (codes "pc", string pc) ∷ (codes "round", count_value round)
+    ∷ (codes "slot", count_value slot) ∷ []
+
+-- those of an operation: its number, how it ended, the round and the slot, and what it brought
+abbrev pub op_pairs : (index : ℕ) → (result : List ℕ) → (round slot : ℕ) → (value : List ℕ) → List (List ℕ × Data)
+op_pairs index result round slot value =
+    (codes "index", count_value index) ∷ (codes "kind", string (codes "op")) ∷ (codes "result", string result) ∷ (codes "round", count_value round)
+    ∷ (codes "slot", count_value slot) ∷ (codes "value", string value) ∷ []
+
+-- those of a round: how it ended, its number and its slots
+abbrev pub round_pairs : (end : List ℕ) → (round slots : ℕ) → List (List ℕ × Data)
+round_pairs end round slots =
+    (codes "end", string end) ∷ (codes "kind", string (codes "round")) ∷ (codes "round", count_value round) ∷ (codes "slots", count_value slots) ∷ []
+
+-- those of a count: how often the EPC and the PC of these digits were listed
+abbrev pub seen_pairs : (count : ℕ) → (epc pc : List ℕ) → List (List ℕ × Data)
+seen_pairs count epc pc =
+    (codes "count", count_value count) ∷ (codes "epc", string epc) ∷ (codes "kind", string (codes "seen")) ∷ (codes "pc", string pc) ∷ []
+
+-- those of a tag: the digits of its banks, and the texts of its flags, its lock bits and its state
+abbrev pub tag_pairs : (epc flags locks : List ℕ) → (place : ℕ) → (reserved state tid user : List ℕ) → List (List ℕ × Data)
+tag_pairs epc flags locks place reserved state tid user =
+    (codes "epc", string epc) ∷ (codes "flags", string flags) ∷ (codes "kind", string (codes "tag")) ∷ (codes "locks", string locks)
+    ∷ (codes "number", count_value place) ∷ (codes "res", string reserved) ∷ (codes "state", string state) ∷ (codes "tid", string tid)
+    ∷ (codes "user", string user) ∷ []
+
+-- those of the last line
+abbrev pub done_pairs : List (List ℕ × Data)
+done_pairs = (codes "kind", string (codes "done")) ∷ []
 
 -- the keys of the object of a line, each with its value; none for a line that no plain report has
 abbrev pub json_pairs : ReportLine → List (List ℕ × Data)
-json_pairs (ListLine round slot pc epc) =
-    (codes "epc", string (digits_of epc)) ∷ (codes "kind", string (codes "list")) ∷ (codes "pc", string (hex_word pc))
-    ∷ (codes "round", count_value round) ∷ (codes "slot", count_value slot) ∷ []
-json_pairs (OpLine round slot index result) =
-    (codes "index", count_value index) ∷ (codes "kind", string (codes "op")) ∷ (codes "result", string (result_word result))
-    ∷ (codes "round", count_value round) ∷ (codes "slot", count_value slot) ∷ (codes "value", string (result_value result)) ∷ []
-json_pairs (RoundLine round end slots) =
-    (codes "end", string (end_word end)) ∷ (codes "kind", string (codes "round")) ∷ (codes "round", count_value round)
-    ∷ (codes "slots", count_value slots) ∷ []
-json_pairs (SeenLine count pc epc) =
-    (codes "count", count_value count) ∷ (codes "epc", string (digits_of epc)) ∷ (codes "kind", string (codes "seen"))
-    ∷ (codes "pc", string (hex_word pc)) ∷ []
+json_pairs (ListLine round slot pc epc) = list_pairs (digits_of epc) (hex_word pc) round slot
+json_pairs (OpLine round slot index result) = op_pairs index (result_word result) round slot (result_value result)
+json_pairs (RoundLine round end slots) = round_pairs (end_word end) round slots
+json_pairs (SeenLine count pc epc) = seen_pairs count (digits_of epc) (hex_word pc)
 json_pairs (TagLine place tag) =
-    tag_pairs place (state_word (name_of tag.state)) (flags_word tag.body.flags) (locks_text tag.body.locks) tag.body.memory
-json_pairs DoneLine = (codes "kind", string (codes "done")) ∷ []
+    let memory = tag.body.memory in
+    tag_pairs (digits_of memory.epc) (flags_word tag.body.flags) (locks_text tag.body.locks) place (digits_of memory.reserved)
+    (state_word (name_of tag.state)) (digits_of memory.tid) (digits_of memory.user)
+json_pairs DoneLine = done_pairs
 json_pairs line = []
 
 -- an object's members, in this order

@@ -23,6 +23,7 @@ use Rattle.tag_machine.specs.declared.states.StateName.TheVariants as names
 use Rattle.tag_machine.specs.Names.{name_of}
 use Rattle.tag_machine.specs.TagValue.{TagValue}
 
+-- what a run tells at one time, with the values that its line has
 pub data ReportLine : Type 0 where
   -- the backscatter link frequency, as a numerator and a denominator in nanoseconds
   BlfLine : (numerator denominator : ℕ) → ReportLine
@@ -51,10 +52,12 @@ pub data ReportLine : Type 0 where
   -- the end of the report
   DoneLine : ReportLine
 
+-- how a round ended, as a word
 abbrev pub end_word : RoundEnd → List ℕ
 end_word ends.Quiet = codes "quiet"
 end_word ends.Limit = codes "limit"
 
+-- the state of a tag, as a word (6.3.2.4 Tag states and slot counter); that of a tag without power is profile
 abbrev pub state_word : StateName → List ℕ
 state_word names.Ready = codes "ready"
 state_word names.Arbitrate = codes "arbitrate"

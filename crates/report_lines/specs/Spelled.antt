@@ -52,6 +52,7 @@ new_spelling mode link = record { mode = mode; dump = record { link = link; dump
 abbrev pub line_of_mode : SpellingValue → ReportLine → List ℕ
 line_of_mode spelling line = spelled_line spelling.mode spelling.dump line
 
+-- where the report stands behind a line
 abbrev pub mode_behind : SpellingValue → ReportLine → SpellingValue
 mode_behind spelling line = record spelling { dump = drawing_behind spelling.mode spelling.dump line }
 

@@ -3,8 +3,8 @@
 #![tactic(auto)]
 
 mod exchange_lines;
-mod json_lines;
-mod json_objects;
+mod json_shapes;
+mod json_writing;
 mod laws;
 mod line;
 mod line_fields;
@@ -23,7 +23,7 @@ mod text_report;
 mod tx_line;
 
 pub use exchange_lines::{push_answer_line, push_exchange_line, push_given_line, push_missed_line};
-pub use json_lines::push_json_line;
+pub use json_writing::push_json_line;
 pub use laws::{lines_have_names, objects_need_no_escape, seen_laws};
 pub use line::Line;
 pub use line_fields::first_field;

@@ -3,15 +3,17 @@ ghost use Rattle.std.specs.Prelude.{◌≡◌, OnOk};
 ghost use Rattle.std.specs.String.{string_bytes};
 ghost use Rattle.report_lines.specs.JsonLines.{digits_of, result_value};
 ghost use Rattle.report_lines.specs.ReportLine.{flags_word};
-ghost use Rattle.text_fields.specs.Hexadecimal.{hex_byte, hex_word};
+ghost use Rattle.text_fields.specs.Hexadecimal.{hex_word};
 ghost use Rattle.value_text.specs.ValueText.{locks_text};
 
 use crate::tags::push_flags;
 use access_ops::OpResult;
 use bit_strings::OutOfMemory;
+use command_grammar::Bank;
 use lock_rules::Locks;
 use session_flags::Flags;
 use std::alloc::Global;
+use tag_memory::Memory;
 use text_fields::{push_byte_hex, push_word, push_words};
 use value_text::push_locks;
 
@@ -42,6 +44,23 @@ impl MemberTexts {
             value: String::new(alloc),
         }
     }
+
+    /// Makes the texts of the four banks the digits of their words.
+    pub(crate) fn set_banks(&mut self, memory: &Memory) -> Result<(), OutOfMemory>
+        ensures reserved { OnOk result
+            (string_bytes self.new.reserved ≡ digits_of memory.now.reserved) }
+        ensures epc { OnOk result
+            (string_bytes self.new.epc ≡ digits_of memory.now.epc) }
+        ensures tid { OnOk result
+            (string_bytes self.new.tid ≡ digits_of memory.now.tid) }
+        ensures user { OnOk result
+            (string_bytes self.new.user ≡ digits_of memory.now.user) }
+    {
+        set_words(&mut self.reserved, memory.bank(Bank::Reserved))?;
+        set_words(&mut self.epc, memory.bank(Bank::Epc))?;
+        set_words(&mut self.tid, memory.bank(Bank::Tid))?;
+        set_words(&mut self.user, memory.bank(Bank::User))
+    }
 }
 
 /// Makes a text the four hexadecimal digits of a word.
@@ -61,14 +80,6 @@ pub(crate) fn set_words(text: &mut String, words: &[u16]) -> Result<(), OutOfMem
         return Ok(());
     }
     push_words(text, words)
-}
-
-/// Makes a text the two hexadecimal digits of an error code.
-fn set_code(text: &mut String, code: u8) -> Result<(), OutOfMemory>
-    ensures { OnOk result (string_bytes text.new ≡ hex_byte code) }
-{
-    text.clear();
-    push_byte_hex(text, code)
 }
 
 /// Makes a text the inventoried flags and SL.
@@ -93,7 +104,10 @@ pub(crate) fn set_result(text: &mut String, ended: &OpResult) -> Result<(), OutO
 {
     match ended {
         OpResult::Ok(words) => set_words(text, words.as_slice()),
-        OpResult::TagError(code) => set_code(text, *code),
+        OpResult::TagError(code) => {
+            text.clear();
+            push_byte_hex(text, *code)
+        }
         OpResult::Silent | OpResult::Broken | OpResult::Denied => {
             text.clear();
             Ok(())

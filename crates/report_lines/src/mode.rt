@@ -7,7 +7,7 @@ use bit_strings::OutOfMemory;
 use thiserror::Error;
 
 /// How much a report tells.
-#[derive(Clone, Copy, Debug, PartialEq, Eq)]
+#[derive(Clone, Copy)]
 pub enum Mode {
     /// What was listed, the ends of rounds, the counts and the tags.
     Plain,

@@ -6,7 +6,7 @@ ghost use Rattle.report_lines.specs.Line.{line_of};
 ghost use Rattle.report_lines.specs.ReportLine.{ReportLine};
 ghost use Rattle.report_lines.specs.Spelled.{drawing_after, drawn_line, new_spelling};
 
-use crate::json_lines::push_json_line;
+use crate::json_writing::push_json_line;
 use crate::line::Line;
 use crate::member_texts::MemberTexts;
 use crate::mode::Mode;

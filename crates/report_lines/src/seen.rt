@@ -10,7 +10,7 @@ use std::alloc::{AllocError, Global};
 use std::marker::Model;
 
 /// What an EPC reply brings of a tag.
-#[derive(Drop, Debug, PartialEq, Eq, Hash)]
+#[derive(Drop, PartialEq, Eq, Hash)]
 pub(crate) struct Listed {
     pc: u16,
     epc: EpcWords,

@@ -3,8 +3,8 @@ ghost use Rattle.std.specs.Prelude.{◌≡◌, ◌++◌, [], ◌∷◌, ℕ, Lis
 ghost use Rattle.std.specs.Str.{IsUtf8};
 ghost use Rattle.std.specs.String.{string_bytes};
 ghost use Rattle.serde_json.specs.Data.{string};
-ghost use Rattle.report_lines.specs.JsonLines.{count_value};
-ghost use Rattle.report_lines.specs.JsonObject.{IsJsonOf, SendsPair, SendsPairs, done_pairs, list_pairs, op_pairs, round_pairs, seen_pairs, tag_pairs_of};
+ghost use Rattle.report_lines.specs.JsonLines.{count_value, done_pairs, list_pairs, op_pairs, round_pairs, seen_pairs, tag_pairs};
+ghost use Rattle.report_lines.specs.JsonObject.{IsJsonOf, SendsPair, SendsPairs};
 ghost use Rattle.text_fields.specs.Lines.{line_feed};
 
 use bit_strings::OutOfMemory;
@@ -56,7 +56,7 @@ pub(crate) struct ListObject<'a> {
 }
 
 impl<'a> Described for ListObject<'a> {
-    ghost writes = { λ object. SendsPairs (list_pairs object) };
+    ghost writes = { λ it. SendsPairs (list_pairs it.epc.now it.pc.now it.round it.slot) };
 }
 
 impl<'a> Serialize for ListObject<'a> {
@@ -83,7 +83,7 @@ pub(crate) struct OpObject<'a> {
 }
 
 impl<'a> Described for OpObject<'a> {
-    ghost writes = { λ object. SendsPairs (op_pairs object) };
+    ghost writes = { λ it. SendsPairs (op_pairs it.index it.result.now it.round it.slot it.value.now) };
 }
 
 impl<'a> Serialize for OpObject<'a> {
@@ -109,7 +109,7 @@ pub(crate) struct RoundObject<'a> {
 }
 
 impl<'a> Described for RoundObject<'a> {
-    ghost writes = { λ object. SendsPairs (round_pairs object) };
+    ghost writes = { λ it. SendsPairs (round_pairs it.end.now it.round it.slots) };
 }
 
 impl<'a> Serialize for RoundObject<'a> {
@@ -133,7 +133,7 @@ pub(crate) struct SeenObject<'a> {
 }
 
 impl<'a> Described for SeenObject<'a> {
-    ghost writes = { λ object. SendsPairs (seen_pairs object) };
+    ghost writes = { λ it. SendsPairs (seen_pairs it.count it.epc.now it.pc.now) };
 }
 
 impl<'a> Serialize for SeenObject<'a> {
@@ -162,7 +162,8 @@ pub(crate) struct TagObject<'a> {
 }
 
 impl<'a> Described for TagObject<'a> {
-    ghost writes = { λ object. SendsPairs (tag_pairs_of object) };
+    ghost writes = { λ it. SendsPairs (tag_pairs it.epc.now it.flags.now it.locks.now it.number
+        it.reserved.now it.state.now it.tid.now it.user.now) };
 }
 
 impl<'a> Serialize for TagObject<'a> {

@@ -3,11 +3,10 @@ use Rattle.std.proofs.lemmas.Result.{IfOk-equal, on_ok_weaker}
 use Rattle.std.specs.String.{string_bytes}
 use Rattle.report_lines.proofs.Members.{line_written, written_utf8}
 use Rattle.report_lines.proofs.Objects.{done_simple}
-use Rattle.report_lines.specs.JsonLines.{json_line_text}
-use Rattle.report_lines.specs.JsonObject.{done_pairs}
+use Rattle.report_lines.specs.JsonLines.{done_pairs, json_line_text}
 use Rattle.report_lines.specs.Line.{line_of}
 use Rattle.report_lines.specs.ReportLine.{ReportLine}
-use Rattle.report_lines.proofs.json_lines.push_json_line.Goals as goal
+use Rattle.report_lines.proofs.json_writing.push_json_line.Goals as goal
 
 pub push_object-requires : goal.push_object-requires
 push_object-requires c = record { utf8 = λ bytes is. written_utf8 done_pairs bytes done_simple is }

@@ -6,7 +6,7 @@ ghost use Rattle.report_lines.specs.Line.{line_of};
 ghost use Rattle.report_lines.specs.ReportLine.{ListLine, OpLine, RoundLine, SeenLine, TagLine};
 ghost use Rattle.tag_machine.specs.Hearing.{tag_value_of};
 
-use crate::json_objects::{
+use crate::json_shapes::{
     DoneObject, ListObject, OpObject, RoundObject, SeenObject, TagObject, push_object,
 };
 use crate::line::Line;
@@ -15,7 +15,6 @@ use crate::member_texts::{MemberTexts, set_flags, set_locks, set_result, set_wor
 use crate::tags::state_text;
 use access_ops::OpResult;
 use bit_strings::OutOfMemory;
-use command_grammar::Bank;
 use q_round::RoundEnd;
 use reply_grammar::EpcWords;
 use tag_machine::AnyTag;
@@ -136,13 +135,9 @@ fn push_tag_object(
     ensures { OnOk result (string_bytes text.new ≡ string_bytes text.old
         ++ json_line_text (TagLine number (tag_value_of tag.now))) }
 {
+    texts.set_banks(tag.memory())?;
     set_flags(&mut texts.flags, tag.flags())?;
     set_locks(&mut texts.locks, tag.locks())?;
-    let memory = tag.memory();
-    set_words(&mut texts.reserved, memory.bank(Bank::Reserved))?;
-    set_words(&mut texts.epc, memory.bank(Bank::Epc))?;
-    set_words(&mut texts.tid, memory.bank(Bank::Tid))?;
-    set_words(&mut texts.user, memory.bank(Bank::User))?;
     push_object(
         text,
         &TagObject {
