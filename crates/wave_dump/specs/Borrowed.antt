@@ -4,6 +4,7 @@ use Rattle.wave_dump.specs.Waves.{Signals}
 use Rattle.wave_dump.specs.declared.exchanged.Exchanged.{Exchanged as BorrowedExchange}
 use Rattle.wave_dump.specs.declared.signals.Signals.{Signals as BorrowedSignals}
 
+-- an exchange that is over, behind what it borrows
 abbrev pub exchanged_of : BorrowedExchange → Exchanged
 exchanged_of borrowed = record {
   number = borrowed.number;
@@ -14,6 +15,7 @@ exchanged_of borrowed = record {
   levels = borrowed.levels.now.items;
 }
 
+-- the values of the signals, behind what they borrow
 abbrev pub signals_of : BorrowedSignals → Signals
 signals_of borrowed = record {
   reader = borrowed.reader;

@@ -160,6 +160,7 @@ exchange_moments link time exchanged =
 abbrev pub change_line : Bool → List ℕ → List (List ℕ)
 change_line same line = if same then [] else line ∷ []
 
+-- two values of a signal are the same, so that no change is told: two levels, two levels or none, and two texts
 abbrev pub same_bool : Bool → Bool → Bool
 same_bool true true = true
 same_bool false false = true
@@ -207,6 +208,7 @@ change_lines old new =
     ++ change_line (same_text old.command new.command) (command_value_line new.command)
     ++ change_line (same_text old.reply new.reply) (reply_value_line new.reply)
 
+-- the line of a time, in nanoseconds
 abbrev pub time_line : ℕ → List ℕ
 time_line time = codes "#" ++ decimal time
 
