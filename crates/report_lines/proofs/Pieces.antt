@@ -20,6 +20,11 @@ two_lists first next (field ∷ before) behind =
     ap (λ (rest : List ℕ). first ++ space ∷ rest) (two_lists field next before behind)
     ∙ sym (append_assoc first (space ∷ line_with (field ∷ before)) (space ∷ line_with (next ∷ behind)))
 
+-- after five fields, one behind the other
+pub five_fields : (start t1 t2 t3 t4 a b c d e : List ℕ) → t1 ≡ start ++ a → t2 ≡ t1 ++ space ∷ b → t3 ≡ t2 ++ space ∷ c → t4 ≡ t3 ++ space ∷ d
+    → t4 ++ space ∷ e ≡ start ++ line_with (a ∷ b ∷ c ∷ d ∷ e ∷ [])
+five_fields start t1 t2 t3 t4 a b c d e e1 e2 e3 e4 = rw (e4, e3, e2, e1) (simp append_assoc)
+
 -- after two pieces of a line and the line feed
 two_pieces : (start front text one other : List ℕ) → front ≡ start ++ one → text ≡ front ++ space ∷ other → text ++ line_feed ∷ [] ≡ start ++ ((one ++ space ∷ other) ++ line_feed ∷ [])
 two_pieces start front text one other first second = rw (second, first) (simp append_assoc)
