@@ -12,6 +12,11 @@ use Rattle.wave_dump.specs.Waves.{DumpValue, Signals, answer_begin, answer_momen
 pub text_with-append : (lines more : List (List ℕ)) → text_with (lines ++ more) ≡ text_with lines ++ text_with more
 text_with-append lines more = flat_map-append (λ (line : List ℕ). line ++ line_feed ∷ []) lines more
 
+-- six lists of lines, written one after another
+pub six_lists : (start t1 t2 t3 t4 t5 : List ℕ) (a b c d e f : List (List ℕ)) → t1 ≡ start ++ text_with a → t2 ≡ t1 ++ text_with b → t3 ≡ t2 ++ text_with c
+    → t4 ≡ t3 ++ text_with d → t5 ≡ t4 ++ text_with e → t5 ++ text_with f ≡ start ++ text_with (a ++ b ++ c ++ d ++ e ++ f)
+six_lists start t1 t2 t3 t4 t5 a b c d e f e1 e2 e3 e4 e5 = rw (e5, e4, e3, e2, e1) (simp (text_with-append, append_assoc))
+
 -- where something changes the text is the time and the changes
 pub at-change : (time : ℕ) (lines : List (List ℕ)) → lines ≢ [] → text_at time lines ≡ text_with (time_line time ∷ []) ++ text_with lines
 at-change time [] some = absurd (some refl)

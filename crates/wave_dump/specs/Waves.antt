@@ -10,7 +10,7 @@ use Rattle.command_text.specs.CommandText.{command_line}
 use Rattle.pie_line.specs.Link.{LinkValue, blf_of}
 use Rattle.reply_text.specs.ReplyText.{reply_line}
 use Rattle.text_fields.specs.Binary.{binary_digit}
-use Rattle.text_fields.specs.Lines.{fields_of, line_feed, text_with}
+use Rattle.text_fields.specs.Lines.{fields_of, text_with}
 use Rattle.wave_dump.specs.Exchanged.{Exchanged}
 use Rattle.wave_dump.specs.declared.exchanged.Gave.{Gave}
 use Rattle.wave_dump.specs.declared.exchanged.Gave.TheVariants as gave
