@@ -35,6 +35,7 @@ shaped_pairs uris EpcText name field = (name, text_value field) ∷ uri_pairs (u
 shaped_pairs uris PlaceOrReason name field = place_or_reason field (number_in field) ∷ []
 shaped_pairs uris Joint name field = []
 
+-- what a field says, by its member
 abbrev pub field_pairs : (uris : List ℕ → Option (List ℕ)) → Key → List ℕ → List Pair
 field_pairs uris key field = shaped_pairs uris (key_shape key) (key_name key) field
 

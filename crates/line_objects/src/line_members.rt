@@ -5,7 +5,7 @@ ghost use Rattle.line_objects.specs.LineMembers.{answer_rows, audit_rows, comman
 use crate::member_names::Key;
 
 /// Which lines: those that one word of the command line writes.
-#[derive(Clone, Copy, Debug, PartialEq, Eq)]
+#[derive(Clone, Copy)]
 pub enum LineSet {
     /// The answers to decode lines.
     Decode,

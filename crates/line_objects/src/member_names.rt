@@ -3,7 +3,7 @@ ghost use Rattle.std.specs.Prelude.{◌≡◌};
 ghost use Rattle.line_objects.specs.MemberNames.{key_name, key_shape};
 
 /// A member that the object of a line may have, without its value.
-#[derive(Clone, Copy, Debug, PartialEq, Eq)]
+#[derive(Clone, Copy)]
 pub enum Key {
     /// What a Select does (6.3.2.11.1.1).
     Action,
@@ -130,7 +130,7 @@ pub enum Key {
 }
 
 /// What the value of a member is made of.
-#[derive(Clone, Copy, Debug, PartialEq, Eq)]
+#[derive(Clone, Copy)]
 pub enum Shape {
     /// A field that is a number.
     Number,
