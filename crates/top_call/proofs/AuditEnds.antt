@@ -1,5 +1,5 @@
 -- What is said of the trace behind a scenario, by the laws of scenarios and of verdicts.
-use Rattle.std.proofs.Common.{◌≡◌, ◌⊎◌, ◌==◌, ℕ, Bool, true, false, List, [], ◌∷◌, length, map, Option, Some, None, if◌then◌else◌, inl, inr, sym, ap, ◌∙◌, subst, arith}
+use Rattle.std.proofs.Common.{◌≡◌, ◌⊎◌, ◌==◌, ℕ, Bool, true, false, List, [], ◌∷◌, length, map, Option, Some, if◌then◌else◌, inl, inr, sym, ap, ◌∙◌, subst, arith}
 use Rattle.std.proofs.lemmas.List.{length-map}
 use Rattle.std.proofs.lemmas.List.Elements.{All-head, All-tail}
 use Rattle.std.specs.Prelude.{All, IfSome}
@@ -49,11 +49,8 @@ same-audit told_apart law bytes one other left right =
 
 -- what is said of exchanges in a scenario is as an audit wants it
 chosen-stream : (choice : Option Choice) → IfSome choice IsChoice → GivesStream choice
-chosen-stream None is = tt
-chosen-stream (Some (choices.Pick reply)) is = tt
-chosen-stream (Some choices.Silent) is = tt
-chosen-stream (Some (choices.Break place)) is = tt
 chosen-stream (Some (choices.Raw levels)) is = is
+chosen-stream choice is = tt
 
 stream-if : (here : Bool) (one other : Entry) → GivesStream one.choice → GivesStream other.choice → GivesStream (if here then one else other).choice
 stream-if true one other is are = is

@@ -122,7 +122,4 @@ other_tells set job source plain sink kept untouched OutOfMemory tells not_done 
 -- each of these words reads its input
 pub objects_read : (set : LineSet) → (objects_job set).input ≡ true
 objects_read sets.Decode = refl
-objects_read sets.Probe = refl
-objects_read sets.Audit = refl
-objects_read sets.Judge = refl
-objects_read sets.Exchanges = refl
+objects_read set = refl

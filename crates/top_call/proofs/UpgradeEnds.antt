@@ -18,33 +18,33 @@ AreLegal = (scenario : Scenario) → IsScenario scenario → IsScenario (upgrade
 abbrev pub ReportTheSame : Type 0
 ReportTheSame = (mode : Mode) (scenario : Scenario) → report_text_of mode (upgraded scenario) ≡ report_text_of mode scenario
 
--- its reports are those of the input
-report_back : AreToldApart → AreLegal → ReportTheSame → (mode : Mode) (bytes text report : List ℕ) → Upgrades bytes text → Reports mode text report → Reports mode bytes report
-report_back told_apart legal same mode bytes text report writes reports =
-    let scenarios : reports.scenario ≡ upgraded writes.scenario =
-    told_apart reports.scenario (upgraded writes.scenario) reports.legal (legal writes.scenario writes.legal) (sym reports.spelled ∙ writes.upgrade) in
-    record {
-      scenario = writes.scenario;
-      legal = writes.legal;
-      spelled = writes.spelled;
-      report = reports.report ∙ ap (report_text_of mode) scenarios ∙ same mode writes.scenario;
-    }
+-- the report of bytes is that of the scenario that they spell
+report_is : AreToldApart → (mode : Mode) (bytes report : List ℕ) (scenario : Scenario) → IsScenario scenario → bytes ≡ scenario_text scenario → Reports mode bytes report
+    → report ≡ report_text_of mode scenario
+report_is told_apart mode bytes report scenario legal spelled reports =
+    reports.report ∙ ap (report_text_of mode) (told_apart reports.scenario scenario reports.legal legal (sym reports.spelled ∙ spelled))
 
-report_on : AreToldApart → AreLegal → ReportTheSame → (mode : Mode) (bytes text report : List ℕ) → Upgrades bytes text → Reports mode bytes report → Reports mode text report
-report_on told_apart legal same mode bytes text report writes reports =
-    let scenarios : reports.scenario ≡ writes.scenario = told_apart reports.scenario writes.scenario reports.legal writes.legal (sym reports.spelled ∙ writes.spelled) in
-    record {
-      scenario = upgraded writes.scenario;
-      legal = legal writes.scenario writes.legal;
-      spelled = writes.upgrade;
-      report = reports.report ∙ ap (report_text_of mode) scenarios ∙ sym (same mode writes.scenario);
-    }
-
--- what is proved of the text
+-- what is proved of the text: its reports are those of the input
 pub proves : AreToldApart → AreLegal → ReportTheSame → (bytes text : List ℕ) → Upgrades bytes text → ProvesUpgrade bytes text
-proves told_apart legal same bytes text writes = record {
-  upgrades = writes;
-  is_text = (upgraded writes.scenario, legal writes.scenario writes.legal, writes.upgrade);
-  same_report = λ mode report. (report_back told_apart legal same mode bytes text report writes, report_on told_apart legal same mode bytes text report writes);
-  once = record { scenario = upgraded writes.scenario; legal = legal writes.scenario writes.legal; spelled = writes.upgrade; upgrade = writes.upgrade };
-}
+proves told_apart legal same bytes text writes =
+    let scenario = writes.scenario in
+    let upgraded_legal = legal scenario writes.legal in
+    record {
+      upgrades = writes;
+      is_text = (upgraded scenario, upgraded_legal, writes.upgrade);
+      same_report = λ mode report. (
+        λ reports. record {
+          scenario = scenario;
+          legal = writes.legal;
+          spelled = writes.spelled;
+          report = report_is told_apart mode text report (upgraded scenario) upgraded_legal writes.upgrade reports ∙ same mode scenario;
+        },
+        λ reports. record {
+          scenario = upgraded scenario;
+          legal = upgraded_legal;
+          spelled = writes.upgrade;
+          report = report_is told_apart mode bytes report scenario writes.legal writes.spelled reports ∙ sym (same mode scenario);
+        },
+      );
+      once = record { scenario = upgraded scenario; legal = upgraded_legal; spelled = writes.upgrade; upgrade = writes.upgrade };
+    }

@@ -65,6 +65,7 @@ fn made_form(seed: &[u8], tags: &[u8]) -> Option<Form>
 fn is_word(word: &[u8], name: &str) -> bool
     ensures { IsTrue result ↔ (word.now ≡ name.now) }
 {
+    // As patterns of a `match` the names would be compared, and proved, byte by byte.
     word == name.as_bytes()
 }
 
