@@ -104,7 +104,7 @@ impl<'a> Access<'a> {
             }
         }
         push_field(bits, u32::from(self.rn), 16);
-        push_crc16(bits);
+        push_crc16(bits, 0);
     }
 
     pub fn decode(bits: &'a [bool]) -> Option<Access<'a>> {

@@ -138,7 +138,7 @@ impl Auditor {
         for &(tag, event) in &entry.events {
             world.scenario.tags.befall(tag, event);
         }
-        world.scenario.tags.hear(&command, &entry.missed, &mut world.replies);
+        world.scenario.tags.hear(&command, &entry.missed, &mut world.answers);
         self.is_ack = matches!(command, Command::Ack { .. });
         self.place = Place::Sending(world.propagate(entry.choice));
         Ok(())
@@ -155,7 +155,7 @@ impl Auditor {
         if exchange.parse() != Ok(world.exchanges) {
             return Err("exchange");
         }
-        if count.parse() != Ok(world.replies.len()) {
+        if count.parse() != Ok(world.answers.len()) {
             return Err("count");
         }
         if levels != if gave { &world.levels[..] } else { &[] } {

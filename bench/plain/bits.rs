@@ -104,13 +104,21 @@ pub fn crc5(bits: &[bool]) -> u32 {
     })
 }
 
+/// A CRC-16 register behind sixteen more bits.
+fn behind_word(register: u16, word: u16) -> u16 {
+    let [upper, lower] = (register ^ word).to_be_bytes();
+    CRC_16[1][usize::from(upper)] ^ CRC_16[0][usize::from(lower)]
+}
+
+/// The CRC-16 of the bits of words.
+pub fn crc16_of_words(words: &[u16]) -> u16 {
+    !words.iter().copied().fold(0xFFFF, behind_word)
+}
+
 /// The CRC-16 of the bits, as it is sent: complemented (annex F).
 pub fn crc16(bits: &[bool]) -> u16 {
     let (words, rest) = bits.as_chunks();
-    let register = words.iter().fold(0xFFFF_u16, |register, word| {
-        let [upper, lower] = (register ^ word_of(word)).to_be_bytes();
-        CRC_16[1][usize::from(upper)] ^ CRC_16[0][usize::from(lower)]
-    });
+    let register = words.iter().map(word_of).fold(0xFFFF, behind_word);
     let (octets, rest) = rest.as_chunks();
     let register = octets.iter().fold(register, |register, octet| {
         CRC_16[0][usize::from(register >> 8) ^ octet_of(octet) as usize] ^ register << 8
@@ -121,9 +129,9 @@ pub fn crc16(bits: &[bool]) -> u16 {
     })
 }
 
-/// Appends the CRC-16 of all bits before it.
-pub fn push_crc16(bits: &mut Vec<bool>) {
-    let crc = crc16(bits);
+/// Appends the CRC-16 of all bits before it, from this place on.
+pub fn push_crc16(bits: &mut Vec<bool>, start: usize) {
+    let crc = crc16(&bits[start..]);
     push_field(bits, u32::from(crc), 16);
 }
 

@@ -215,7 +215,7 @@ fn encode_select(select: &Select, bits: &mut Vec<bool>) {
     push_field(bits, select.mask.len() as u32, 8);
     bits.extend_from_slice(&select.mask);
     bits.push(false);
-    push_crc16(bits);
+    push_crc16(bits, 0);
 }
 
 fn decode_select(bits: &[bool]) -> Option<Select<'_>> {

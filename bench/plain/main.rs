@@ -2,8 +2,9 @@
 //! scenarios as `gen2run run`, `gen2run run trace` and `gen2run run json` do, writes them in version 2 as `gen2run upgrade` does, audits
 //! traces as `gen2run audit` does, compares portals as `gen2run portals` does, names what was listed as `gen2run names` does, and
 //! summarises generated scenarios as `gen2run gen` does, in plain Rust and unproved, so that the time of the proved program can be
-//! compared with it. It does the same work: in a run each command is encoded as a frame and decoded, and each reply that the channel
-//! gives is encoded as a stream of levels and decoded.
+//! compared with it. It does the same work in the same form: in a run each command is encoded as a frame and decoded, each tag that hears
+//! it does so by a method of its own and draws its own words, each answer is written as bits, and the one that the channel gives is
+//! encoded as a stream of levels and decoded. What it doesn't do is to send a frame interval by interval: it writes and reads it whole.
 
 mod access;
 mod audit;
@@ -26,6 +27,7 @@ mod scenario;
 mod tag;
 mod trace;
 mod upgrade;
+mod wheel;
 mod world;
 
 use decode::Explained;

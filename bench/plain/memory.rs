@@ -3,7 +3,7 @@
 use crate::access::{Password, Place};
 use std::ops::Range;
 
-use crate::bits::{crc16, push_words};
+use crate::bits::crc16_of_words;
 use crate::command::Bank;
 use crate::locks::{Field, Locks};
 
@@ -55,9 +55,7 @@ impl Memory {
     }
 
     pub fn store_crc(&mut self) {
-        let mut bits = Vec::new();
-        push_words(&mut bits, self.pc_and_epc());
-        self.epc[0] = crc16(&bits);
+        self.epc[0] = crc16_of_words(self.pc_and_epc());
     }
 
     pub fn password(&self, password: Password) -> u32 {

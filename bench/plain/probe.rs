@@ -20,9 +20,7 @@ pub fn answers(text: &str) -> Result<Vec<u8>, usize> {
     lines.next().filter(|&(_, line)| line == "probe 1").ok_or(1_usize)?;
     let line = lines.next().and_then(|(_, line)| line.strip_prefix("tag ")).ok_or(2_usize)?;
     let fields: Vec<&str> = line.split(' ').collect();
-    let (mut tag, words) = scenario::read_tag(&fields).ok_or(2_usize)?;
-    let mut words = words.iter().copied().cycle();
-    let mut draw = || words.next().unwrap_or_default();
+    let mut tag = scenario::read_tag(&fields).ok_or(2_usize)?;
     let mut output = Vec::new();
     let mut last = 2;
     for (number, line) in lines {
@@ -31,14 +29,14 @@ pub fn answers(text: &str) -> Result<Vec<u8>, usize> {
             output.extend_from_slice(b"done\n");
             return Ok(output);
         }
-        probe(&mut tag, &mut draw, number, line, &mut output).ok_or(number)?;
+        probe(&mut tag, number, line, &mut output).ok_or(number)?;
         last = number;
     }
     Err(last + 1)
 }
 
 /// Lets the tag hear a command or have an event, and writes what comes of it.
-fn probe(tag: &mut Tag, draw: impl FnMut() -> u16, number: usize, line: &str, output: &mut Vec<u8>) -> Option<()> {
+fn probe(tag: &mut Tag, number: usize, line: &str, output: &mut Vec<u8>) -> Option<()> {
     if let Some(event) = line.strip_prefix("event ") {
         tag.befall(read_event(event)?);
     } else {
@@ -50,7 +48,7 @@ fn probe(tag: &mut Tag, draw: impl FnMut() -> u16, number: usize, line: &str, ou
             }
             None => Some(command::read(Fields::new(line.as_bytes())).ok()?),
         };
-        let answer = command.and_then(|command| Some((tag.hear(&command, draw)?, command)));
+        let answer = command.and_then(|command| Some((tag.hear(&command)?, command)));
         write_answer(output, number, tag, answer);
     }
     write_state(output, number, tag);

@@ -134,10 +134,7 @@ impl Scenario {
         let (word, rest) = line.split_once(' ').unwrap_or((line, ""));
         let fields: Vec<&str> = rest.split(' ').collect();
         match word {
-            "tag" => {
-                let (tag, draws) = read_tag(&fields)?;
-                self.tags.push(tag, &draws);
-            }
+            "tag" => self.tags.push(read_tag(&fields)?),
             "copies" if !is_first_version => read_copies(&fields, &mut self.tags)?,
             "air" => self.read_air(&fields)?,
             "select" => self.steps.push(Step::Send(Command::Select(read_select(&fields)?))),
@@ -233,7 +230,11 @@ fn read_words(field: &str) -> Option<Vec<u16>> {
     if field == "-" {
         return Some(Vec::new());
     }
-    field.as_bytes().chunks(4).map(word).collect()
+    let mut words = Vec::with_capacity(field.len() / 4);
+    for digits in field.as_bytes().chunks(4) {
+        words.push(word(digits)?);
+    }
+    Some(words)
 }
 
 fn read_levels(field: &str) -> Option<Vec<u8>> {
@@ -262,10 +263,9 @@ fn read_image(fields: &[&str]) -> Option<(Memory, Vec<u16>)> {
     fits.then_some((memory, draws))
 }
 
-/// A tag, and its draw words.
-pub fn read_tag(fields: &[&str]) -> Option<(Tag, Vec<u16>)> {
+pub fn read_tag(fields: &[&str]) -> Option<Tag> {
     let (memory, draws) = read_image(fields)?;
-    Some((Tag::new(memory), draws))
+    Some(Tag::new(memory, draws))
 }
 
 /// Adds the tags that a copies line stands for. From one to the next the last word of the EPC, that of the TID and each draw word rise by one.
@@ -280,7 +280,7 @@ fn read_copies(fields: &[&str], tags: &mut Population) -> Option<()> {
     }
     let raise = |word: &mut u16| *word = word.wrapping_add(1);
     for _ in 0..count {
-        tags.push(Tag::new(memory.clone()), &draws);
+        tags.push(Tag::new(memory.clone(), draws.clone()));
         raise(&mut memory.epc[last]);
         raise(memory.tid.last_mut()?);
         draws.iter_mut().for_each(raise);

@@ -76,14 +76,14 @@ impl Reply {
         matches!(self, Reply::Done { .. } | Reply::Error { is_read: false, .. })
     }
 
-    /// Writes its bits, from the memory of the tag.
+    /// Adds its bits, from the memory of the tag.
     pub fn spell(&self, memory: &Memory, bits: &mut Vec<bool>) {
-        bits.clear();
+        let start = bits.len();
         let number = match *self {
             Reply::Rn16(rn) => return push_field(bits, u32::from(rn), 16),
             Reply::PcAndEpc => {
                 push_words(bits, memory.pc_and_epc());
-                return push_crc16(bits);
+                return push_crc16(bits, start);
             }
             Reply::Number(number) => number,
             Reply::Words { bank, from, to, handle } => {
@@ -102,36 +102,21 @@ impl Reply {
             }
         };
         push_field(bits, u32::from(number), 16);
-        push_crc16(bits);
+        push_crc16(bits, start);
     }
 }
 
-/// The words that a tag draws, one after another and from the first again: where they stand in a list, and the next.
-#[derive(Clone, Copy)]
-pub struct Draws {
-    from: u32,
-    to: u32,
-    next: u32,
+/// The words that a tag draws, one after another and from the first again. There is at least one.
+struct Draws {
+    words: Box<[u16]>,
+    next: usize,
 }
 
 impl Draws {
-    /// Those that are put behind the list.
-    pub fn push(words: &mut Vec<u16>, drawn: &[u16]) -> Draws {
-        let from = words.len() as u32;
-        words.extend_from_slice(drawn);
-        Draws { from, to: words.len() as u32, next: from }
-    }
-
-    pub fn draw(&mut self, words: &[u16]) -> u16 {
-        self.draw_where(true, words)
-    }
-
-    /// The next word, which stays the next one where it isn't drawn.
-    #[inline]
-    pub fn draw_where(&mut self, is_drawn: bool, words: &[u16]) -> u16 {
-        let word = words[self.next as usize];
-        let behind = self.next + u32::from(is_drawn);
-        self.next = if behind == self.to { self.from } else { behind };
+    fn draw(&mut self) -> u16 {
+        let word = self.words[self.next];
+        let behind = self.next + 1;
+        self.next = if behind == self.words.len() { 0 } else { behind };
         word
     }
 }
@@ -154,44 +139,52 @@ pub enum Event {
 }
 
 pub struct Tag {
-    pub memory: Memory,
+    pub memory: Box<Memory>,
     pub flags: [Flag; 4],
     pub sl: bool,
     pub state: State,
+    draws: Draws,
 }
 
 impl Tag {
-    /// A tag in ready. StoredCRC is computed.
-    pub fn new(mut memory: Memory) -> Tag {
+    /// A tag in ready, which draws these words. StoredCRC is computed.
+    pub fn new(mut memory: Memory, words: Vec<u16>) -> Tag {
         memory.store_crc();
         Tag {
-            memory,
+            memory: Box::new(memory),
             flags: [Flag::A; 4],
             sl: false,
             state: State::Ready,
+            draws: Draws { words: words.into(), next: 0 },
         }
     }
 
-    /// Hears a command, and answers or not. `draw` gives the next word that it draws.
-    pub fn hear(&mut self, command: &Command, draw: impl FnMut() -> u16) -> Option<Reply> {
+    /// Whether it takes part in a round.
+    pub fn is_in_round(&self) -> bool {
+        !matches!(self.state, State::Off | State::Killed | State::Ready)
+    }
+
+    /// Hears a command, and answers or not.
+    #[inline(always)]
+    pub fn hear(&mut self, command: &Command) -> Option<Reply> {
         if matches!(self.state, State::Off | State::Killed) {
             return None;
         }
         match command {
-            Command::QueryRep { session } => self.hear_query_rep(*session, draw),
-            Command::QueryAdjust { session, change } => self.hear_query_adjust(*session, *change, draw),
+            Command::QueryRep { session } => self.hear_query_rep(*session),
+            Command::QueryAdjust { session, change } => self.hear_query_adjust(*session, *change),
             Command::Ack { rn } => self.hear_ack(*rn),
-            Command::Query(query) => self.hear_query(query, draw),
+            Command::Query(query) => self.hear_query(query),
             Command::Select(select) => self.hear_select(select),
             Command::Nak => {
                 self.back();
                 None
             }
-            Command::Access(access) => self.hear_access(access, draw),
+            Command::Access(access) => self.hear_access(access),
         }
     }
 
-    fn hear_query(&mut self, query: &Query, draw: impl FnMut() -> u16) -> Option<Reply> {
+    fn hear_query(&mut self, query: &Query) -> Option<Reply> {
         match self.state {
             State::Acknowledged { round, .. } | State::Held(Held { round, .. })
                 if round.session == query.session =>
@@ -210,17 +203,17 @@ impl Tag {
                 session: query.session,
                 q: query.q,
             };
-            self.enter(round, draw)
+            self.enter(round)
         } else {
             self.state = State::Ready;
             None
         }
     }
 
-    fn hear_query_rep(&mut self, session: u8, draw: impl FnMut() -> u16) -> Option<Reply> {
+    fn hear_query_rep(&mut self, session: u8) -> Option<Reply> {
         match self.state {
             State::Arbitrate { round, slot: 1 } if round.session == session => {
-                Some(self.reply(round, draw))
+                Some(self.reply(round))
             }
             State::Arbitrate { round, slot } if round.session == session => {
                 self.state = State::Arbitrate {
@@ -240,13 +233,14 @@ impl Tag {
         }
     }
 
-    fn hear_query_adjust(&mut self, session: u8, change: Change, draw: impl FnMut() -> u16) -> Option<Reply> {
+    #[inline(always)]
+    fn hear_query_adjust(&mut self, session: u8, change: Change) -> Option<Reply> {
         match self.state {
             State::Arbitrate { round, .. } | State::Reply { round, .. }
                 if round.session == session =>
             {
                 let q = change.apply(round.q);
-                self.enter(Round { session, q }, draw)
+                self.enter(Round { session, q })
             }
             _ => self.hear_end_of_slot(session),
         }
@@ -287,13 +281,13 @@ impl Tag {
         Some(Reply::PcAndEpc)
     }
 
-    fn hear_access(&mut self, access: &Access, mut draw: impl FnMut() -> u16) -> Option<Reply> {
+    fn hear_access(&mut self, access: &Access) -> Option<Reply> {
         match (self.state, &access.order) {
             (State::Acknowledged { round, rn }, Order::ReqRn) => {
                 if rn != access.rn {
                     return None;
                 }
-                let handle = draw();
+                let handle = self.draws.draw();
                 self.state = State::Held(Held {
                     round,
                     secured: self.memory.password(Password::Access) == 0,
@@ -307,13 +301,13 @@ impl Tag {
                 self.back();
                 None
             }
-            (State::Held(held), order) if held.handle == access.rn => self.obey(held, order, draw),
+            (State::Held(held), order) if held.handle == access.rn => self.obey(held, order),
             _ => None,
         }
     }
 
     /// An access command with the tag's handle, in open or secured.
-    fn obey(&mut self, held: Held, order: &Order, mut draw: impl FnMut() -> u16) -> Option<Reply> {
+    fn obey(&mut self, held: Held, order: &Order) -> Option<Reply> {
         let is_awaited = match (held.half, order) {
             (None, _) | (_, Order::ReqRn) => true,
             (Some((awaited, _)), Order::Half { password, .. }) => awaited == *password,
@@ -326,7 +320,7 @@ impl Tag {
         let (handle, secured) = (held.handle, held.secured);
         let changed = match order {
             Order::ReqRn => {
-                let cover = draw();
+                let cover = self.draws.draw();
                 self.state = State::Held(Held {
                     cover: Some(cover),
                     ..held
@@ -412,18 +406,18 @@ impl Tag {
     }
 
     /// Draws a slot: slot 0 replies at once.
-    fn enter(&mut self, round: Round, mut draw: impl FnMut() -> u16) -> Option<Reply> {
-        let slot = draw() & ((1 << round.q) - 1);
+    fn enter(&mut self, round: Round) -> Option<Reply> {
+        let slot = self.draws.draw() & ((1 << round.q) - 1);
         if slot == 0 {
-            return Some(self.reply(round, draw));
+            return Some(self.reply(round));
         }
         self.state = State::Arbitrate { round, slot };
         None
     }
 
     /// Draws an RN16 and replies with it.
-    pub fn reply(&mut self, round: Round, mut draw: impl FnMut() -> u16) -> Reply {
-        let rn = draw();
+    fn reply(&mut self, round: Round) -> Reply {
+        let rn = self.draws.draw();
         self.state = State::Reply { round, rn };
         Reply::Rn16(rn)
     }
@@ -443,10 +437,10 @@ impl Tag {
     }
 
     fn matches(&self, select: &Select) -> bool {
-        let mut bits = Vec::new();
-        push_words(&mut bits, self.memory.bank(select.bank));
+        let bank = self.memory.bank(select.bank);
         let from = select.pointer as usize;
-        bits.get(from..from + select.mask.len()) == Some(&select.mask[..])
+        let is_at = |at: usize, bit: bool| (bank[at / 16] >> (15 - at % 16) & 1 == 1) == bit;
+        from + select.mask.len() <= 16 * bank.len() && (from..).zip(select.mask.iter()).all(|(at, &bit)| is_at(at, bit))
     }
 
     fn hear_select(&mut self, select: &Select) -> Option<Reply> {

@@ -12,7 +12,7 @@ use crate::operation::{ask_number, operate, read_reply};
 use crate::operation::{Answer, Await, Exchange, Failure, Operations, Outcome};
 use crate::pie;
 use crate::json;
-use crate::population::Replied;
+use crate::population::Answers;
 use crate::scenario::{Choice, Round, Rule, Scenario, Several, Step};
 use crate::tag::{State, Tag};
 use crate::trace::{push_received, SymbolTexts};
@@ -88,7 +88,7 @@ pub struct World {
     written: io::Result<()>,
     pub exchanges: u32,
     seen: Seen,
-    pub replies: Vec<Replied>,
+    pub answers: Answers,
     pub bits: Vec<bool>,
     pub intervals: Vec<u32>,
     pub levels: Vec<u8>,
@@ -143,7 +143,7 @@ impl World {
             written: Ok(()),
             exchanges: 0,
             seen: Seen::default(),
-            replies: Vec::new(),
+            answers: Answers::default(),
             bits: Vec::new(),
             intervals: Vec::new(),
             levels: Vec::new(),
@@ -197,7 +197,7 @@ impl World {
         if self.form == Form::Trace {
             self.symbols.push_frame(&mut self.report, self.exchanges, &self.intervals);
             let levels = if gave { &self.levels[..] } else { &[] };
-            push_received(&mut self.report, self.exchanges, self.replies.len(), levels);
+            push_received(&mut self.report, self.exchanges, self.answers.len(), levels);
         }
         if self.report.len() > PIECE {
             self.put_out();
@@ -224,32 +224,29 @@ impl World {
             &self.bits,
             &mut self.intervals,
         );
-        self.replies.clear();
         if pie::decode_frame(&self.intervals, &mut self.bits) {
             if let Some(command) = Command::decode(&self.bits) {
-                self.scenario.tags.hear(&command, missed, &mut self.replies);
+                self.scenario.tags.hear(&command, missed, &mut self.answers);
             }
         }
     }
 
-    /// Writes the levels that the channel gives of the replies, and answers whether it gives any.
+    /// Writes the levels that the channel gives of the answers, and answers whether it gives any.
     pub fn propagate(&mut self, choice: Option<Choice>) -> bool {
-        let several = self.replies.len() > 1 && matches!(self.scenario.several, Several::Break);
-        let (reply, broken) = match choice {
+        let several = self.answers.len() > 1 && matches!(self.scenario.several, Several::Break);
+        let (place, broken) = match choice {
             Some(Choice::Raw(levels)) => {
                 self.levels = levels;
                 return true;
             }
-            None => (self.replies.first(), several.then_some(0)),
-            Some(Choice::Pick(place)) => (self.replies.get(place), None),
-            Some(Choice::Silent) => (None, None),
-            Some(Choice::Break(place)) => (self.replies.first(), Some(place)),
+            None => (0, several.then_some(0)),
+            Some(Choice::Pick(place)) => (place, None),
+            Some(Choice::Silent) => return false,
+            Some(Choice::Break(place)) => (0, Some(place)),
         };
-        let Some(reply) = reply else { return false };
+        let Some((bits, is_extended)) = self.answers.get(place) else { return false };
         let link = &self.scenario.link;
-        self.scenario.tags.spell(*reply, &mut self.bits);
-        link.code
-            .encode(link.trext || reply.1.is_extended(), &self.bits, &mut self.levels);
+        link.code.encode(link.trext || is_extended, bits, &mut self.levels);
         if let Some(place) = broken {
             let place = place % self.levels.len();
             // From 0 to 1, or back.

@@ -83,7 +83,7 @@ impl Reply {
             }
             _ => return false,
         }
-        push_crc16(bits);
+        push_crc16(bits, 0);
         true
     }
 }
