@@ -33,6 +33,7 @@ abbrev pub half_command : Password → ℕ → ℕ → Command
 half_command (Access value) handle half = commands.Access half handle
 half_command (Kill value) handle half = commands.Kill half handle
 
+-- the password itself, 32 bits, whichever of the two it is
 abbrev pub password_value : Password → ℕ
 password_value (Access value) = value
 password_value (Kill value) = value
@@ -84,6 +85,7 @@ dialogue_at (Number purpose) list run answer = behind_heard (behind_number (behi
 dialogue_at Last list run answer = behind_heard (behind_last (later_of list run)) answer
 dialogue_at Done list run answer = done
 
+-- what is done from here on, where the run was given this answer
 abbrev pub dialogue_with : OpList → OpRunValue → Option Answer → Dialogue
 dialogue_with list run answer = dialogue_at run.stage list run answer
 
@@ -98,6 +100,7 @@ abbrev pub answer_in : Move → Option Answer
 answer_in (answered answer) = Some answer
 answer_in told = None
 
+-- the answer of the latest move, which stands first
 abbrev pub last_answer : List Move → Option Answer
 last_answer [] = None
 last_answer (move ∷ moves) = answer_in move

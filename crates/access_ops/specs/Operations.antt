@@ -50,6 +50,7 @@ abbrev pub behind_number : (ℕ → Dialogue) → Reply → Dialogue
 behind_number go_on (Handle number) = go_on number
 behind_number go_on reply = tells results.Broken done
 
+-- a Req_RN with the tag's RN16 or handle, and what follows the number that comes back
 abbrev pub with_number : ℕ → (ℕ → Dialogue) → Dialogue
 with_number rn go_on = sends (commands.ReqRn rn) expects.Handle false (behind_reception (behind_number go_on))
 
@@ -62,6 +63,7 @@ words_expected (suc more) handle = expects.Words (suc more) handle
 abbrev pub upper_half : ℕ → ℕ
 upper_half password = password / 2 ^ 16
 
+-- the lower half, the last 16 bits
 abbrev pub lower_half : ℕ → ℕ
 lower_half password = password % 2 ^ 16
 
@@ -70,6 +72,7 @@ abbrev pub send_lower : (ℕ → Command) → Expect → Bool → ℕ → ℕ �
 send_lower half_command expect extended password handle later =
     with_number handle (λ cover. last_command (half_command (bit_xor (lower_half password) cover)) expect extended later)
 
+-- the upper half under a cover, and the lower one behind it
 abbrev pub send_halves : (ℕ → Command) → Expect → Bool → ℕ → ℕ → Dialogue → Dialogue
 send_halves half_command expect extended password handle later =
     with_number handle (λ cover. sends (half_command (bit_xor (upper_half password) cover)) (expects.Same handle) false

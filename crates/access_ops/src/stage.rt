@@ -31,6 +31,7 @@ impl Password {
         (self.value() % 65536) as u16
     }
 
+    /// The password itself, 32 bits, whichever of the two it is.
     fn value(self) -> u32
         ensures { result ≡ password_value self }
     {

@@ -87,6 +87,7 @@ fn comes_back(alloc: Global, text: &[u8]) -> Result<bool, Unread> {
     Ok(once.as_slice() == text && twice.as_slice() == text)
 }
 
+/// Scenarios whose text is written as it was read.
 const TEXTS: &[&[u8]] = &[ONE_TAG, EACH_LINE, VERSION_2];
 
 #[test]

@@ -43,6 +43,7 @@ fn answer_to(round: &mut Round, outcome: Outcome) -> Next {
 /// Q, the rule for it, the limit, the outcomes, what follows each, and the number of slot commands in the end.
 type RoundRow = (u8, Rule, u32, &'static [u8], &'static [u8], u32);
 
+/// Rounds, of each rule for Q.
 const ROUNDS: &[RoundRow] = &[
     // Qfp 1300, 1000, 1000, 1000, 700, 400: two frames of two slots with a reply in each, and a silent one.
     (1, Rule::Float(300), 20, b"RSWWSS", b"r=r=rQ", 6),

@@ -5,6 +5,7 @@ use epc_sgtin::{Sgtin, SgtinRefusal};
 /// The parts: the filter value, the number of the company's digits, the company, the item and the serial number.
 type Parts = (u8, u8, u64, u32, u64);
 
+/// Parts, and the words of the number that they make, or why they make none.
 const SGTINS: &[(Parts, Result<[u16; 6], SgtinRefusal>)] = &[
     // A public example.
     (

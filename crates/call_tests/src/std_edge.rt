@@ -14,6 +14,7 @@ impl<T> FailsOnce<T> {
         FailsOnce { inner, calls: 0 }
     }
 
+    /// Counts a call, and says whether it fails.
     fn fails(&mut self) -> bool {
         self.calls = self.calls.saturating_add(1);
         self.calls == 2

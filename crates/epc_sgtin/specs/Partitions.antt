@@ -9,6 +9,7 @@ pub record Partition : Type 0 where
   pub item_bits : ℕ
   pub item_digits : ℕ
 
+-- a row of these numbers of bits and digits
 abbrev pub partition_with : ℕ → ℕ → ℕ → ℕ → Partition
 partition_with company_bits company_digits item_bits item_digits =
     record { company_bits = company_bits; company_digits = company_digits; item_bits = item_bits; item_digits = item_digits }

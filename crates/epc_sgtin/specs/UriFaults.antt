@@ -13,6 +13,7 @@ use Rattle.epc_sgtin.specs.declared.tag_uri.UriFault.TheVariants.{Prefix, Parts,
 abbrev pub is_digit : ℕ → Bool
 is_digit byte = nat_le 48 byte && nat_le byte 57
 
+-- a part of a URI that is decimal digits alone
 abbrev pub AreDigits : List ℕ → Type 0
 AreDigits part = AllPass is_digit part
 

@@ -31,6 +31,7 @@ remainder_of preset others message = divide (length message) others (minus (mess
 abbrev pub others5 : List Bool
 others5 = false ∷ true ∷ false ∷ false ∷ true ∷ []
 
+-- what stands in the register before the first bit of a message
 abbrev pub preset5 : List Bool
 preset5 = false ∷ true ∷ false ∷ false ∷ true ∷ []
 
@@ -39,6 +40,7 @@ abbrev pub others16 : List Bool
 others16 =
     false ∷ false ∷ false ∷ true ∷ false ∷ false ∷ false ∷ false ∷ false ∷ false ∷ true ∷ false ∷ false ∷ false ∷ false ∷ true ∷ []
 
+-- what stands in the register before the first bit of a message
 abbrev pub preset16 : List Bool
 preset16 = replicate 16 true
 

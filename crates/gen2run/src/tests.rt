@@ -16,6 +16,7 @@ const ONE_TAG: &str = "gen2 1\nlink 12500 31250 50000 6250 1 fm0 0\n\
     tag 00000000 00000000 0000000000 08001234 E2000001 - A1B2\n\
     round all 0 a 0 300 5\nend\n";
 
+/// The lines of its report.
 const ONE_TAG_LINES: &[&str] = &[
     "list 1 1 0800 1234\n",
     "round 1 quiet 2\n",
@@ -30,6 +31,7 @@ const COLLISION: &str = "gen2 1\nlink 12500 31250 50000 6250 1 fm0 0\n\
     tag 00000000 00000000 0000000000 08005678 E2000002 - 0000333300014444\n\
     round all 0 a 1 300 20\nend\n";
 
+/// The lines of its report.
 const COLLISION_LINES: &[&str] = &[
     "list 1 3 0800 1234\n",
     "list 1 4 0800 5678\n",

@@ -49,6 +49,7 @@ locks_number locks =
 abbrev pub lock_mask_of : ℕ → Field → Pair
 lock_mask_of payload field = pair_at (payload / 2 ^ 10) field
 
+-- the two action bits of a field, the write bit first
 abbrev pub action_of : ℕ → Field → Pair
 action_of payload field = pair_at payload field
 
@@ -66,9 +67,11 @@ pair_after pair mask action =
       permalock = (if mask.permalock then action.permalock else pair.permalock);
     })
 
+-- the pair of a field after a Lock with this payload
 abbrev pub pair_after_lock : Locks → ℕ → Field → Pair
 pair_after_lock locks payload field = pair_after (lock_pair_of locks field) (lock_mask_of payload field) (action_of payload field)
 
+-- the fields in the order in which their pairs stand in a payload
 abbrev pub fields : List Field
 fields = KillWord ∷ AccessWord ∷ Epc ∷ Tid ∷ User ∷ []
 
@@ -76,6 +79,7 @@ fields = KillWord ∷ AccessWord ∷ Epc ∷ Tid ∷ User ∷ []
 abbrev pub masks_user : ℕ → Bool
 masks_user payload = (lock_mask_of payload User).write_bit || (lock_mask_of payload User).permalock
 
+-- a payload that asks to take the permalock of some field off
 abbrev pub takes_any_permalock_off : Locks → ℕ → Bool
 takes_any_permalock_off locks payload = list_any (takes_permalock_off locks payload) fields
 

@@ -28,6 +28,7 @@ allows true false Opened = false
 allows true false Secured = true
 allows true true level = false
 
+-- whether a pair of lock bits allows a use in open or in secured
 abbrev pub pair_allows : Pair → Level → Bool
 pair_allows pair level = allows pair.write_bit pair.permalock level
 

@@ -34,6 +34,7 @@ pub struct Locks {
     pub user: Pair,
 }
 
+/// The fields in the order in which their pairs stand in a payload.
 const FIELDS: [Field; 5] = [
     Field::KillWord,
     Field::AccessWord,

@@ -8,6 +8,7 @@ use Rattle.pie_line.specs.declared.frame_state.FrameState.TheVariants.{Delimiter
 use Rattle.pie_line.specs.Link.{IsTari, IsRtCal, IsTrCal}
 use Rattle.pie_line.specs.Pie.{ArePairs, pair_sums, AreSymbols, HasSums, IsFrame}
 
+-- the RTcal of the header that was read
 abbrev pub rtcal_of : FrameKind → ℕ
 rtcal_of (FrameSync tari rtcal) = rtcal
 rtcal_of (Preamble tari rtcal trcal) = rtcal

@@ -50,6 +50,7 @@ help_lines =
     ∷ codes "  9  of the script alone: there is no program"
     ∷ []
 
+-- what `--help` writes
 abbrev pub help_text : List ℕ
 help_text = text_with help_lines
 
@@ -61,6 +62,7 @@ version_lines =
     ∷ codes "proved with rattle-kit-13f logic dac8208d650f15bf"
     ∷ []
 
+-- what `--version` writes
 abbrev pub version_text : List ℕ
 version_text = text_with version_lines
 

@@ -6,6 +6,7 @@ use Rattle.q_round.specs.declared.round.Next.TheVariants as nexts
 use Rattle.q_round.specs.declared.round.RoundEnd.{RoundEnd}
 use Rattle.q_round.specs.declared.round.RoundEnd.TheVariants as ends
 
+-- the end of the round where there is one, and else this slot command
 abbrev pub next_of : Option RoundEnd → Command → Next
 next_of None command = nexts.Send command
 next_of (Some ends.Quiet) command = nexts.Quiet

@@ -33,6 +33,7 @@ pub record IsCounted (frame : Frame) : Type 0 where
   pub slots : frame.slots ≤ 2 ^ frame.q
   pub refused : frame.refused ≤ frame.slots
 
+-- the frame with one slot more, which had this outcome
 abbrev pub frame_after_outcome : Rule → Outcome → Frame → Frame
 frame_after_outcome rule outcome frame = record {
   q = frame.q;
@@ -55,9 +56,11 @@ IsMovable Up q = q < 15
 IsMovable Same q = Unit {0}
 IsMovable Down q = 0 < q
 
+-- the frame that a QueryAdjust begins, which keeps Qfp
 abbrev pub frame_begun_by : UpDn → Frame → Frame
 frame_begun_by updn frame = record { q = q_moved_by updn frame.q; qfp = frame.qfp; slots = 0; refused = 0; silent = true }
 
+-- a frame that is under way is sound
 abbrev pub IsSoundStage : Stage → Type 0
 IsSoundStage (Underway frame) = IsSoundFrame frame
 IsSoundStage Quiet = Unit {0}
@@ -77,6 +80,7 @@ pub record IsFrameOf (frame : Frame) (spec : SpecValue) (outcomes : List Outcome
   pub refused : frame.refused ≡ refused_in (frame_of spec outcomes)
   pub silent : frame.silent ≡ all_silent (frame_of spec outcomes)
 
+-- where a round stands after these outcomes: within a frame, or at one of its two ends
 abbrev pub IsStageOf : Stage → SpecValue → List Outcome → Type 0
 IsStageOf (Underway frame) spec outcomes = IsFrameOf frame spec outcomes
 IsStageOf Quiet spec outcomes = turn_of spec outcomes ≡ quiet

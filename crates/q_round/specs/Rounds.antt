@@ -32,15 +32,18 @@ qfp_of spec (outcome ∷ before) = qfp_after spec.rule outcome (qfp_of spec befo
 abbrev pub q_nearest : ℕ → ℕ
 q_nearest qfp = (qfp + 500) / 1000
 
+-- nothing was heard in the slot
 abbrev pub is_silent : Outcome → Bool
 is_silent Silence = true
 is_silent Whole = false
 is_silent Refused = false
 
+-- nothing was heard in any of these slots
 abbrev pub all_silent : List Outcome → Bool
 all_silent [] = true
 all_silent (outcome ∷ before) = is_silent outcome && all_silent before
 
+-- 1 where the slot counts as a collision: something was heard that isn't a whole RN16
 abbrev pub one_if_refused : Outcome → ℕ
 one_if_refused Silence = 0
 one_if_refused Whole = 0
@@ -88,6 +91,7 @@ q_moved_by Up q = q + 1
 q_moved_by Same q = q
 q_moved_by Down q = q - 1
 
+-- the Q of what comes next, by what that is and by the Q of the frame
 abbrev pub q_after : Turn → ℕ → ℕ
 q_after (adjust updn) q = q_moved_by updn q
 q_after query q = q
@@ -109,9 +113,11 @@ pub record Course : Type 0 where
   pub q : ℕ
   pub frame : List Outcome
 
+-- where a round stands whose next turn is this one, by the Q and the outcomes of the frame that the last slot is in
 abbrev pub course_with : Turn → ℕ → List Outcome → Course
 course_with turn q frame = record { turn = turn; q = q_after turn q; frame = frame_after turn frame }
 
+-- where a round stands behind these outcomes, the latest first
 abbrev pub course_of : SpecValue → List Outcome → Course
 course_of spec [] = course_with query spec.q []
 course_of spec (outcome ∷ before) =
@@ -119,15 +125,19 @@ course_of spec (outcome ∷ before) =
     let frame = outcome ∷ course.frame in
     course_with (turn_after spec (length before + 1) course.q (qfp_of spec (outcome ∷ before)) frame) course.q frame
 
+-- what comes next behind these outcomes
 abbrev pub turn_of : SpecValue → List Outcome → Turn
 turn_of spec outcomes = (course_of spec outcomes).turn
 
+-- the Q of what comes next behind these outcomes
 abbrev pub q_of : SpecValue → List Outcome → ℕ
 q_of spec outcomes = (course_of spec outcomes).q
 
+-- the outcomes since the last Query or QueryAdjust, the latest first
 abbrev pub frame_of : SpecValue → List Outcome → List Outcome
 frame_of spec outcomes = (course_of spec outcomes).frame
 
+-- a turn as the command that is sent, with the fields of the round and of the link, or as the end of the round
 abbrev pub next_of_turn : SpecValue → LinkValue → Turn → Next
 next_of_turn spec link query = Send (Query link.dr link.code link.trext spec.sel spec.session spec.target spec.q)
 next_of_turn spec link (adjust updn) = Send (QueryAdjust spec.session updn)
@@ -139,6 +149,7 @@ next_of_turn spec link limit = Limit
 abbrev pub next_command : SpecValue → LinkValue → List Outcome → Next
 next_command spec link outcomes = next_of_turn spec link (turn_of spec outcomes)
 
+-- the round ends with this turn
 abbrev pub is_last_turn : Turn → Bool
 is_last_turn query = false
 is_last_turn (adjust updn) = false
@@ -161,6 +172,7 @@ abbrev pub slots_of : SpecValue → List Outcome → ℕ
 slots_of spec [] = 1
 slots_of spec (outcome ∷ before) = slots_of spec before + (if is_over spec (outcome ∷ before) then 0 else 1)
 
+-- what comes next is one of the two ends
 abbrev pub is_end : Next → Bool
 is_end (Send command) = false
 is_end Quiet = true

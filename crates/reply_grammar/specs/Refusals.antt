@@ -40,6 +40,7 @@ PassesCheck (Header handle) bits = EndsWithCheck bits
 abbrev pub HasHeader : List Bool → Type 0
 HasHeader bits = slice_get bits 0 ≡ Some (length bits == error_length)
 
+-- the header bit is as it is expected, where a header is expected
 abbrev pub PassesHeader : Expect → List Bool → Type 0
 PassesHeader Rn16 bits = Unit {0}
 PassesHeader Epc bits = Unit {0}
@@ -53,6 +54,7 @@ PassesHeader (Header handle) bits = HasHeader bits
 abbrev pub HasHandle : ℕ → List Bool → Type 0
 HasHandle handle bits = value_of (part_of bits (length bits - 32) 16) ≡ handle
 
+-- the handle is the one that is expected, where one is
 abbrev pub PassesNumber : Expect → List Bool → Type 0
 PassesNumber Rn16 bits = Unit {0}
 PassesNumber Epc bits = Unit {0}

@@ -3,5 +3,6 @@
 use Rattle.std.specs.Prelude.{ℕ, List, map, nat_le}
 use Rattle.std.specs.Simd.Lanes.{mask_l}
 
+-- the mask of samples at a threshold
 abbrev pub sample_mask_of : ℕ → List ℕ → ℕ
 sample_mask_of threshold samples = mask_l (map (λ sample. nat_le threshold sample) samples)

@@ -47,6 +47,7 @@ pub record IsRestAt (threshold per : ℕ) (samples : List ℕ) (place : ℕ) : T
   pub short : length samples < place + per
   pub before : ArePureBefore threshold per samples group
 
+-- why samples are no whole levels: a mixed group, or a short one at the end
 abbrev pub RefusesSamples : ℕ → ℕ → List ℕ → SliceRefusal → Type 0
 RefusesSamples threshold per samples (Mixed place) = IsMixedAt threshold per samples place
 RefusesSamples threshold per samples (Rest place) = IsRestAt threshold per samples place

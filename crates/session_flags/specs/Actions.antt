@@ -10,9 +10,11 @@ pub record Row : Type 0 where
   pub matching : Effect
   pub not_matching : Effect
 
+-- a row of the table: what happens where the mask matches, and where it doesn't
 abbrev pub action_row : Effect → Effect → Row
 action_row matching not_matching = record { matching = matching; not_matching = not_matching }
 
+-- the table, its rows in the order of the actions
 abbrev pub action_rows : List Row
 action_rows =
     action_row Assert Deassert ∷
@@ -28,6 +30,7 @@ action_rows =
 abbrev pub action_row_of : ℕ → Row
 action_row_of action = slice_index_or action_rows action (action_row Keep Keep)
 
+-- what an action does at a tag that matches the mask or doesn't
 abbrev pub effect_of : ℕ → Bool → Effect
 effect_of action matching = (if matching then (action_row_of action).matching else (action_row_of action).not_matching)
 

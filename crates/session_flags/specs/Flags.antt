@@ -48,12 +48,14 @@ sel_allows All01 sl = true
 sel_allows NotSl sl = not sl
 sel_allows OnlySl sl = sl
 
+-- whether two values of an inventoried flag are the same
 abbrev pub is_side : Side → Side → Bool
 is_side A A = true
 is_side A B = false
 is_side B A = false
 is_side B B = true
 
+-- whether a Query speaks to a tag with these flags: by Sel its SL, and by Target its inventoried flag of the session
 abbrev pub matches : Sel → ℕ → Side → Flags → Bool
 matches sel session target flags = sel_allows sel flags.sl && is_side target (side_of flags session)
 

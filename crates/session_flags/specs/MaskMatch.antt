@@ -9,6 +9,7 @@ begins_with bits [] = true
 begins_with [] (want ∷ mask) = false
 begins_with (bit ∷ bits) (want ∷ mask) = beq bit want && begins_with bits mask
 
+-- whether the mask stands in a bank of these words, from the bit on that the pointer names
 abbrev pub mask_match : List ℕ → ℕ → List Bool → Bool
 mask_match words pointer mask =
     nat_le pointer (length (bits_of_words words)) && begins_with (drop pointer (bits_of_words words)) mask

@@ -6,6 +6,7 @@ ghost use Rattle.session_flags.specs.MaskMatch.{begins_with, mask_match, MaskSta
 use bit_strings::Pointer;
 use command_fields::Mask;
 
+/// The word of a bank at a place, counted from 0; none past the bank.
 fn word_at(words: &[u16], place: usize) -> Option<u16>
     ensures { result ≡ slice_get words.now place }
 {

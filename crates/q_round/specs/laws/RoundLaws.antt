@@ -42,6 +42,7 @@ IsSlotCommand session (QueryAdjust named updn) = named ≡ session
 IsSlotCommand session (QueryRep named) = named ≡ session
 IsSlotCommand session command = ⊥
 
+-- the round goes on, by a slot command of this session
 abbrev pub SendsSlotCommand : ℕ → Next → Type 0
 SendsSlotCommand session (Send command) = IsSlotCommand session command
 SendsSlotCommand session Quiet = ⊥

@@ -23,6 +23,7 @@ use Rattle.reply_wire.specs.Received.{IsUnexpected, IsReceived}
 abbrev pub ReplyOrFault : Expect → List Bool → Type 0
 ReplyOrFault expect bits = ((reply : Reply) × AnswersExpected reply expect bits) ⊎ ((refusal : ReplyRefusal) × RefusesReply refusal expect bits)
 
+-- something is received of these levels
 abbrev pub SomeReceived : Table → Bool → Expect → List Bool → Type 0
 SomeReceived t trext expect levels = (answer : Received) × IsReceived t trext expect levels answer
 
