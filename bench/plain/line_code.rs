@@ -47,6 +47,7 @@ const fn bits() -> [[bool; TOGETHER]; VALUES] {
 }
 
 /// A code with a table of its blocks.
+#[derive(Clone)]
 pub struct LineCode {
     code: Code,
     /// The number of levels per bit.

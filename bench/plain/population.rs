@@ -6,6 +6,7 @@ use crate::command::Command;
 use crate::tag::{Event, State, Tag};
 use crate::wheel::Wheel;
 
+#[derive(Clone)]
 pub struct Population {
     tags: Vec<Tag>,
     /// The tags in arbitrate. Their slot counters stand here, and are written back before a tag hears anything.

@@ -1,5 +1,6 @@
 //! Compares two portals, beside each other and alone, as `gen2run portals` does.
 
+use std::collections::BTreeMap;
 use std::io::Write;
 
 use crate::scenario::{self, Scenario, Step};
@@ -10,13 +11,10 @@ type Listed = (Vec<Vec<u16>>, bool);
 
 /// The lines of the rounds, or the number of the scenario's first line that can't be read.
 pub fn lines(text: &str) -> Result<Vec<u8>, usize> {
-    let played = |keeps: fn(usize) -> bool| -> Result<Vec<Listed>, usize> {
-        let mut scenario = scenario::read(text)?;
-        let steps = std::mem::take(&mut scenario.steps);
-        Ok(rounds_of(scenario, steps.into_iter().enumerate().filter(|(at, _)| keeps(*at)).map(|(_, step)| step).collect()))
-    };
-    let joint = played(|_| true)?;
-    let alone = [played(|at| at % 2 == 0)?, played(|at| at % 2 == 1)?];
+    let scenario = scenario::read(text)?;
+    let steps = &scenario.steps;
+    let joint = rounds_of(&scenario, steps.iter());
+    let alone = [0, 1].map(|portal| rounds_of(&scenario, steps.iter().skip(portal).step_by(2)));
     let mut output = Vec::new();
     for (portal, alone) in alone.iter().enumerate() {
         for (number, (alone, joint)) in alone.iter().zip(joint.iter().skip(portal).step_by(2)).enumerate() {
@@ -29,8 +27,11 @@ pub fn lines(text: &str) -> Result<Vec<u8>, usize> {
     Ok(output)
 }
 
-fn rounds_of(scenario: Scenario, steps: Vec<Step>) -> Vec<Listed> {
-    let mut world = World::new(scenario, Form::Plain);
+/// The rounds of these steps, played with the tags of the scenario as they are at its start.
+fn rounds_of<'a>(scenario: &Scenario, steps: impl Iterator<Item = &'a Step>) -> Vec<Listed> {
+    let (link, tags) = (scenario.link.clone(), scenario.tags.clone());
+    let begun = Scenario { link, several: scenario.several, tags, air: BTreeMap::new(), steps: Vec::new() };
+    let mut world = World::new(begun, Form::Plain);
     world.rounds = Some(Vec::new());
     world.play(steps);
     let mut rounds = world.rounds.take().unwrap_or_default();

@@ -13,6 +13,7 @@ use crate::pie::Timing;
 use crate::population::Population;
 use crate::tag::{Event, Expiry, Tag};
 
+#[derive(Clone)]
 pub struct Link {
     pub timing: Timing,
     pub divide_ratio: u32,

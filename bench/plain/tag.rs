@@ -24,7 +24,9 @@ pub struct Held {
     pub half: Option<(Password, u16)>,
 }
 
+/// Its kind has a byte of its own, which is quicker to look at than a value that another field never has.
 #[derive(Clone, Copy)]
+#[repr(u8)]
 pub enum State {
     Off,
     Killed,
@@ -107,6 +109,7 @@ impl Reply {
 }
 
 /// The words that a tag draws, one after another and from the first again. There is at least one.
+#[derive(Clone)]
 struct Draws {
     words: Box<[u16]>,
     next: usize,
@@ -138,6 +141,7 @@ pub enum Event {
     Expire(Expiry),
 }
 
+#[derive(Clone)]
 pub struct Tag {
     pub memory: Box<Memory>,
     pub flags: [Flag; 4],

@@ -13,6 +13,7 @@ struct Seat {
     next: u16,
 }
 
+#[derive(Clone)]
 pub struct Wheel {
     /// By session, the place of slot counter 0 among its places.
     bases: [u16; 4],

@@ -128,7 +128,7 @@ fn play_steps(mut scenario: Scenario, form: Form, output: Option<Stdout>) -> Wor
     if form == Form::Trace {
         world.report = world.frequency();
     }
-    world.play(steps);
+    world.play(steps.iter());
     world
 }
 
@@ -156,17 +156,17 @@ impl World {
     }
 
     /// Plays the steps.
-    pub fn play(&mut self, steps: Vec<Step>) {
+    pub fn play<'a>(&mut self, steps: impl Iterator<Item = &'a Step>) {
         let mut rounds = 0;
         for step in steps {
             match step {
                 Step::Send(command) => {
-                    self.exchange(&command, false);
+                    self.exchange(command, false);
                 }
-                Step::Event(tag, event) => self.scenario.tags.befall(tag, event),
+                Step::Event(tag, event) => self.scenario.tags.befall(*tag, *event),
                 Step::Round(round, operations) => {
                     rounds += 1;
-                    self.play_round(rounds, &round, &operations);
+                    self.play_round(rounds, round, operations);
                 }
             }
         }
