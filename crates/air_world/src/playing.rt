@@ -139,7 +139,6 @@ fn tell_run<L: Ledger, R: Listener>(
         (IsCutShort R.hears R.failed report.old report.new
         (run_lines (start_of scenario.now) scenario.now.steps)) }
 {
-    round_laws();
     prove!(air.len() <= u32::from(MOST_TAGS));
     let bits = Bits::new(alloc, LONGEST_STREAM)?;
     let empty = empty_entry(alloc);
