@@ -7,7 +7,7 @@ ghost use Rattle.air_model.specs.Channel.{lead_of, wave_for};
 ghost use Rattle.air_channel.specs.BufferSizes.{IsShortFrame, room_for_frames};
 
 use bit_strings::Bits;
-use command_grammar::{Command, CommandRefusal, Framer, Pushed, encode_command};
+use command_grammar::{Command, CommandRefusal, Framer, encode_command};
 use pie_line::{Edge, Edges, FrameTaker, Intervals, Lead, Link, send_frame};
 use std::marker::Model;
 
@@ -130,14 +130,14 @@ impl<'a> FrameTaker for Taking<'a> {
     }
 }
 
-/// Has a framer take one of the few bits that `Edges::push` tells, and gives what the bits now are. It stays a function of its
-/// own, so that what the compiler makes of each interval is short.
+/// Has a framer take one of the few bits that `Edges::push` tells. It stays a function of its own, so that what the compiler makes
+/// of each interval is short.
 #[inline(never)]
-fn push_seldom(framer: &mut Framer, bit: bool) -> Pushed
+fn push_seldom(framer: &mut Framer, bit: bool)
     ensures { (bits : List Bool) → FramerStandsFor framer.old bits
         → FramerStandsFor framer.new (bits ++ bit ∷ []) }
 {
-    framer.push(bit)
+    framer.push(bit);
 }
 
 /// With which header the frame of a command begins (6.3.1.2.8).
