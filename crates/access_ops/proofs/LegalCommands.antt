@@ -11,7 +11,7 @@ use Rattle.reply_grammar.specs.declared.expected.Expect.TheVariants as expects
 use Rattle.reply_grammar.specs.declared.expected.Received.TheVariants.{Whole, Refused}
 use Rattle.reply_grammar.specs.declared.expected.Reply.{Reply}
 use Rattle.reply_grammar.specs.declared.expected.Reply.TheVariants.{Handle, Error}
-use Rattle.reply_grammar.specs.Table.{IsReply}
+use Rattle.reply_grammar.specs.Replies.{IsReply}
 use Rattle.access_ops.specs.declared.Op.{Op}
 use Rattle.access_ops.specs.declared.Op.TheVariants.{Read, Write, BlockWrite, BlockErase, Lock, Access, Kill}
 use Rattle.access_ops.specs.declared.OpList.{OpList}

@@ -11,7 +11,7 @@ use Rattle.reply_grammar.specs.declared.expected.Received.TheVariants.{Whole, Re
 use Rattle.reply_grammar.specs.declared.expected.Reply.{Reply}
 use Rattle.reply_grammar.specs.declared.expected.Reply.TheVariants.{Handle, Words, Error}
 use Rattle.reply_grammar.specs.Reception.{Reception, no_stream, whole_reply, no_such_reply, reception_from}
-use Rattle.reply_grammar.specs.Table.{Suits, IsReply}
+use Rattle.reply_grammar.specs.Replies.{Suits, IsReply}
 use Rattle.access_ops.specs.declared.Op.{Op}
 use Rattle.access_ops.specs.declared.Op.TheVariants.{Read, Write, BlockWrite, BlockErase, Lock, Access, Kill}
 use Rattle.access_ops.specs.declared.OpList.{OpList}

@@ -2,11 +2,11 @@
 //! EPCglobal Class-1 Generation-2 standard, version 1.2.0).
 #![tactic(auto)]
 
-mod answers;
 mod copies;
 mod laws;
 mod op_next;
 mod op_run;
+mod operation_results;
 mod stage;
 
 pub use bit_strings::{Count1, List, Payload, Pointer};

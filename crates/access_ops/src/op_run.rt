@@ -4,9 +4,9 @@ ghost use Rattle.access_ops.specs.Operations.{Move, behind_last, behind_number, 
 ghost use Rattle.access_ops.specs.OpRunValue.{Does, IsNextOperation, OpRunStandsFor, behind_cover, behind_heard, behind_purpose, last_answer, later_of, result_in_reply, turns_at, turns_in, turns_left};
 ghost use Rattle.access_ops.specs.declared.OpList.{OpList};
 
-use crate::answers::tell_reply;
 use crate::copies::copy_of_block;
 use crate::op_next::{Answer, OpNext, OpResult};
+use crate::operation_results::tell_reply;
 use crate::stage::{Covered, Password, Purpose, Stage};
 use crate::{Op, OpList};
 use bit_strings::{Count1, xor16};

@@ -10,7 +10,7 @@ use Rattle.air_events.specs.declared.Several.{Several}
 use Rattle.command_grammar.specs.declared.commands.Command.{Command}
 use Rattle.pie_line.specs.Link.{LinkValue}
 use Rattle.tag_machine.specs.Answers.{Outcome}
-use Rattle.tag_machine.specs.Exchange.{AreLegalTags, outcomes_in, replies_from, tags_after}
+use Rattle.tag_machine.specs.TagsInExchange.{AreLegalTags, outcomes_in, replies_from, tags_after}
 use Rattle.tag_machine.specs.TagValue.{TagValue}
 use Rattle.air_model.specs.Channel.{given_of, heard_levels}
 use Rattle.air_model.specs.Past.{Start, Item, exchanged, exchanges_in, next_entry, tags_behind}

@@ -10,7 +10,7 @@ use Rattle.line_codes.specs.Codes.{table_of}
 use Rattle.pie_line.specs.Link.{LinkValue}
 use Rattle.reply_grammar.proofs.Suiting.{spelling-within}
 use Rattle.tag_machine.specs.Answers.{IsSent}
-use Rattle.tag_machine.specs.Exchange.{Replied}
+use Rattle.tag_machine.specs.TagsInExchange.{Replied}
 use Rattle.tag_population.specs.Answers.{AnswerValue, answer_of, answers_of}
 use Rattle.air_model.specs.Channel.{default_given, first_broken, heard_levels, whole_or_silence}
 use Rattle.air_model.proofs.ReceptionLaws.{few_words, levels_least}

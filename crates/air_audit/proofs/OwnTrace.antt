@@ -12,7 +12,7 @@ use Rattle.command_grammar.specs.declared.commands.Command.TheVariants as comman
 use Rattle.pie_line.specs.Link.{LinkValue, IsLegalLink}
 use Rattle.reply_grammar.specs.Reception.{Reception, whole_reply}
 use Rattle.reply_grammar.specs.declared.expected.Reply.TheVariants as replies
-use Rattle.report_lines.specs.Kept.{keeps}
+use Rattle.report_lines.specs.ModeLines.{keeps}
 use Rattle.report_lines.specs.ReportLine.{ReportLine, MissedLine, GivenLine, TxLine, OpLine, RoundLine, SeenLine, DoneLine}
 use Rattle.report_lines.specs.SeenCounts.{SeenCount}
 use Rattle.report_lines.specs.declared.mode.Mode.TheVariants.{Trace}
@@ -26,7 +26,7 @@ use Rattle.runs.specs.ScenarioStart.{history, start_of}
 use Rattle.scenario.specs.Limits.{IsScenario}
 use Rattle.scenario.specs.declared.values.Scenario.{Scenario}
 use Rattle.scenario.specs.declared.values.Step.{Step}
-use Rattle.tag_machine.specs.Exchange.{outcome_in}
+use Rattle.tag_machine.specs.TagsInExchange.{outcome_in}
 use Rattle.tag_machine.specs.TagValue.{TagValue}
 use Rattle.report_lines.specs.ReadLines.{text_of}
 use Rattle.checked_lines.specs.TextRules.{HasOutcomeFrom, Lead, Whole}

@@ -14,7 +14,7 @@ use Rattle.reply_grammar.specs.declared.expected.Received.{Received}
 use Rattle.reply_grammar.specs.declared.expected.Reply.TheVariants as replies
 use Rattle.reply_wire.specs.Heard.{pair_received}
 use Rattle.reply_wire.specs.Received.{IsReceived}
-use Rattle.tag_machine.specs.Exchange.{Replied}
+use Rattle.tag_machine.specs.TagsInExchange.{Replied}
 use Rattle.air_model.specs.Channel.{Given, IsOfStreamLength, whole_or_silence, first_broken, default_given, given_of, got_of, heard_levels, silence, broken}
 use Rattle.air_model.specs.Past.{Start, Record, Item, next_entry, next_record, tags_behind}
 use Rattle.air_model.specs.Reception.{IsGivenFor, reception_of}

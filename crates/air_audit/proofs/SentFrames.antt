@@ -9,7 +9,7 @@ use Rattle.pie_line.specs.declared.frame.FrameKind.{FrameKind}
 use Rattle.pie_line.specs.declared.frame.PieRefusal.{PieRefusal}
 use Rattle.air_model.specs.Channel.{lead_of}
 use Rattle.air_audit.specs.LineRefusals.{IsNoTxLine}
-use Rattle.air_audit.specs.Sent.{IsNoFrame, ReadsCommand, ReadsFrame}
+use Rattle.air_audit.specs.SentFrame.{IsNoFrame, ReadsCommand, ReadsFrame}
 use Rattle.report_lines.specs.ReadLines.{TxFields}
 use Rattle.air_audit.specs.TraceLines.{AreFrameOf, FrameBeginsWith}
 use Rattle.air_audit.specs.declared.verdict.AuditReason.{AuditReason}

@@ -14,12 +14,12 @@ use Rattle.lock_rules.specs.declared.locks.Pair.{Pair}
 use Rattle.pie_line.specs.Link.{LinkValue}
 use Rattle.q_round.specs.declared.round.RoundEnd.{RoundEnd}
 use Rattle.q_round.specs.declared.round.RoundEnd.TheVariants as ends
-use Rattle.report_lines.specs.Kept.{keeps, line_text_of}
+use Rattle.report_lines.specs.ModeLines.{keeps, line_text_of}
 use Rattle.report_lines.specs.ReportLine.{ReportLine, BlfLine, TxLine, RxLine, ListLine, OpLine, RoundLine, SeenLine, TagLine, DoneLine, end_word, state_word, flags_word, result_fields, report_fields, text_by}
-use Rattle.report_lines.specs.Spelled.{text_in}
+use Rattle.report_lines.specs.ModeReport.{text_in}
 use Rattle.report_lines.specs.declared.mode.Mode.TheVariants.{Trace}
 use Rattle.session_flags.specs.declared.flags.Flags.{Flags}
-use Rattle.tag_machine.specs.Names.{name_of}
+use Rattle.tag_machine.specs.StateNames.{name_of}
 use Rattle.tag_machine.specs.declared.states.StateName.{StateName}
 use Rattle.tag_machine.specs.declared.states.StateName.TheVariants as names
 use Rattle.text_fields.specs.Binary.{binary_digit}

@@ -3,7 +3,7 @@ use Rattle.std.proofs.Common.{◌≡◌, ◌≢◌, ℕ, ◌+◌, ◌≤◌, Lis
 use Rattle.text_fields.specs.Lines.{lines_of}
 use Rattle.air_events.specs.Cursor.{AreEntriesLeft}
 use Rattle.air_events.specs.declared.Entry.{Entry}
-use Rattle.tag_machine.specs.Exchange.{AreLegalTags}
+use Rattle.tag_machine.specs.TagsInExchange.{AreLegalTags}
 use Rattle.tag_machine.specs.TagValue.{TagValue}
 use Rattle.air_model.specs.Past.{Start, Item, tags_behind_from}
 use Rattle.checked_lines.specs.TextRules.{IsText}

@@ -1,7 +1,7 @@
 -- What an auditor hears, and the room of its buffers.
 use Rattle.std.specs.Prelude.{ℕ, ◌≤◌, Bool, List, length}
 use Rattle.pie_line.specs.Link.{LinkValue}
-use Rattle.reply_grammar.specs.Table.{longest_reply}
+use Rattle.reply_grammar.specs.Replies.{longest_reply}
 use Rattle.tag_population.specs.Answers.{AnswerValue}
 
 -- the room that an audit has for the stream of each reply, in levels

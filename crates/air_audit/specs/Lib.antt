@@ -5,7 +5,7 @@ pub mod LineRefusals
 pub mod AuditedTrace
 pub mod FirstRefusal
 pub mod OwnTraces
-pub mod Sent
+pub mod SentFrame
 pub mod HeardLevels
 pub mod Auditing
 pub mod TraceBehind

@@ -15,12 +15,12 @@ ghost use Rattle.air_audit.specs.Standing.{TraceStanding, begun, between, listin
 ghost use Rattle.report_lines.specs.ReadLines.{first_field};
 
 use crate::AuditReason;
+use crate::expected_lines::is_text;
 use crate::heard_levels::{HeardLevels, STREAM_ROOM};
 use crate::rounds::place_of_command;
 use crate::rx_line::compare_rx_line;
 use crate::sent_frame::SentFrame;
 use crate::stop::Stop;
-use crate::texts::is_text;
 use crate::trace_line_words::{Word, word_of_line};
 use air_events::EntryCursor;
 use bit_strings::{Bits, OutOfMemory};

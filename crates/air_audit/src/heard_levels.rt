@@ -2,7 +2,7 @@
 ghost use Rattle.std.specs.Prelude.{◌≡◌, ◌%◌, ◌≤◌, List, [], length, slice_get, IfOk};
 ghost use Rattle.std.specs.List.{All};
 ghost use Rattle.line_code.specs.TableFacts.{with_level_flipped};
-ghost use Rattle.tag_machine.specs.Exchange.{Replied};
+ghost use Rattle.tag_machine.specs.TagsInExchange.{Replied};
 ghost use Rattle.tag_population.specs.Answers.{answers_of};
 ghost use Rattle.air_model.specs.Channel.{HasFewLevels, default_given, first_broken, given_of, heard_levels, whole_or_silence};
 ghost use Rattle.air_audit.specs.HeardLevels.{IsShortAnswer, room_for_audited_streams};
@@ -34,7 +34,7 @@ pub(crate) struct HeardLevels {
 
 impl Model for HeardLevels {
     ghost use Rattle.std.specs.Prelude.{◌≡◌};
-    ghost use Rattle.reply_grammar.specs.Table.{longest_reply};
+    ghost use Rattle.reply_grammar.specs.Replies.{longest_reply};
     ghost use Rattle.air_audit.specs.HeardLevels.{HeardValue, room_for_audited_streams};
 
     ghost Value = { HeardValue };

@@ -6,7 +6,7 @@ ghost use Rattle.runs.specs.Report.{report_text_of};
 ghost use Rattle.runs.specs.ScenarioStart.{start_of};
 ghost use Rattle.scenario.specs.Limits.{IsScenario};
 ghost use Rattle.scenario.specs.declared.values.Scenario.{Scenario};
-ghost use Rattle.tag_machine.specs.Exchange.{AreLegalTags};
+ghost use Rattle.tag_machine.specs.TagsInExchange.{AreLegalTags};
 ghost use Rattle.air_audit.specs.AuditedTrace.{IsAudited};
 ghost use Rattle.air_audit.specs.FirstRefusal.{IsAuditVerdict, IsFirstRefusal, IsFirstThatBeginsNone};
 ghost use Rattle.air_audit.specs.OwnTraces.{HasNoEventStep};

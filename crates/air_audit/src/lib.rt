@@ -2,6 +2,7 @@
 #![tactic(auto)]
 
 mod auditor;
+mod expected_lines;
 mod fields;
 mod heard_levels;
 mod laws;
@@ -9,7 +10,6 @@ mod rounds;
 mod rx_line;
 mod sent_frame;
 mod stop;
-mod texts;
 mod trace_behind;
 mod trace_line_words;
 mod traces;

@@ -5,7 +5,7 @@ ghost use Rattle.command_grammar.specs.declared.commands.Command.{Command};
 ghost use Rattle.pie_line.specs.Pie.{longest_interval};
 ghost use Rattle.air_model.specs.Channel.{lead_of};
 ghost use Rattle.air_audit.specs.LineRefusals.{IsNoTxLine};
-ghost use Rattle.air_audit.specs.Sent.{IsNoFrame, ReadsFrame, ReadsCommand};
+ghost use Rattle.air_audit.specs.SentFrame.{IsNoFrame, ReadsFrame, ReadsCommand};
 ghost use Rattle.report_lines.specs.ReadLines.{first_field};
 ghost use Rattle.air_audit.specs.TraceLines.{FrameBeginsWith};
 

@@ -6,7 +6,7 @@ use Rattle.air_events.specs.declared.Event.{Event}
 use Rattle.command_grammar.specs.declared.commands.Command.{Command}
 use Rattle.tag_machine.specs.Answers.{Outcome, IsSent}
 use Rattle.tag_machine.specs.TagValue.{TagValue}
-use Rattle.tag_machine.specs.Exchange.{outcomes_in, replies_in, Replied, replies_from, tags_after, IsQueryRep, busy_from}
+use Rattle.tag_machine.specs.TagsInExchange.{outcomes_in, replies_in, Replied, replies_from, tags_after, IsQueryRep, busy_from}
 use Rattle.tag_population.specs.Answers.{AnswersValue, AnswerValue, answers_of}
 use Rattle.tag_population.specs.Hearing.{tags_after_events, hearing_from}
 use Rattle.air_model.specs.Channel.{given_in, wave_for, heard_levels}

@@ -10,10 +10,10 @@ use Rattle.air_events.specs.declared.Several.TheVariants as severals
 use Rattle.line_code.specs.Stream.{stream_of}
 use Rattle.line_codes.specs.Codes.{table_of}
 use Rattle.pie_line.specs.Link.{LinkValue}
-use Rattle.reply_grammar.specs.Table.{longest_reply}
+use Rattle.reply_grammar.specs.Replies.{longest_reply}
 use Rattle.reply_grammar.proofs.Suiting.{spelling-within}
 use Rattle.tag_machine.specs.Answers.{IsSent}
-use Rattle.tag_machine.specs.Exchange.{Replied}
+use Rattle.tag_machine.specs.TagsInExchange.{Replied}
 use Rattle.tag_population.specs.Answers.{AnswerValue, answer_of, answer_value_of}
 use Rattle.tag_population.specs.declared.answers.Answer.{Answer}
 use Rattle.air_model.specs.Channel.{whole_or_silence, first_broken, first_of_several, default_given, silence, broken, levels_of}

@@ -6,7 +6,7 @@ use Rattle.air_events.specs.declared.Several.{Several}
 use Rattle.command_grammar.specs.declared.commands.Command.{Command}
 use Rattle.pie_line.specs.Link.{LinkValue}
 use Rattle.tag_machine.specs.TagValue.{TagValue}
-use Rattle.tag_machine.specs.Exchange.{outcomes_in, replies_in, tags_after, tags_after_event}
+use Rattle.tag_machine.specs.TagsInExchange.{outcomes_in, replies_in, tags_after, tags_after_event}
 use Rattle.tag_population.specs.Answers.{AnswerValue, answers_of}
 use Rattle.air_model.specs.Channel.{given_in, heard_levels, wave_for}
 

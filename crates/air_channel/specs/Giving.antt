@@ -5,7 +5,7 @@ use Rattle.line_code.specs.Stream.{stream_of}
 use Rattle.line_codes.specs.Codes.{table_of}
 use Rattle.pie_line.specs.Link.{LinkValue}
 use Rattle.tag_machine.specs.Answers.{IsSent}
-use Rattle.tag_machine.specs.Exchange.{Replied}
+use Rattle.tag_machine.specs.TagsInExchange.{Replied}
 use Rattle.tag_population.specs.Answers.{AnswerValue, answer_of, answers_of, answer_value_of}
 use Rattle.tag_population.specs.declared.answers.Answer.{Answer}
 

@@ -8,7 +8,7 @@ ghost use Rattle.pie_line.specs.Pie.{longest_interval};
 ghost use Rattle.tag_machine.specs.Answers.{IsSent};
 ghost use Rattle.tag_machine.specs.Hearing.{tag_value_of};
 ghost use Rattle.tag_machine.specs.TagValue.{IsLegalTag};
-ghost use Rattle.tag_machine.specs.Exchange.{AreLegalTags, IsQueryRep, busy_from, replies_in};
+ghost use Rattle.tag_machine.specs.TagsInExchange.{AreLegalTags, IsQueryRep, busy_from, replies_in};
 ghost use Rattle.air_channel.specs.Air.{NamesTags, air_after, air_after_event};
 ghost use Rattle.air_model.specs.Channel.{HasFewLevels, given_in, got_of};
 ghost use Rattle.air_channel.specs.Lent.{KeepsAir};

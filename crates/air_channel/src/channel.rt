@@ -2,8 +2,8 @@
 ghost use Rattle.std.specs.Prelude.{◌≡◌, ◌<◌, ◌≤◌, [], List, length, slice_get};
 ghost use Rattle.air_events.specs.Streams.{longest_stream};
 ghost use Rattle.line_code.specs.TableFacts.{with_level_flipped};
-ghost use Rattle.reply_grammar.specs.Table.{longest_reply};
-ghost use Rattle.tag_machine.specs.Exchange.{Replied};
+ghost use Rattle.reply_grammar.specs.Replies.{longest_reply};
+ghost use Rattle.tag_machine.specs.TagsInExchange.{Replied};
 ghost use Rattle.air_model.specs.Channel.{HasFewLevels, default_given, first_broken, given_of, got_of, heard_levels, whole_or_silence};
 ghost use Rattle.air_model.specs.declared.got.Got.TheVariants as Got;
 ghost use Rattle.air_channel.specs.Giving.{AreSentAnswers, answer_levels};

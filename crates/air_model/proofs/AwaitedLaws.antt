@@ -11,13 +11,13 @@ use Rattle.line_codes.specs.Codes.{table_of}
 use Rattle.line_codes.proofs.Preambles.{code_has_one_preamble, code_keeps_preamble}
 use Rattle.pie_line.specs.Link.{LinkValue}
 use Rattle.reply_grammar.specs.Reception.{no_stream, whole_reply, no_such_reply, reception_from}
-use Rattle.reply_grammar.specs.Table.{AnswersExpected, spelling}
+use Rattle.reply_grammar.specs.Replies.{AnswersExpected, spelling}
 use Rattle.reply_grammar.specs.declared.expected.Expect.{Expect}
 use Rattle.reply_grammar.specs.declared.expected.Received.{Received}
 use Rattle.reply_grammar.specs.declared.expected.Received.TheVariants.{Whole, Refused}
 use Rattle.tag_machine.specs.Answers.{Sent}
 use Rattle.air_model.specs.Channel.{Given, silence, whole, broken, raw, levels_of, heard_levels, got_of, IsReadBy}
-use Rattle.tag_machine.specs.Exchange.{Replied}
+use Rattle.tag_machine.specs.TagsInExchange.{Replied}
 use Rattle.reply_wire.specs.Received.{IsReceived}
 use Rattle.reply_wire.specs.Receiving.{received_of}
 use Rattle.reply_wire.proofs.ReceivedLaws.{same_bits, same_received, received_is}

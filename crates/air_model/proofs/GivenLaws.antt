@@ -8,7 +8,7 @@ use Rattle.air_events.specs.declared.Several.TheVariants as severals
 use Rattle.pie_line.specs.Link.{LinkValue}
 use Rattle.tag_machine.specs.Answers.{Sent}
 use Rattle.air_model.specs.Channel.{whole_or_silence, given_of, IsReadBy, IsOfReplies, GoesByReplies}
-use Rattle.tag_machine.specs.Exchange.{Replied}
+use Rattle.tag_machine.specs.TagsInExchange.{Replied}
 use Rattle.air_model.specs.Reception.{HoldsOfSent}
 
 -- what holds of each reply holds of the one of a number

@@ -11,7 +11,7 @@ use Rattle.line_code.specs.Stream.{stream_of, Streams}
 use Rattle.line_codes.specs.laws.Codes.{code_refuses_flips, stream_least, stream_most}
 use Rattle.line_codes.specs.Codes.{table_of}
 use Rattle.pie_line.specs.Link.{LinkValue}
-use Rattle.reply_grammar.specs.Table.{AnswersExpected, FitsBank, IsReply, Suits, handle_of, spelling, suits}
+use Rattle.reply_grammar.specs.Replies.{AnswersExpected, FitsBank, IsReply, Suits, handle_of, spelling, suits}
 use Rattle.reply_grammar.proofs.Replies.{answers_from}
 use Rattle.reply_grammar.proofs.Suiting.{suits-true, spelling-within}
 use Rattle.reply_grammar.specs.declared.expected.Expect.{Expect}
@@ -23,7 +23,7 @@ use Rattle.reply_grammar.specs.declared.expected.Received.TheVariants.{Whole, Re
 use Rattle.tag_machine.specs.Answers.{Sent, IsSent, HasFewWords}
 use Rattle.air_model.specs.Channel.{Given, silence, whole, broken, raw, levels_of, heard_levels, got_of, IsOfStreamLength, IsReadBy}
 use Rattle.air_model.specs.declared.got.Got.TheVariants as gots
-use Rattle.tag_machine.specs.Exchange.{Replied}
+use Rattle.tag_machine.specs.TagsInExchange.{Replied}
 use Rattle.reply_wire.specs.Received.{IsReceived}
 use Rattle.reply_wire.specs.Receiving.{received_of}
 use Rattle.reply_wire.proofs.ReceivedLaws.{same_received, received_there, received_is}

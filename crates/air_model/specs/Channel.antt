@@ -18,10 +18,10 @@ use Rattle.pie_line.specs.Link.{LinkValue}
 use Rattle.pie_line.specs.Pie.{wave_of}
 use Rattle.pie_line.specs.declared.frame.Lead.{Lead}
 use Rattle.pie_line.specs.declared.frame.Lead.TheVariants.{Preamble, FrameSync}
-use Rattle.reply_grammar.specs.Table.{spelling}
+use Rattle.reply_grammar.specs.Replies.{spelling}
 use Rattle.tag_machine.specs.Answers.{Sent}
 use Rattle.tag_machine.specs.TagValue.{TagValue}
-use Rattle.tag_machine.specs.Exchange.{Replied, replies_in}
+use Rattle.tag_machine.specs.TagsInExchange.{Replied, replies_in}
 use Rattle.air_model.specs.declared.got.Got.{Got}
 use Rattle.air_model.specs.declared.got.Got.TheVariants as gots
 

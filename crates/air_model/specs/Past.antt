@@ -11,7 +11,7 @@ use Rattle.command_grammar.specs.declared.commands.Command.{Command}
 use Rattle.pie_line.specs.Link.{LinkValue}
 use Rattle.q_round.specs.declared.round.RoundEnd.{RoundEnd}
 use Rattle.tag_machine.specs.TagValue.{TagValue, is_present}
-use Rattle.tag_machine.specs.Exchange.{Replied, tag_after_own_event, tag_after_events, is_missed, outcome_in, replies_in}
+use Rattle.tag_machine.specs.TagsInExchange.{Replied, tag_after_own_event, tag_after_events, is_missed, outcome_in, replies_in}
 use Rattle.air_model.specs.Channel.{Given, given_in}
 
 -- what a run begins with: the link, the tags, numbered from 0, what is said of exchanges, each with its number, counted

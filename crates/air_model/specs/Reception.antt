@@ -1,7 +1,7 @@
 -- What the interrogator makes of what the channel gives, as a function of the reply that was sent, or of the levels of a raw
 -- stream. That it is what the levels say by the line code and the table of replies (Received.antt) is a law.
 use Rattle.std.specs.Prelude.{◌≡◌, ℕ, ◌==◌, ◌&&◌, ◌||◌, not, Bool, true, false, Some, if◌then◌else◌}
-use Rattle.reply_grammar.specs.Table.{AnswersExpected, handle_of, spelling, suits}
+use Rattle.reply_grammar.specs.Replies.{AnswersExpected, handle_of, spelling, suits}
 use Rattle.reply_grammar.specs.declared.expected.Expect.{Expect}
 use Rattle.reply_grammar.specs.declared.expected.Reply.{Reply}
 use Rattle.reply_grammar.specs.declared.expected.Reply.TheVariants.{Rn16, Epc, Handle, Words, Header, Error}

@@ -8,7 +8,7 @@ ghost use Rattle.reply_grammar.specs.declared.expected.Received.{Received};
 ghost use Rattle.reply_grammar.specs.declared.expected.Received.TheVariants.{Whole, Refused};
 ghost use Rattle.air_events.specs.Streams.{longest_stream};
 ghost use Rattle.air_model.specs.Channel.{Given, silence, whole, broken, heard_levels, got_of, IsOfStreamLength, IsReadBy};
-ghost use Rattle.tag_machine.specs.Exchange.{Replied};
+ghost use Rattle.tag_machine.specs.TagsInExchange.{Replied};
 ghost use Rattle.reply_wire.specs.Received.{IsReceived};
 ghost use Rattle.air_model.specs.Reception.{HoldsOfSent, IsGiven, IsGivenFor, IsReplyFor, IsUnmistakable, reception_of, reception_with};
 ghost use Rattle.reply_grammar.specs.Reception.{no_stream, whole_reply, reception_from};

@@ -13,7 +13,7 @@ use Rattle.air_events.specs.declared.Choice.TheVariants as choices
 use Rattle.air_events.specs.declared.Entry.{Entry}
 use Rattle.air_events.specs.declared.Event.{Event}
 use Rattle.air_model.specs.Channel.{HasFewLevels}
-use Rattle.tag_machine.specs.Exchange.{AreLegalTags}
+use Rattle.tag_machine.specs.TagsInExchange.{AreLegalTags}
 use Rattle.air_model.specs.Past.{Start, Item, tags_behind_from}
 use Rattle.air_world.proofs.Passing.{Listening, IsCutIn, IsTold, IsCause, cut-longer}
 use Rattle.air_world.proofs.Rounds.{KeepsLimit}

@@ -17,7 +17,7 @@ use Rattle.pie_line.specs.Link.{LinkValue}
 use Rattle.q_round.specs.declared.round.RoundEnd.{RoundEnd}
 use Rattle.report_lines.specs.Line.{line_of}
 use Rattle.report_lines.specs.ReportLine.{ReportLine, MissedLine, GivenLine, OpLine, RoundLine, SeenLine, DoneLine}
-use Rattle.reply_grammar.specs.Pairs.{same_pair}
+use Rattle.reply_grammar.specs.PcAndEpc.{same_pair}
 use Rattle.report_lines.specs.SeenCounts.{SeenCount, distinct, seen_among, seen_counts}
 use Rattle.report_lines.specs.declared.line.Line.{Line}
 use Rattle.report_lines.specs.declared.line.Line.TheVariants as lines

@@ -30,7 +30,7 @@ use Rattle.runs.proofs.Growth.{round-holds}
 use Rattle.runs.proofs.PlayedRounds.{PlayedRound, number_of, past_behind_played}
 use Rattle.scenario.specs.Limits.{no_operations}
 use Rattle.std.proofs.lemmas.List.{map-append}
-use Rattle.tag_machine.specs.Exchange.{AreLegalTags}
+use Rattle.tag_machine.specs.TagsInExchange.{AreLegalTags}
 use Rattle.tag_machine.specs.TagValue.{TagValue}
 use Rattle.two_portals.specs.Played.{IsPairOf, ListsItsTags, Played, pc_and_epc_of}
 

@@ -9,7 +9,7 @@ use Rattle.pie_line.specs.Link.{LinkValue}
 use Rattle.reply_grammar.specs.Reception.{Reception, no_stream, whole_reply, no_such_reply}
 use Rattle.reply_grammar.specs.declared.expected.Reply.TheVariants as replies
 use Rattle.bounded_list.specs.ItemList.{ItemList}
-use Rattle.report_lines.specs.Kept.{is_of_exchanges, is_of_trace}
+use Rattle.report_lines.specs.ModeLines.{is_of_exchanges, is_of_trace}
 use Rattle.report_lines.specs.Line.{line_of}
 use Rattle.report_lines.specs.declared.line.Line.{Line}
 use Rattle.report_lines.specs.declared.line.Line.TheVariants as told

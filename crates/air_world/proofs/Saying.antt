@@ -13,14 +13,14 @@ use Rattle.air_world.specs.Saying.{AreShort, IsOneOf}
 use Rattle.air_world.specs.Telling.{PassesOn}
 use Rattle.command_grammar.specs.declared.commands.Command.{Command}
 use Rattle.pie_line.specs.Link.{LinkValue}
-use Rattle.reply_grammar.specs.Table.{longest_reply}
+use Rattle.reply_grammar.specs.Replies.{longest_reply}
 use Rattle.reply_grammar.specs.declared.expected.Reply.{Reply}
-use Rattle.report_lines.specs.Kept.{is_of_exchanges}
+use Rattle.report_lines.specs.ModeLines.{is_of_exchanges}
 use Rattle.report_lines.specs.ReportLine.{ReportLine, ExchangeLine, GivenLine, MissedLine}
 use Rattle.runs.specs.Said.{answer_line, exchanged_by, gave_of, said_lines}
 use Rattle.runs.specs.laws.Replies.{AreReplies}
 use Rattle.tag_machine.specs.Answers.{Sent}
-use Rattle.tag_machine.specs.Exchange.{Replied}
+use Rattle.tag_machine.specs.TagsInExchange.{Replied}
 use Rattle.tag_population.specs.Answers.{AnswerValue, answer_of, answers_of, answer_value_of}
 use Rattle.tag_population.specs.declared.answers.Answer.{Answer}
 use Rattle.wave_dump.specs.declared.exchanged.Gave.TheVariants as gaves

@@ -6,7 +6,7 @@ use Rattle.air_world.proofs.Listings.{fault-cause}
 use Rattle.air_world.proofs.Passing.{Listening, listening}
 use Rattle.air_world.specs.Listing.{first_fault_of, pairs_told}
 use Rattle.air_world.specs.Telling.{EndsOrFails, IsCutOff, IsCutShort, PassesOn}
-use Rattle.air_world.specs.declared.seen.SeenListener.{SeenListener}
+use Rattle.air_world.specs.declared.seen_listener.SeenListener.{SeenListener}
 use Rattle.report_lines.specs.ReportLine.{ReportLine}
 use Rattle.report_lines.specs.SeenCounts.{seen_counts}
 use Rattle.report_lines.specs.declared.mode.PlayFault.{PlayFault}

@@ -16,7 +16,7 @@ use Rattle.air_world.specs.Playing.{RunValue, RunIsAt, counted_on}
 use Rattle.air_world.specs.Saying.{AnswersCommand, AreOfDifferentTags, AreShort, IsBehind, IsOneOf}
 use Rattle.command_grammar.specs.declared.commands.Command.{Command}
 use Rattle.pie_line.specs.Link.{LinkValue}
-use Rattle.reply_grammar.specs.Table.{AnswersExpected, Carries}
+use Rattle.reply_grammar.specs.Replies.{AnswersExpected, Carries}
 use Rattle.reply_grammar.specs.declared.expected.Expect.{Expect}
 use Rattle.reply_grammar.proofs.Suiting.{spelling-within}
 use Rattle.runs.proofs.Answering.{SendsInRange}
@@ -24,7 +24,7 @@ use Rattle.runs.specs.laws.Replies.{AnswersSo, AreReplies, StaysLegal, replies-i
 use Rattle.runs.proofs.Tags.{tags-exchanged, length-tags}
 use Rattle.std.specs.Option.{IsSomeAnd}
 use Rattle.tag_machine.specs.Answers.{IsSent, Outcome, Sent, bits_sent}
-use Rattle.tag_machine.specs.Exchange.{AreLegalTags, Replied, outcomes_in, replies_from, replies_in, reply_of, tags_after}
+use Rattle.tag_machine.specs.TagsInExchange.{AreLegalTags, Replied, outcomes_in, replies_from, replies_in, reply_of, tags_after}
 use Rattle.tag_machine.specs.Step.{step}
 use Rattle.tag_machine.specs.TagValue.{BodyValue, IsLegalTag, StateValue, TagValue}
 use Rattle.tag_machine.specs.laws.Replies.{expect_of}

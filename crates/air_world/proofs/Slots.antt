@@ -38,7 +38,7 @@ use Rattle.runs.specs.History.{ack_reception, dialogue_begun, operation_receptio
 use Rattle.runs.specs.Listing.{Listed, reception_of_ack, listed_from, listed_by}
 use Rattle.runs.specs.NextItem.{expectation_of}
 use Rattle.runs.specs.Report.{exchange_lines, list_line}
-use Rattle.tag_machine.specs.Exchange.{AreLegalTags, replies_in}
+use Rattle.tag_machine.specs.TagsInExchange.{AreLegalTags, replies_in}
 use Rattle.tag_machine.specs.TagValue.{TagValue}
 
 -- what is heard of levels that came, where this is expected

@@ -7,7 +7,7 @@ use Rattle.std.proofs.lemmas.List.Elements.{All-get_or}
 use Rattle.std.specs.Prelude.{All}
 use Rattle.air_channel.specs.Air.{AirValue, air_after_event}
 use Rattle.air_events.specs.declared.Event.{Event}
-use Rattle.tag_machine.specs.Exchange.{AreLegalTags}
+use Rattle.tag_machine.specs.TagsInExchange.{AreLegalTags}
 use Rattle.air_model.specs.Past.{Start, Record, Item, befell, exchanges_in, rounds_in, tags_behind}
 use Rattle.air_world.proofs.Passing.{RunBehind, Stands}
 use Rattle.air_world.proofs.Rounds.{KeepsLimit, rounds-slot}

@@ -6,7 +6,7 @@ use Rattle.air_io.specs.Flow.{Adds}
 use Rattle.air_world.proofs.Passing.{Listening}
 use Rattle.air_world.specs.Telling.{EndsOrFails, IsCutShort, IsPlayed, IsWritten}
 use Rattle.report_lines.specs.ReportLine.{ReportLine}
-use Rattle.report_lines.specs.Spelled.{line_of_mode, mode_behind, new_spelling}
+use Rattle.report_lines.specs.ModeReport.{line_of_mode, mode_behind, new_spelling}
 use Rattle.report_lines.specs.TextReport.{IsAdded, spelling_behind, text_from}
 use Rattle.report_lines.proofs.SpelledLaws.{told-in-mode}
 use Rattle.report_lines.specs.laws.TextReportLaws.{text_from-append}

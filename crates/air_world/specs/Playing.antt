@@ -7,7 +7,7 @@ use Rattle.air_events.specs.Cursor.{AreEntriesLeft}
 use Rattle.air_events.specs.Entries.{entry_at}
 use Rattle.air_events.specs.declared.Entry.{Entry}
 use Rattle.air_model.specs.Channel.{HasFewLevels}
-use Rattle.tag_machine.specs.Exchange.{AreLegalTags}
+use Rattle.tag_machine.specs.TagsInExchange.{AreLegalTags}
 use Rattle.air_model.specs.Past.{Start, Item, ended, exchanges_in, rounds_in, tags_behind}
 use Rattle.air_world.specs.Telling.{lines_to_tell}
 use Rattle.q_round.specs.declared.round.RoundEnd.{RoundEnd}

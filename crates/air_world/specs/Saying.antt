@@ -8,10 +8,10 @@ use Rattle.air_model.specs.Past.{Record}
 use Rattle.air_model.specs.declared.got.Got.{Got}
 use Rattle.command_grammar.specs.declared.commands.Command.{Command}
 use Rattle.pie_line.specs.Link.{LinkValue}
-use Rattle.reply_grammar.specs.Table.{AnswersExpected, longest_reply}
+use Rattle.reply_grammar.specs.Replies.{AnswersExpected, longest_reply}
 use Rattle.runs.specs.laws.Replies.{AreReplies}
 use Rattle.tag_machine.specs.Answers.{Sent, bits_sent}
-use Rattle.tag_machine.specs.Exchange.{Replied}
+use Rattle.tag_machine.specs.TagsInExchange.{Replied}
 use Rattle.tag_machine.specs.TagValue.{StateValue}
 use Rattle.tag_machine.specs.laws.Replies.{expect_of}
 use Rattle.tag_population.specs.Answers.{AnswerValue, answers_of}

@@ -5,7 +5,7 @@ ghost use Rattle.report_lines.specs.Line.{line_of};
 ghost use Rattle.runs.specs.RoundsTold.{played_of};
 ghost use Rattle.runs.specs.ScenarioStart.{start_of};
 ghost use Rattle.scenario.specs.Limits.{IsScenario, no_operations};
-ghost use Rattle.tag_machine.specs.Exchange.{AreLegalTags};
+ghost use Rattle.tag_machine.specs.TagsInExchange.{AreLegalTags};
 
 use crate::receiving::copy_of;
 use crate::run::Run;

@@ -6,7 +6,7 @@ mod playing;
 mod portals;
 mod receiving;
 mod run;
-mod seen;
+mod seen_listener;
 mod start;
 mod summary;
 

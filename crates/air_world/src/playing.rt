@@ -6,7 +6,7 @@ ghost use Rattle.air_world.specs.NewAir.{new_air};
 ghost use Rattle.air_world.specs.Playing.{RunIsAt, StandsAt};
 ghost use Rattle.air_world.specs.Telling.{EndsOrFails, IsCutOff, IsCutShort, IsPlayed, IsWritten, PassesOn, lines_to_tell};
 ghost use Rattle.report_lines.specs.SeenCounts.{seen_counts};
-ghost use Rattle.report_lines.specs.Spelled.{new_spelling};
+ghost use Rattle.report_lines.specs.ModeReport.{new_spelling};
 ghost use Rattle.report_lines.specs.declared.mode.Mode.{Mode as ReportMode};
 ghost use Rattle.runs.specs.CompleteRounds.{RoundsAreComplete};
 ghost use Rattle.runs.specs.Headline.{AreHeardAsListed, Headline};
@@ -16,7 +16,7 @@ ghost use Rattle.runs.specs.Summary.{pairs_in};
 ghost use Rattle.scenario.specs.Limits.{IsScenario};
 
 use crate::run::{Run, check, tell_link};
-use crate::seen::SeenListener;
+use crate::seen_listener::SeenListener;
 use air_channel::Air;
 use air_events::{EntryCursor, LONGEST_STREAM, MOST_TAGS, empty_entry};
 use air_io::Sink;

@@ -15,8 +15,8 @@ ghost use Rattle.runs.specs.History.{outcome_of, past_behind_ack, past_behind_ro
 ghost use Rattle.runs.specs.NextItem.{expectation_of};
 ghost use Rattle.runs.specs.Report.{exchange_lines};
 
+mod head_and_end;
 mod operating;
-mod report;
 mod saying;
 mod steps;
 
@@ -26,9 +26,9 @@ use air_channel::{Air, Got};
 use air_events::EntryCursor;
 use bit_strings::Bits;
 use command_grammar::Command;
+pub(crate) use head_and_end::tell_link;
 use q_round::{Outcome, Round, RoundEnd, RoundSpec, round_laws};
 use reply_grammar::{EpcWords, Expect, Received, Reply};
-pub(crate) use report::tell_link;
 use report_lines::{Line, Listener, PlayFault};
 use saying::{tell_said, tell_waves};
 use std::marker::Model;

@@ -2,7 +2,7 @@
 ghost use Rattle.std.specs.Prelude.{◌≡◌};
 ghost use Rattle.std.specs.Option.{IsSomeAnd};
 ghost use Rattle.reply_grammar.specs.declared.expected.Reply.{Reply};
-ghost use Rattle.reply_grammar.specs.Table.{AnswersExpected};
+ghost use Rattle.reply_grammar.specs.Replies.{AnswersExpected};
 ghost use Rattle.tag_machine.specs.TagValue.{StateValue};
 ghost use Rattle.tag_machine.specs.laws.Replies.{expect_of};
 

@@ -1,6 +1,6 @@
 //! A tag by itself: how a program that uses the crates makes one, lets it hear a command and reads its answer.
 ghost use Rattle.std.specs.Prelude.{◌≡◌, ◌≤◌};
-ghost use Rattle.reply_grammar.specs.Table.{reply_room};
+ghost use Rattle.reply_grammar.specs.Replies.{reply_room};
 
 use bit_strings::{Bits, Code, List, QValue, Session};
 use command_grammar::{Command, Sel, Side};

@@ -8,7 +8,7 @@ use Rattle.line_code.specs.declared.refusal.LineRefusal.{LineRefusal}
 use Rattle.line_codes.specs.Codes.{table_of}
 use Rattle.sample_slicer.specs.Samples.{AreLevels, RefusesSamples}
 use Rattle.sample_slicer.specs.declared.slicer.SliceRefusal.{SliceRefusal}
-use Rattle.reply_grammar.specs.Table.{AnswersExpected}
+use Rattle.reply_grammar.specs.Replies.{AnswersExpected}
 use Rattle.reply_grammar.specs.Refusals.{RefusesReply}
 use Rattle.reply_grammar.specs.declared.expected.Expect.{Expect}
 use Rattle.reply_grammar.specs.declared.expected.Reply.{Reply}

@@ -5,7 +5,7 @@ use Rattle.std.proofs.lemmas.Bool.{eqb-true, eq-eqb, leb-true, le-leb}
 use Rattle.pie_line.specs.Link.{IsTari, IsRtCal, IsTrCal, IsPw}
 use Rattle.pie_line.specs.declared.frame.Lead.{Lead}
 use Rattle.pie_line.specs.declared.link.LinkRefusal.TheVariants.{Tari, RtCal, TrCal, Pw}
-use Rattle.reply_grammar.specs.Table.{CanBeSent, Suits, suits}
+use Rattle.reply_grammar.specs.Replies.{CanBeSent, Suits, suits}
 use Rattle.reply_grammar.proofs.Suiting.{suits-true, suits-from}
 use Rattle.reply_grammar.specs.declared.expected.Expect.{Expect}
 use Rattle.reply_grammar.specs.declared.expected.Reply.{Reply}

@@ -12,7 +12,7 @@ use Rattle.pie_line.specs.declared.frame.Lead.TheVariants.{Preamble, FrameSync}
 use Rattle.command_grammar.specs.Commands.{IsLegalCommand}
 use Rattle.command_text.specs.CommandText.{command_fields, commands}
 use Rattle.line_code.specs.TableFacts.{longest_lead}
-use Rattle.reply_grammar.specs.Table.{longest_reply}
+use Rattle.reply_grammar.specs.Replies.{longest_reply}
 use Rattle.reply_grammar.specs.declared.expected.Reply.{Reply as OneReply}
 use Rattle.reply_text.specs.ReplyText.{expect_word, reply_fields, replies, IsExpect, IsReplyForm, IsReplyText}
 use Rattle.checked_lines.specs.declared.fault.FaultReason.{FaultReason}

@@ -13,7 +13,7 @@ use Rattle.pie_line.specs.declared.frame.Lead.{Lead}
 use Rattle.pie_line.specs.declared.link.LinkRefusal.{LinkRefusal}
 use Rattle.pie_line.specs.declared.link.LinkRefusal.TheVariants.{Tari, RtCal, TrCal, Pw}
 use Rattle.command_grammar.specs.Commands.{spelling_of}
-use Rattle.reply_grammar.specs.Table.{CanBeSent, Suits, handle_of, spelling}
+use Rattle.reply_grammar.specs.Replies.{CanBeSent, Suits, handle_of, spelling}
 use Rattle.reply_grammar.specs.declared.expected.Expect.{Expect}
 use Rattle.reply_grammar.specs.declared.expected.Reply.{Reply}
 use Rattle.reply_text.specs.ReplyText.{expect_word}

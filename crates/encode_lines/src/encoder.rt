@@ -3,7 +3,7 @@ ghost use Rattle.std.specs.Prelude.{◌≡◌, ◌≤◌, ◌↔◌, ◌≢◌, 
 ghost use Rattle.std.specs.String.{string_bytes};
 ghost use Rattle.line_code.specs.Stream.{stream_of};
 ghost use Rattle.line_codes.specs.Codes.{table_of};
-ghost use Rattle.reply_grammar.specs.Table.{handle_of, longest_reply};
+ghost use Rattle.reply_grammar.specs.Replies.{handle_of, longest_reply};
 ghost use Rattle.reply_text.specs.ReplyText.{IsReplyForm};
 ghost use Rattle.encode_lines.specs.EncodeLines.{AddsWave, AddsWritten, EncodesLine};
 ghost use Rattle.encode_lines.specs.Request.{AsksToEncode, IsWithinEncodeLimits, longest_levels, most_frame_bits, most_frame_intervals};

@@ -29,6 +29,6 @@ abbrev pub fm0_lead : Bool → List Bool
 fm0_lead false = fm0_preamble
 fm0_lead true = fm0_zeros 12 ++ fm0_preamble
 
--- FM0 as a line code: its lead, what the first symbol stands behind, and of each bit its block and what comes to stand behind it
+-- the code; data begins as after a data-1 that ended with a high level
 abbrev pub fm0 : Table
 fm0 = record { lead = fm0_lead; start = record { before = true; phase = true }; block = fm0_block; next = fm0_next }

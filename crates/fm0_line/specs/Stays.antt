@@ -1,7 +1,7 @@
 -- Where a level is the same as the one before it: at the boundaries of symbols and in their middles.
 use Rattle.std.specs.Prelude.{Bool, true, false, not, List, [], ◌∷◌}
 
--- whether two levels are the same
+-- whether a level is the same as the one before it
 abbrev pub same : Bool → Bool → Bool
 same true level = level
 same false level = not level

@@ -4,7 +4,7 @@ use Rattle.std.proofs.lemmas.List.{append-nil}
 use Rattle.air_io.specs.Flow.{TakesBytes, AtEnd, FaultsRose}
 use Rattle.gen2_library.specs.LentRoom.{input_of, IsFrontOfText}
 use Rattle.top_call.specs.Job.{Job, Defines}
-use Rattle.top_call.specs.Outcome.{input_limit, TakesInput, ReadsTooMuch, SpeaksOfNoInput, WritesWhole, WritesFront}
+use Rattle.top_call.specs.StatusMeanings.{input_limit, TakesInput, ReadsTooMuch, SpeaksOfNoInput, WritesWhole, WritesFront}
 use Rattle.top_call.specs.declared.status.Status.{Status}
 use Rattle.top_call.specs.declared.status.Status.TheVariants.{Done, BadWords, BadInput, ReadFault, WriteFault, TooLong, OutOfMemory}
 

@@ -5,7 +5,7 @@ ghost use Rattle.report_lines.specs.declared.mode.Mode.{Mode};
 ghost use Rattle.top_call.specs.Form.{texts, SpellForm, SpellSomeForm};
 ghost use Rattle.top_call.specs.Job.{Defines};
 ghost use Rattle.top_call.specs.Jobs.{job_of};
-ghost use Rattle.top_call.specs.Outcome.{input_limit, SpeaksOfNoInput};
+ghost use Rattle.top_call.specs.StatusMeanings.{input_limit, SpeaksOfNoInput};
 ghost use Rattle.top_call.specs.declared.forms.Form.{Form};
 ghost use Rattle.top_call.specs.declared.status.Status.{Status};
 ghost use Rattle.top_call.specs.words.Generated.{CountsEveryTag};

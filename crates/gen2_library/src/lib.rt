@@ -11,7 +11,7 @@ ghost use Rattle.program_texts.specs.Texts.{version_number};
 ghost use Rattle.top_call.specs.Form.{SpellForm, SpellSomeForm};
 ghost use Rattle.top_call.specs.Job.{Defines};
 ghost use Rattle.top_call.specs.Jobs.{job_of};
-ghost use Rattle.top_call.specs.Outcome.{input_limit};
+ghost use Rattle.top_call.specs.StatusMeanings.{input_limit};
 ghost use Rattle.top_call.specs.declared.forms.Form.{Form};
 ghost use Rattle.top_call.specs.words.Generated.{CountsEveryTag};
 ghost use Rattle.top_call.specs.words.Reported.{SaysHeadline, SaysInventory};

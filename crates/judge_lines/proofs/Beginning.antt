@@ -6,7 +6,7 @@ use Rattle.scenario_lines.specs.declared.tag.TagSpec.{TagSpec}
 use Rattle.text_fields.specs.Lines.{fields_of, lines_of}
 use Rattle.judge_lines.specs.Judged.{IsNoTagFor, IsRefusedFor}
 use Rattle.judge_lines.specs.LogText.{IsFaultyTag, IsFirstLogFault, begun, log_rules, logged_tag, start, log_version_line, with_word, within}
-use Rattle.judge_lines.specs.Reading.{HasReadLog}
+use Rattle.judge_lines.specs.ReadEntries.{HasReadLog}
 use Rattle.checked_lines.specs.declared.fault.FaultReason.{FaultReason}
 use Rattle.checked_lines.specs.declared.fault.FaultReason.TheVariants.{End, Version}
 use Rattle.checked_lines.specs.declared.fault.Unread.{Unread}

@@ -6,13 +6,13 @@ use Rattle.command_fields.specs.declared.choices.Sel.{Sel}
 use Rattle.command_fields.specs.declared.choices.Sel.TheVariants as sels
 use Rattle.command_fields.specs.declared.choices.UpDn.{UpDn}
 use Rattle.command_fields.specs.declared.choices.UpDn.TheVariants.{Up, Same, Down}
-use Rattle.command_grammar.specs.Commands.{IsLegalCommand, IsWord}
+use Rattle.command_grammar.specs.Commands.{IsLegalCommand, IsWord, all_kinds}
 use Rattle.command_grammar.specs.declared.commands.Command.{Command}
 use Rattle.command_grammar.specs.declared.commands.Command.TheVariants.{QueryRep, Ack, Query, QueryAdjust, Select, Nak, ReqRn, Read, Write, Kill, Lock, Access, BlockWrite, BlockErase}
 use Rattle.command_grammar.specs.declared.kinds.CommandKind.{CommandKind}
 use Rattle.command_grammar.specs.declared.kinds.CommandKind.TheVariants as kinds
 use Rattle.command_text.specs.CommandText.{IsCommandBehind, bank_word, command_name, commands, flag_word, mask_bank_word, payload_digits, sel_word, side_word, updn_word}
-use Rattle.command_text.specs.NameLists.{EachFound, all_command_kinds, command_found}
+use Rattle.command_text.specs.NameLists.{EachFound, command_found}
 use Rattle.command_text.proofs.CommandTexts.{commands_are}
 use Rattle.command_text.proofs.ToldApart.{block_of_list, list_of_block}
 use Rattle.scenario_lines.specs.Spelling.{flag_text}
@@ -179,4 +179,4 @@ command_behind kinds.BlockErase fields =
     )) (there_of kinds.BlockErase fields) (at_place (number 1 255) fields)
 
 pub commands_decided : AreDecided commands IsLegalCommand
-commands_decided = record { is = commands_are; names = named_decided command_name all_command_kinds command_found; behind = command_behind }
+commands_decided = record { is = commands_are; names = named_decided command_name all_kinds command_found; behind = command_behind }

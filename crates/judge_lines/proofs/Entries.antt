@@ -4,15 +4,15 @@ use Rattle.std.specs.Prelude.{IfErr, IsErrAnd, Option, Result, Ok, Err}
 use Rattle.checked_lines.specs.laws.ReadingOn.{HasReadTo, all_read, extra_read, fault_read, one_read, unended_read}
 use Rattle.command_grammar.specs.declared.commands.Command.{Command}
 use Rattle.log_verdicts.specs.Log.{LogEntry, LoggedTag, Seen, Exchange, line_count, lines_in}
-use Rattle.probe_lines.specs.Answers.{HasEffect}
+use Rattle.probe_lines.specs.AnswerLines.{HasEffect}
 use Rattle.probe_lines.specs.ProbeLine.{SpellsProbeLine}
 use Rattle.probe_lines.specs.ProbeText.{most_stimuli}
-use Rattle.probe_lines.specs.Said.{Stimulus, StimulusEffect, Does}
-use Rattle.probe_lines.specs.Said as said
+use Rattle.probe_lines.specs.Stimuli.{Stimulus, StimulusEffect, Does}
+use Rattle.probe_lines.specs.Stimuli as said
 use Rattle.text_fields.specs.Lines.{fields_of, lines_of}
 use Rattle.judge_lines.specs.SeenLine.{BeginsAsAnswer, SpellSeen}
 use Rattle.judge_lines.specs.LogText.{LogGoesTo, IsFaultyNext, IsFaultySeen, IsFirstLogFault, IsLogText, LogStanding, asked, behind_effect, ended, log_rules, start, within}
-use Rattle.judge_lines.specs.Reading.{HasReadLog}
+use Rattle.judge_lines.specs.ReadEntries.{HasReadLog}
 use Rattle.checked_lines.specs.declared.fault.FaultReason.{FaultReason}
 use Rattle.checked_lines.specs.declared.fault.FaultReason.TheVariants.{End, Extra}
 

@@ -5,10 +5,10 @@ use Rattle.checked_lines.specs.TextRules.{HasOutcomeFrom, Whole}
 use Rattle.log_verdicts.specs.Log.{LogEntry, LoggedTag, Seen}
 use Rattle.log_verdicts.specs.Log as entries
 use Rattle.log_verdicts.specs.laws.Logs.{IsLegalEntry, IsLegalHeard, IsLegalLog, number_seen, number_of_reply}
-use Rattle.probe_lines.specs.Answers.{HasEffect}
+use Rattle.probe_lines.specs.AnswerLines.{HasEffect}
 use Rattle.probe_lines.specs.ProbeLine.{IsProbeLine}
-use Rattle.probe_lines.specs.Said.{ProbeLine, Stimulus, StimulusEffect, Does}
-use Rattle.probe_lines.specs.Said as said
+use Rattle.probe_lines.specs.Stimuli.{ProbeLine, Stimulus, StimulusEffect, Does}
+use Rattle.probe_lines.specs.Stimuli as said
 use Rattle.reply_grammar.specs.declared.expected.Reply.{Reply}
 use Rattle.reply_grammar.specs.declared.expected.Reply.TheVariants.{Rn16, Handle}
 use Rattle.reply_text.specs.ReplyText.{IsReplyForm}

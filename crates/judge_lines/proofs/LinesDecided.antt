@@ -14,8 +14,8 @@ use Rattle.log_verdicts.specs.Log.{Seen}
 use Rattle.probe_lines.specs.LineFaults.{BeginsWithWord, IsFaultyProbeLine}
 use Rattle.probe_lines.specs.ProbeLine.{IsProbeEvent, SpellsProbeLine, SpellsTag, line_word, probe_events}
 use Rattle.probe_lines.specs.ProbeText.{BeginsAsTag, IsFaultyTagLine}
-use Rattle.probe_lines.specs.Said.{ProbeLine}
-use Rattle.probe_lines.specs.Said as said
+use Rattle.probe_lines.specs.Stimuli.{ProbeLine}
+use Rattle.probe_lines.specs.Stimuli as said
 use Rattle.probe_lines.specs.declared.line.LineWord.{LineWord}
 use Rattle.probe_lines.specs.declared.line.LineWord.TheVariants as words
 use Rattle.reply_text.specs.ReplyText.{IsReplyForm, replies}

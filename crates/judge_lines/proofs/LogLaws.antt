@@ -6,8 +6,8 @@ use Rattle.command_grammar.specs.declared.commands.Command.{Command}
 use Rattle.log_verdicts.specs.Log.{LogEntry, LoggedTag, Seen, Exchange, lines_in}
 use Rattle.probe_lines.specs.ProbeLine.{SpellsProbeLine}
 use Rattle.probe_lines.specs.ProbeText.{IsStimulusTooMuch}
-use Rattle.probe_lines.specs.Said.{ProbeLine, StimulusEffect, Does}
-use Rattle.probe_lines.specs.Said as said
+use Rattle.probe_lines.specs.Stimuli.{ProbeLine, StimulusEffect, Does}
+use Rattle.probe_lines.specs.Stimuli as said
 use Rattle.probe_lines.specs.laws.LineLaws.{ProbeLineLaws}
 use Rattle.scenario_lines.specs.declared.tag.TagSpec.{TagSpec}
 use Rattle.text_fields.specs.Lines.{fields_of}

@@ -10,12 +10,12 @@ use Rattle.checked_lines.specs.declared.fault.FaultReason.{FaultReason}
 use Rattle.checked_lines.specs.declared.fault.FaultReason.TheVariants.{Extra, Version, Word, Order, Limit, Shape, Number}
 use Rattle.command_grammar.specs.declared.commands.Command.{Command}
 use Rattle.log_verdicts.specs.Log.{LogEntry, LoggedTag, lines_in}
-use Rattle.probe_lines.specs.Answers.{HasEffect}
+use Rattle.probe_lines.specs.AnswerLines.{HasEffect}
 use Rattle.probe_lines.specs.LineFaults.{BeginsWithWord}
 use Rattle.probe_lines.specs.ProbeLine.{SpellsProbeLine, line_word}
 use Rattle.probe_lines.specs.ProbeText.{IsStimulusTooMuch, most_stimuli}
-use Rattle.probe_lines.specs.Said.{Stimulus, StimulusEffect, Does}
-use Rattle.probe_lines.specs.Said as said
+use Rattle.probe_lines.specs.Stimuli.{Stimulus, StimulusEffect, Does}
+use Rattle.probe_lines.specs.Stimuli as said
 use Rattle.probe_lines.specs.declared.line.LineWord.TheVariants as words
 use Rattle.scenario_lines.proofs.Decisions.{Decided, head_same, text_decided}
 use Rattle.text_fields.specs.Lines.{fields_of, lines_of}

@@ -2,7 +2,7 @@
 use Rattle.std.proofs.Common.{rules, ◌≡◌, ℕ, Bool, true, false, List, [], ◌∷◌, ap, ap₂, get_or, arith, refl, sym, ◌∙◌, subst, inl, inr}
 use Rattle.std.specs.Prelude.{Option, Some, None}
 use Rattle.log_verdicts.specs.Log.{Seen}
-use Rattle.probe_lines.specs.Answers.{answer_preamble_word}
+use Rattle.probe_lines.specs.AnswerLines.{answer_preamble_word}
 use Rattle.reply_grammar.specs.declared.expected.Reply.{Reply}
 use Rattle.reply_text.specs.ReplyText.{IsFaultyReply, IsReplyForm, IsReplyText, reply_fields}
 use Rattle.tag_machine.specs.declared.any_tag.Answered.{Answered}

@@ -7,7 +7,7 @@ use Rattle.log_judge.specs.Judging.{HasHeard, JudgeValue}
 use Rattle.log_judge.specs.declared.answer.Answer.{Answer}
 use Rattle.log_verdicts.specs.Log.{Befalls, Exchange, LogEntry, LoggedTag, lines_in}
 use Rattle.text_fields.specs.Lines.{lines_of}
-use Rattle.judge_lines.specs.Reading.{HasHeardEntry, HasReadEntry, HasReadLog, entry_in, lines_said}
+use Rattle.judge_lines.specs.ReadEntries.{HasHeardEntry, HasReadEntry, HasReadLog, entry_in, lines_said}
 use Rattle.judge_lines.specs.declared.entry.SaidEntry.{SaidEntry}
 use Rattle.judge_lines.specs.declared.entry.SaidEntry.TheVariants as said
 use Rattle.judge_lines.proofs.Entries.{lines_pushed}

@@ -4,12 +4,12 @@ use Rattle.checked_lines.specs.TextRules.{TextRules, IsFirstFault, IsText}
 use Rattle.command_grammar.specs.declared.commands.Command.{Command}
 use Rattle.log_verdicts.specs.Log.{LogEntry, LoggedTag, Seen, lines_in}
 use Rattle.log_verdicts.specs.Log as entries
-use Rattle.probe_lines.specs.Answers.{HasEffect}
+use Rattle.probe_lines.specs.AnswerLines.{HasEffect}
 use Rattle.probe_lines.specs.LineFaults.{IsFaultyProbeLine}
 use Rattle.probe_lines.specs.ProbeLine.{SpellsProbeLine, SpellsTag}
 use Rattle.probe_lines.specs.ProbeText.{IsFaultyTagLine, IsStimulusTooMuch, most_stimuli}
-use Rattle.probe_lines.specs.Said.{ProbeLine, Stimulus, StimulusEffect}
-use Rattle.probe_lines.specs.Said as said
+use Rattle.probe_lines.specs.Stimuli.{ProbeLine, Stimulus, StimulusEffect}
+use Rattle.probe_lines.specs.Stimuli as said
 use Rattle.scenario_lines.specs.declared.tag.TagSpec.{TagSpec}
 use Rattle.text_fields.specs.Lines.{fields_of}
 use Rattle.text_fields.specs.declared.fields_fault.FieldsFault.{FieldsFault}

@@ -1,7 +1,7 @@
 -- Profile: the lines of a log that say what the tag was seen to answer, the one spelling of each, and why a line is none.
 use Rattle.std.specs.Prelude.{◌≡◌, ◌≢◌, ◌⊎◌, ℕ, List, [], ◌∷◌, codes, IfSome, Option, Some, None}
 use Rattle.log_verdicts.specs.Log.{Seen}
-use Rattle.probe_lines.specs.Answers.{answer_preamble_word}
+use Rattle.probe_lines.specs.AnswerLines.{answer_preamble_word}
 use Rattle.reply_text.specs.ReplyText.{IsFaultyReply, IsReplyForm, reply_fields}
 use Rattle.tag_machine.specs.declared.any_tag.Answered.{Answered}
 use Rattle.tag_machine.specs.declared.any_tag.Answered.TheVariants.{Silent, Plain, Extended}

@@ -9,7 +9,7 @@ ghost use Rattle.log_verdicts.specs.Log.{Exchange, LogEntry, LoggedTag, lines_in
 ghost use Rattle.text_fields.specs.Lines.{lines_of};
 ghost use Rattle.judge_lines.specs.declared.entry.SaidEntry.{SaidEntry};
 ghost use Rattle.judge_lines.specs.LogText.{IsLogText, asked, ended, log_rules, start};
-ghost use Rattle.judge_lines.specs.Reading.{HasHeardEntry, HasReadEntry, HasReadLog, IsFaultOf, entry_in, lines_said};
+ghost use Rattle.judge_lines.specs.ReadEntries.{HasHeardEntry, HasReadEntry, HasReadLog, IsFaultOf, entry_in, lines_said};
 
 use crate::reading::{read_next, read_seen};
 use air_events::Event;

@@ -7,7 +7,7 @@ ghost use Rattle.scenario_lines.specs.TagForm.{IsTag};
 ghost use Rattle.text_fields.specs.Lines.{lines_of};
 ghost use Rattle.judge_lines.specs.Judged.{IsJudged, IsRefusedFor};
 ghost use Rattle.judge_lines.specs.LogText.{logged_tag, log_version_line};
-ghost use Rattle.judge_lines.specs.Reading.{HasReadLog};
+ghost use Rattle.judge_lines.specs.ReadEntries.{HasReadLog};
 
 use crate::entry::{Rooms, SaidEntry, read_entry};
 use crate::tag_line::read_logged_tag;

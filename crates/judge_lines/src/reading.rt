@@ -3,7 +3,7 @@ ghost use Rattle.std.specs.Prelude.{◌<◌, ◌≤◌, ℕ, IfErr, IfNone, IfOk
 ghost use Rattle.log_judge.specs.Answers.{seen_in};
 ghost use Rattle.probe_lines.specs.ProbeLine.{SpellsProbeLine};
 ghost use Rattle.probe_lines.specs.ProbeText.{HasRoom, most_stimuli};
-ghost use Rattle.probe_lines.specs.Said.{probe_line_with};
+ghost use Rattle.probe_lines.specs.Stimuli.{probe_line_with};
 ghost use Rattle.text_fields.specs.Lines.{fields_of};
 ghost use Rattle.judge_lines.specs.LogText.{IsFaultyNext, IsFaultySeen};
 ghost use Rattle.judge_lines.specs.SeenLine.{BeginsAsAnswer, SpellSeen};

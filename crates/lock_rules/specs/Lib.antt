@@ -1,3 +1,3 @@
-pub mod Codes
+pub mod ErrorCodes
 pub mod Lock
 pub mod Permissions

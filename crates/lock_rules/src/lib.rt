@@ -3,7 +3,7 @@
 #![tactic(auto)]
 
 mod locks;
-mod terms;
+mod permissions;
 
 pub use locks::{Locks, Pair};
-pub use terms::{ErrorCode, Field, Level};
+pub use permissions::{ErrorCode, Field, Level};

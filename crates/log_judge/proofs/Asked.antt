@@ -10,7 +10,7 @@ use Rattle.log_verdicts.specs.laws.Kinds.{HasSmallQ, reworded}
 use Rattle.log_verdicts.specs.laws.Known.{Known, want_of, want_of_answer}
 use Rattle.log_judge.specs.Drawing.{draws_at, fallen, words_given}
 use Rattle.log_judge.specs.Optional.{answers_now}
-use Rattle.log_judge.specs.Tracking.{HasFirstSlot, IsExcusedHere, known_of}
+use Rattle.log_judge.specs.KnownTag.{HasFirstSlot, IsExcusedHere, known_of}
 use Rattle.log_judge.proofs.Lacking.{answers_so}
 use Rattle.log_judge.proofs.Moving.{Moves, moves}
 use Rattle.log_judge.proofs.Showing.{excused_lack, want_lacking}

@@ -4,7 +4,7 @@ use Rattle.std.specs.Option.{IsSomeAnd}
 use Rattle.bit_strings.specs.BitString.{BitString}
 use Rattle.reply_grammar.specs.declared.expected.Expect.{Expect}
 use Rattle.reply_grammar.specs.declared.expected.Reply.{Reply}
-use Rattle.reply_grammar.specs.Table.{AnswersExpected, Carries}
+use Rattle.reply_grammar.specs.Replies.{AnswersExpected, Carries}
 use Rattle.tag_machine.specs.declared.any_tag.Answered.{Answered}
 use Rattle.tag_machine.specs.declared.any_tag.Answered.TheVariants.{Silent, Plain, Extended}
 use Rattle.tag_machine.specs.declared.any_tag.Heard.{Heard}

@@ -13,7 +13,7 @@ use Rattle.log_verdicts.proofs.Standing.{allowed_where_stands, fails_on, stands_
 use Rattle.log_verdicts.proofs.Wants.{wanted}
 use Rattle.log_judge.specs.Answers.{want_in}
 use Rattle.log_judge.specs.Judging.{HasHeard, JudgeValue, Stands, verdict_noted}
-use Rattle.log_judge.specs.Tracking.{Goes, IsExcusedHere, MayGo, Shows, known_of, known_wordless}
+use Rattle.log_judge.specs.KnownTag.{Goes, IsExcusedHere, MayGo, Shows, known_of, known_wordless}
 use Rattle.log_judge.specs.declared.shown.Shown.{Shown}
 use Rattle.log_judge.specs.declared.shown.Shown.TheVariants as shown
 

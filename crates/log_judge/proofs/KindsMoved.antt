@@ -16,7 +16,7 @@ use Rattle.log_verdicts.proofs.Guesses.{enters_later, enters_now, full_slot, lat
 use Rattle.log_judge.specs.declared.draws.Draws.{Draws}
 use Rattle.log_judge.specs.declared.draws.Draws.TheVariants as draws
 use Rattle.log_judge.specs.Drawing.{has_drawn, slots_behind, want_behind, want_in_turn, want_of_number, want_of_slot, want_of_turn, words_given}
-use Rattle.log_judge.specs.Tracking.{HasFirstSlot, known_of, known_wordless, wordless}
+use Rattle.log_judge.specs.KnownTag.{HasFirstSlot, known_of, known_wordless, wordless}
 use Rattle.log_judge.proofs.Fitting.{Fits, IsElsewhere}
 use Rattle.log_judge.proofs.Tests.{so_not, some_or_none}
 

@@ -23,7 +23,7 @@ use Rattle.log_verdicts.proofs.SuitedKinds.{IsGoodKind, IsGoodMove, LeavesSo, go
 use Rattle.log_judge.specs.declared.draws.Draws.{Draws}
 use Rattle.log_judge.specs.declared.draws.Draws.TheVariants as draws
 use Rattle.log_judge.specs.Drawing.{draws_at, fallen, slots_behind, want_behind, words_given}
-use Rattle.log_judge.specs.Tracking.{Goes, HasFirstSlot, known_of, known_wordless, wordless}
+use Rattle.log_judge.specs.KnownTag.{Goes, HasFirstSlot, known_of, known_wordless, wordless}
 use Rattle.log_judge.proofs.Fitting.{Fits, fits, same_number}
 use Rattle.log_judge.proofs.Tests.{one_number, none_or_some, some_or_none, and_left, and_right, nothing_seen}
 use Rattle.log_judge.proofs.KindsMoved.{RepliesAt, StandsIn, drawn_elsewhere, guess_of, its_of, kind_want, mine_of, not_waiting, replies_so, same_words, silent_kind, spoken_kind, stands_known, entered_silent}

@@ -16,7 +16,7 @@ use Rattle.log_judge.specs.declared.draws.Draws.{Draws}
 use Rattle.log_judge.specs.declared.draws.Draws.TheVariants as draws
 use Rattle.log_judge.specs.Drawing.{draws_at, slots_behind, want_behind, words_given}
 use Rattle.log_judge.specs.Optional.{AnswersOptional}
-use Rattle.log_judge.specs.Tracking.{Goes, HasFirstSlot, IsExcusedHere, LacksHere, MayGo, known_of, known_wordless, wordless}
+use Rattle.log_judge.specs.KnownTag.{Goes, HasFirstSlot, IsExcusedHere, LacksHere, MayGo, known_of, known_wordless, wordless}
 use Rattle.log_judge.proofs.Tests.{no_test, none_or_some}
 use Rattle.log_judge.proofs.Moving.{Moves, heard_by, next_by, prepared_by}
 

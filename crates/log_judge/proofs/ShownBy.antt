@@ -9,7 +9,7 @@ use Rattle.log_verdicts.specs.Explaining.{IsOtherError, ByTables, WithLiberties,
 use Rattle.log_verdicts.specs.laws.Kinds.{reworded}
 use Rattle.log_verdicts.specs.laws.Known.{want_of}
 use Rattle.log_judge.specs.Drawing.{draws_at, slots_behind, want_behind, words_given}
-use Rattle.log_judge.specs.Tracking.{Goes, HasFirstSlot, IsExcusedHere, IsReadyFor, LacksHere, MayGo, known_of}
+use Rattle.log_judge.specs.KnownTag.{Goes, HasFirstSlot, IsExcusedHere, IsReadyFor, LacksHere, MayGo, known_of}
 use Rattle.log_judge.proofs.Moving.{Moves, heard_by, moves}
 use Rattle.log_judge.proofs.Tests.{nothing_seen, something_seen}
 use Rattle.log_judge.proofs.Showing.{excused_error, explained_answer, explained_silence, given_body, unexcused, want_is}

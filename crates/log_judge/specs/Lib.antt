@@ -1,5 +1,5 @@
 pub mod Answers
 pub mod Drawing
-pub mod Tracking
+pub mod KnownTag
 pub mod Optional
 pub mod Judging

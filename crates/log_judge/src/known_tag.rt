@@ -6,11 +6,11 @@ ghost use Rattle.log_verdicts.specs.Log.{Befalls, tag_with};
 ghost use Rattle.command_grammar.specs.Commands.{IsLegalCommand};
 ghost use Rattle.log_verdicts.specs.Explaining.{ByTables};
 ghost use Rattle.log_judge.specs.Answers.{seen_in};
-ghost use Rattle.log_judge.specs.Tracking.{Goes, IsReadyFor, LacksHere, Shows, known_of};
+ghost use Rattle.log_judge.specs.KnownTag.{Goes, IsReadyFor, LacksHere, Shows, known_of};
 
 use crate::answer::Answer;
 use crate::draws::{Draws, draws_at, fallen, first_word, slots_behind, want_behind};
-use crate::optional::answers_optional;
+use crate::optional_commands::answers_optional;
 use crate::rooms::Rooms;
 use crate::shown::Shown;
 use crate::verdict::Want;
@@ -44,7 +44,7 @@ impl Model for KnownTag {
     ghost use Rattle.std.specs.Prelude.{◌≡◌, length};
     ghost use Rattle.tag_machine.specs.Hearing.{tag_value_of};
     ghost use Rattle.log_verdicts.specs.laws.Known.{Known};
-    ghost use Rattle.log_judge.specs.Tracking.{HasFirstSlot, known_of};
+    ghost use Rattle.log_judge.specs.KnownTag.{HasFirstSlot, known_of};
 
     ghost Value = { Known };
 

@@ -6,7 +6,7 @@ mod answer;
 mod draws;
 mod judge;
 mod known_tag;
-mod optional;
+mod optional_commands;
 mod rooms;
 mod shown;
 mod verdict;

@@ -7,8 +7,8 @@ use Rattle.command_fields.specs.declared.choices.UpDn.{UpDn}
 use Rattle.command_fields.specs.declared.choices.UpDn.TheVariants.{Up, Same, Down}
 use Rattle.command_grammar.specs.declared.commands.Command.{Command}
 use Rattle.command_grammar.specs.declared.commands.Command.TheVariants as commands
-use Rattle.lock_rules.specs.declared.terms.Level.{Level}
-use Rattle.lock_rules.specs.declared.terms.Level.TheVariants as levels
+use Rattle.lock_rules.specs.declared.permissions.Level.{Level}
+use Rattle.lock_rules.specs.declared.permissions.Level.TheVariants as levels
 use Rattle.session_flags.specs.Flags.{matches}
 use Rattle.reply_grammar.specs.declared.expected.Reply.TheVariants.{Handle}
 use Rattle.tag_machine.specs.declared.states.Held.{Held}
@@ -17,7 +17,7 @@ use Rattle.tag_machine.specs.TagValue.{StateValue, ReadyState, ArbitrateState, R
 use Rattle.tag_machine.specs.Answers.{Outcome, silent, plain_answer}
 use Rattle.tag_machine.specs.Draws.{draw_of, body_after_draw, enter, body_after_inversion, close}
 use Rattle.tag_machine.specs.Inventory.{take_part, body_after_close, end_turn, slot_below, count_down, q_after_adjust, query, query_rep, query_adjust}
-use Rattle.tag_memory.specs.Access.{banks_after_erase, banks_after_write}
+use Rattle.tag_memory.specs.ReadsAndWrites.{banks_after_erase, banks_after_write}
 use Rattle.tag_machine.specs.Access.{block_erase_outcome, block_write_outcome, lock_outcome, read_outcome, write_outcome, held_state, first_level, new_held, req_rn}
 use Rattle.log_verdicts.specs.Explaining.{outcome_of_heard}
 use Rattle.log_verdicts.specs.laws.Logs.{IsLegalHeard}

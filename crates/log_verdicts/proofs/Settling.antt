@@ -3,13 +3,13 @@ use Rattle.std.proofs.Common.{◌≡◌, ℕ, ◌≤◌, ◌==◌, Bool, true, f
 use Rattle.command_fields.specs.declared.choices.Bank.{Bank}
 use Rattle.command_fields.specs.declared.choices.FlagName.{FlagName}
 use Rattle.command_fields.specs.declared.choices.MaskBank.{MaskBank}
-use Rattle.lock_rules.specs.declared.terms.ErrorCode.{ErrorCode}
-use Rattle.lock_rules.specs.declared.terms.Level.{Level}
-use Rattle.lock_rules.specs.declared.terms.Level.TheVariants as levels
+use Rattle.lock_rules.specs.declared.permissions.ErrorCode.{ErrorCode}
+use Rattle.lock_rules.specs.declared.permissions.Level.{Level}
+use Rattle.lock_rules.specs.declared.permissions.Level.TheVariants as levels
 use Rattle.lock_rules.specs.declared.locks.Locks.{Locks}
 use Rattle.lock_rules.specs.Lock.{locks_after}
 use Rattle.tag_memory.specs.Memory.{Banks, kill_word_of, access_word_of}
-use Rattle.tag_memory.specs.Access.{banks_after_write}
+use Rattle.tag_memory.specs.ReadsAndWrites.{banks_after_write}
 use Rattle.tag_machine.specs.declared.states.Half.{Half}
 use Rattle.tag_machine.specs.declared.states.Held.{Held}
 use Rattle.tag_machine.specs.declared.states.Password.{Password}

@@ -8,7 +8,7 @@ use Rattle.runs.specs.ScenarioStart.{history, start_of, scenario_tag}
 use Rattle.runs.specs.Summary.{is_quiet, all_quiet}
 use Rattle.runs.specs.Complete.{HasNumber}
 use Rattle.runs.specs.EveryTag.{AllTakePart, HaveOwnEpcs}
-use Rattle.runs.specs.Moments.{Ending, ending_of}
+use Rattle.runs.specs.MomentsOfRound.{Ending, ending_of}
 use Rattle.made_scenario.specs.Made.{made_scenario, made_round, made_tag, numbers_below}
 use Rattle.made_scenario.proofs.MadeTags.{numbers-count, tags-made}
 use Rattle.q_round.specs.SpecValue.{IsLegalSpec}

@@ -2,7 +2,7 @@
 //! round. All of it is profile.
 #![tactic(auto)]
 
+mod link_and_round;
 mod making;
-mod parts;
 
 pub use making::{MOST_MADE_TAGS, made_scenario};

@@ -16,7 +16,7 @@ ghost use Rattle.lock_rules.specs.Lock.{locks_of};
 ghost use Rattle.scenario.specs.Limits.{IsScenario, no_operations};
 ghost use Rattle.scenario.specs.declared.values.Step.TheVariants as steps;
 
-use crate::parts::{made_link, made_round};
+use crate::link_and_round::{made_link, made_round};
 use access_ops::OpList;
 use bit_strings::{List, OutOfMemory};
 use lock_rules::Locks;

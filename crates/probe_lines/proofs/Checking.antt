@@ -8,8 +8,8 @@ use Rattle.checked_lines.specs.laws.ReadingOn.{HasReadTo, NextLine, all_read, ex
 use Rattle.checked_lines.specs.declared.fault.FaultReason.{FaultReason}
 use Rattle.checked_lines.specs.declared.fault.FaultReason.TheVariants.{Extra, End}
 use Rattle.scenario_lines.specs.declared.tag.TagSpec.{TagSpec}
-use Rattle.probe_lines.specs.Said as lines
-use Rattle.probe_lines.specs.Said.{Stimulus}
+use Rattle.probe_lines.specs.Stimuli as lines
+use Rattle.probe_lines.specs.Stimuli.{Stimulus}
 use Rattle.probe_lines.specs.LineFaults.{IsFaultyProbeLine}
 use Rattle.probe_lines.specs.laws.LineLaws.{ProbeLineLaws}
 use Rattle.probe_lines.specs.ProbeLine.{SpellsProbeLine, SpellsTag, version_line}

@@ -5,9 +5,9 @@ use Rattle.bit_strings.specs.Family.{IsBadAt, IsShortAt}
 use Rattle.command_grammar.specs.Commands.{Spellings, SpellsCommand}
 use Rattle.command_grammar.specs.declared.commands.Command.{Command}
 use Rattle.tag_machine.specs.TagValue.{TagValue}
-use Rattle.probe_lines.specs.Said.{Stimulus, StimulusEffect, Hears, Befalls, Nothing}
-use Rattle.probe_lines.specs.Said as stimuli
-use Rattle.probe_lines.specs.Answers.{HasEffect, TellsEffects, first_number, probe_text_from}
+use Rattle.probe_lines.specs.Stimuli.{Stimulus, StimulusEffect, Hears, Befalls, Nothing}
+use Rattle.probe_lines.specs.Stimuli as stimuli
+use Rattle.probe_lines.specs.AnswerLines.{HasEffect, TellsEffects, first_number, probe_text_from}
 
 -- what the laws of spellings say
 pub record Known : Type 0 where

@@ -8,8 +8,8 @@ use Rattle.text_fields.specs.declared.fields_fault.FieldsFault.TheVariants as re
 use Rattle.probe_lines.specs.LineFaults.{AreFaultyBehind, BeginsWithWord, IsFaultyProbeLine}
 use Rattle.probe_lines.specs.laws.LineLaws.{ProbeLineLaws}
 use Rattle.probe_lines.specs.ProbeText.{IsStimulusTooMuch, most_stimuli}
-use Rattle.probe_lines.specs.Said as lines
-use Rattle.probe_lines.specs.Said.{Stimulus}
+use Rattle.probe_lines.specs.Stimuli as lines
+use Rattle.probe_lines.specs.Stimuli.{Stimulus}
 use Rattle.probe_lines.specs.ProbeLine.{SpellsProbeLine, line_word}
 use Rattle.probe_lines.proofs.LineTexts.{stimulus_is_no_end, word_or_word}
 

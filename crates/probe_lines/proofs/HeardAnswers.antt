@@ -8,15 +8,15 @@ use Rattle.text_fields.specs.Lines.{line_feed, line_with, text_with}
 use Rattle.bit_strings.specs.BitString.{BitString}
 use Rattle.reply_grammar.specs.declared.expected.Expect.{Expect}
 use Rattle.reply_grammar.specs.declared.expected.Reply.{Reply}
-use Rattle.reply_grammar.specs.Table.{AnswersExpected, Carries}
+use Rattle.reply_grammar.specs.Replies.{AnswersExpected, Carries}
 use Rattle.reply_text.specs.ReplyText.{reply_line}
 use Rattle.tag_machine.specs.declared.any_tag.Answered.{Answered}
 use Rattle.tag_machine.specs.declared.any_tag.Answered.TheVariants.{Silent, Plain, Extended}
 use Rattle.tag_machine.specs.Answers.{Outcome, Sent, bits_sent}
 use Rattle.tag_machine.specs.declared.any_tag.Heard.{Heard}
 use Rattle.tag_machine.specs.Hearing.{GivesOutcome}
-use Rattle.probe_lines.specs.Answers.{probe_answer_line, answer_preamble_word}
-use Rattle.probe_lines.specs.Heard.{IsHeardAnswer}
+use Rattle.probe_lines.specs.AnswerLines.{probe_answer_line, answer_preamble_word}
+use Rattle.probe_lines.specs.UnreadAnswers.{IsHeardAnswer}
 
 pub reply_heard : (answer : Option Sent) (answered : Answered) (expect : Option Expect) (bits : List Bool) → IsHeardAnswer answer answered expect bits → answered ≢ Silent
     → (reply : Reply) × IsSomeAnd expect (λ it. AnswersExpected reply it bits)

@@ -14,8 +14,8 @@ use Rattle.command_grammar.specs.declared.kinds.CommandKind.TheVariants as kinds
 use Rattle.command_text.specs.CommandText.{IsCommandText, IsFaultyCommand, command_kind, command_name, other_command_fields}
 use Rattle.probe_lines.specs.declared.line.LineWord.{LineWord}
 use Rattle.probe_lines.specs.declared.line.LineWord.TheVariants as words
-use Rattle.probe_lines.specs.Said as lines
-use Rattle.probe_lines.specs.Said.{Stimulus, ProbeLine}
+use Rattle.probe_lines.specs.Stimuli as lines
+use Rattle.probe_lines.specs.Stimuli.{Stimulus, ProbeLine}
 use Rattle.probe_lines.specs.LineFaults.{AreFaultyBehind, BeginsWithWord, IsFaultyProbeLine, MisspellsCommand, MisspellsWord}
 use Rattle.probe_lines.specs.laws.LineLaws.{ProbeLineLaws}
 use Rattle.probe_lines.specs.ProbeLine.{IsProbeEvent, SpellsProbeLine, line_word, probe_events, probe_line_fields}

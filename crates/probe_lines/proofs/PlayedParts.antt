@@ -11,8 +11,8 @@ use Rattle.tag_machine.specs.declared.any_tag.AnyTag.{AnyTag}
 use Rattle.tag_machine.specs.Hearing.{tag_value_of}
 use Rattle.tag_machine.specs.TagValue.{TagValue}
 use Rattle.text_fields.specs.Lines.{text_with}
-use Rattle.probe_lines.specs.Said.{Stimulus, StimulusEffect}
-use Rattle.probe_lines.specs.Answers.{HasEffect, TellsEffects, first_number, last_text, probe_lines_behind, outcome_of_effect, probe_text_from}
+use Rattle.probe_lines.specs.Stimuli.{Stimulus, StimulusEffect}
+use Rattle.probe_lines.specs.AnswerLines.{HasEffect, TellsEffects, first_number, last_text, probe_lines_behind, outcome_of_effect, probe_text_from}
 use Rattle.probe_lines.specs.Played.{AddsFrontOf, HasPlayed, WritesFrontOf, StopsIn, TellsNext, WritesPart}
 use Rattle.probe_lines.specs.ProbeText.{SayStimuli}
 

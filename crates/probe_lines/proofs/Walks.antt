@@ -8,8 +8,8 @@ use Rattle.checked_lines.specs.declared.fault.FaultReason.{FaultReason}
 use Rattle.checked_lines.specs.declared.fault.FaultReason.TheVariants.{Word, Limit, Shape, Number}
 use Rattle.checked_lines.specs.laws.OneOutcome.{AreUnambiguous, one_text}
 use Rattle.scenario_lines.specs.declared.tag.TagSpec.{TagSpec}
-use Rattle.probe_lines.specs.Said.{ProbeLine, Stimulus}
-use Rattle.probe_lines.specs.Said as lines
+use Rattle.probe_lines.specs.Stimuli.{ProbeLine, Stimulus}
+use Rattle.probe_lines.specs.Stimuli as lines
 use Rattle.probe_lines.specs.LineFaults.{IsFaultyProbeLine}
 use Rattle.probe_lines.specs.laws.LineLaws.{ProbeLineLaws, TagLineLaws}
 use Rattle.probe_lines.specs.ProbeLine.{SpellsProbeLine}

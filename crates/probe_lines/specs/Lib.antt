@@ -1,8 +1,8 @@
-pub mod Said
+pub mod Stimuli
 pub mod ProbeLine
 pub mod LineFaults
 pub mod ProbeText
-pub mod Answers
-pub mod Heard
+pub mod AnswerLines
+pub mod UnreadAnswers
 pub mod Played
 pub mod laws

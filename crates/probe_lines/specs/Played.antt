@@ -4,9 +4,9 @@ use Rattle.air_io.specs.Flow.{Adds, FaultsRose}
 use Rattle.report_lines.specs.declared.mode.PlayFault.{PlayFault}
 use Rattle.report_lines.specs.declared.mode.PlayFault.TheVariants.{Write, OutOfMemory}
 use Rattle.tag_machine.specs.TagValue.{TagValue}
-use Rattle.probe_lines.specs.Said.{Stimulus, StimulusEffect}
+use Rattle.probe_lines.specs.Stimuli.{Stimulus, StimulusEffect}
 use Rattle.text_fields.specs.Lines.{text_with}
-use Rattle.probe_lines.specs.Answers.{HasEffect, TellsEffects, probe_lines_behind, outcome_of_effect}
+use Rattle.probe_lines.specs.AnswerLines.{HasEffect, TellsEffects, probe_lines_behind, outcome_of_effect}
 
 -- the text that tells what comes of this, done to the tag, was written whole
 pub record WritesText (tag : TagValue) (said : List Stimulus) (written written' : Option (List ℕ)) : Type 0 where

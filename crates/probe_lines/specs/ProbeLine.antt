@@ -16,8 +16,8 @@ use Rattle.scenario_lines.specs.Spelling.{tag_spec_fields}
 use Rattle.scenario_lines.specs.TagForm.{IsTag}
 use Rattle.probe_lines.specs.declared.line.LineWord.{LineWord}
 use Rattle.probe_lines.specs.declared.line.LineWord.TheVariants as words
-use Rattle.probe_lines.specs.Said.{ProbeLine}
-use Rattle.probe_lines.specs.Said as lines
+use Rattle.probe_lines.specs.Stimuli.{ProbeLine}
+use Rattle.probe_lines.specs.Stimuli as lines
 
 -- the first line of a probe, its version
 abbrev pub version_line : List ℕ

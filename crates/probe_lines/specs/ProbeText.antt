@@ -9,8 +9,8 @@ use Rattle.scenario_lines.specs.declared.keywords.Keyword.TheVariants as keyword
 use Rattle.scenario_lines.specs.declared.tag.TagSpec.{TagSpec}
 use Rattle.scenario_lines.specs.Names.{keyword_text}
 use Rattle.scenario_lines.specs.Reading.{MisreadsTag}
-use Rattle.probe_lines.specs.Said.{Stimulus, ProbeLine}
-use Rattle.probe_lines.specs.Said as lines
+use Rattle.probe_lines.specs.Stimuli.{Stimulus, ProbeLine}
+use Rattle.probe_lines.specs.Stimuli as lines
 use Rattle.probe_lines.specs.declared.line.LineWord.TheVariants as words
 use Rattle.probe_lines.specs.ProbeLine.{SpellsProbeLine, SpellsTag, version_line}
 use Rattle.probe_lines.specs.LineFaults.{BeginsWithWord, IsFaultyProbeLine}

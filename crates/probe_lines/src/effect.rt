@@ -1,7 +1,7 @@
 //! What a line does to the tag.
 ghost use Rattle.std.specs.Prelude.{◌≡◌, ◌≤◌, length};
-ghost use Rattle.probe_lines.specs.Said.{Does, SendsBits, effect_with, stimulus_with};
-ghost use Rattle.probe_lines.specs.Answers.{HasEffect};
+ghost use Rattle.probe_lines.specs.Stimuli.{Does, SendsBits, effect_with, stimulus_with};
+ghost use Rattle.probe_lines.specs.AnswerLines.{HasEffect};
 ghost use Rattle.probe_lines.specs.ProbeLine.{IsProbeLine, most_line_bits};
 
 use crate::line::SaidStimulus;

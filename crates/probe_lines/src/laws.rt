@@ -5,8 +5,8 @@ ghost use Rattle.std.specs.List.{AllZip};
 ghost use Rattle.checked_lines.specs.declared.fault.FaultReason.{FaultReason};
 ghost use Rattle.scenario_lines.specs.declared.tag.TagSpec.{TagSpec};
 ghost use Rattle.tag_machine.specs.TagValue.{TagValue};
-ghost use Rattle.probe_lines.specs.Said.{Stimulus, StimulusEffect};
-ghost use Rattle.probe_lines.specs.Answers.{HasEffect, TellsEffects};
+ghost use Rattle.probe_lines.specs.Stimuli.{Stimulus, StimulusEffect};
+ghost use Rattle.probe_lines.specs.AnswerLines.{HasEffect, TellsEffects};
 ghost use Rattle.probe_lines.specs.laws.LineLaws.{ProbeLineLaws, TagLineLaws};
 ghost use Rattle.probe_lines.specs.ProbeText.{IsFirstProbeFault, IsProbe};
 

@@ -6,8 +6,8 @@ ghost use Rattle.text_fields.specs.Lines.{fields_behind, line_feed, line_with, s
 ghost use Rattle.reply_text.specs.ReplyText.{reply_line};
 ghost use Rattle.tag_machine.specs.Answers.{Sent};
 ghost use Rattle.tag_machine.specs.Hearing.{tag_value_of};
-ghost use Rattle.probe_lines.specs.Answers.{probe_answer_line, cover_word, half_word, number_fields, password_word, state_line};
-ghost use Rattle.probe_lines.specs.Heard.{IsHeardAnswer};
+ghost use Rattle.probe_lines.specs.AnswerLines.{probe_answer_line, cover_word, half_word, number_fields, password_word, state_line};
+ghost use Rattle.probe_lines.specs.UnreadAnswers.{IsHeardAnswer};
 
 use answer_reading::expected_reply_to;
 use bit_strings::{Bits, OutOfMemory};

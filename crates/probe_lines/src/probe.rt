@@ -1,7 +1,7 @@
 //! A probe, read from its text.
 ghost use Rattle.std.specs.Prelude.{◌≡◌, ◌↔◌, List, IfOk, IfErr, IsTrue};
 ghost use Rattle.scenario_lines.specs.TagForm.{IsTag};
-ghost use Rattle.probe_lines.specs.Said.{Stimulus};
+ghost use Rattle.probe_lines.specs.Stimuli.{Stimulus};
 ghost use Rattle.probe_lines.specs.ProbeLine.{version_line};
 ghost use Rattle.probe_lines.specs.ProbeText.{AreStimuli, IsFirstProbeFault, IsProbe};
 

@@ -3,7 +3,7 @@ ghost use Rattle.std.specs.Prelude.{◌≡◌, ◌<◌, ◌≤◌, ◌↔◌, �
 ghost use Rattle.text_fields.specs.Binary.{binary};
 ghost use Rattle.text_fields.specs.Lines.{fields_of};
 ghost use Rattle.probe_lines.specs.LineFaults.{AreFaultyBits, AreFaultyEnd, BeginsWithWord, IsFaultyProbeLine};
-ghost use Rattle.probe_lines.specs.Said.{probe_line_with};
+ghost use Rattle.probe_lines.specs.Stimuli.{probe_line_with};
 ghost use Rattle.probe_lines.specs.ProbeLine.{SpellsProbeLine, SpellsTag, line_word, most_line_bits};
 ghost use Rattle.scenario_lines.specs.declared.keywords.Keyword.{Keyword};
 ghost use Rattle.scenario_lines.specs.Names.{keyword_text};

@@ -1,7 +1,7 @@
 //! What is done to the tag, line by line.
 ghost use Rattle.std.specs.Prelude.{◌≡◌, ◌≤◌, ◌<◌, ◌+◌, ℕ, List, [], ◌∷◌, length, IfOk, IfErr, IfSome, IfNone};
 ghost use Rattle.text_fields.specs.Lines.{lines_of};
-ghost use Rattle.probe_lines.specs.Said.{Does, Stimulus, stimulus_with};
+ghost use Rattle.probe_lines.specs.Stimuli.{Does, Stimulus, stimulus_with};
 ghost use Rattle.probe_lines.specs.ProbeLine.{IsProbeLine};
 ghost use Rattle.probe_lines.specs.ProbeText.{EndProbe, IsFirstFaultBehind, SayStimuli};
 
@@ -25,7 +25,7 @@ pub(crate) struct Stimuli<'a> {
 impl<'a> Model for Stimuli<'a> {
     ghost use Rattle.std.specs.Prelude.{List, ℕ};
     ghost use Rattle.text_fields.specs.Lines.{lines_of};
-    ghost use Rattle.probe_lines.specs.Said.{Stimulus};
+    ghost use Rattle.probe_lines.specs.Stimuli.{Stimulus};
     ghost use Rattle.probe_lines.specs.ProbeText.{AreStimuli};
 
     ghost Value = { List (List ℕ) };

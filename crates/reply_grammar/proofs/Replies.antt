@@ -14,7 +14,7 @@ use Rattle.reply_grammar.specs.declared.expected.Reply.{Reply}
 use Rattle.reply_grammar.specs.declared.expected.Reply.TheVariants.{Rn16, Epc, Handle, Words, Header, Error}
 use Rattle.reply_grammar.specs.declared.expected.ReplyRefusal.{ReplyRefusal}
 use Rattle.reply_grammar.specs.declared.expected.ReplyRefusal.TheVariants.{Length, Crc, Header as HeaderBit, Number}
-use Rattle.reply_grammar.specs.Table.{AnswersExpected, Suits, Carries, IsReply, AreWords, handle_of, spelling, with_check}
+use Rattle.reply_grammar.specs.Replies.{AnswersExpected, Suits, Carries, IsReply, AreWords, handle_of, spelling, with_check}
 use Rattle.reply_grammar.specs.Refusals.{RefusesReply, Passes}
 
 -- a reply that suits an expectation answers it

@@ -10,7 +10,7 @@ use Rattle.reply_grammar.specs.declared.expected.Expect.{Expect}
 use Rattle.reply_grammar.specs.declared.expected.Expect.TheVariants.{Rn16 as OneRn16, Epc as OneEpc, Handle as OneHandle, Same, Words as SomeWords, AnyWords, Header as OneHeader}
 use Rattle.reply_grammar.specs.declared.expected.Reply.{Reply}
 use Rattle.reply_grammar.specs.declared.expected.Reply.TheVariants.{Rn16, Epc, Handle, Words, Header, Error}
-use Rattle.reply_grammar.specs.Table.{Suits, suits, IsReply, FitsBank, longest_reply, spelling, with_check}
+use Rattle.reply_grammar.specs.Replies.{Suits, suits, IsReply, FitsBank, longest_reply, spelling, with_check}
 use Rattle.reply_grammar.specs.laws.Passing.{length-with_check}
 
 both-true : (a b : Bool) → (a && b) ≡ true → (a ≡ true) × (b ≡ true)

@@ -5,7 +5,7 @@ use Rattle.bit_strings.specs.NumbersInBits.{value_of, field_of}
 use Rattle.bit_strings.specs.Words.{bits_of_words}
 use Rattle.gen2_crc.specs.Crc.{crc16_of}
 use Rattle.gen2_crc.specs.laws.CheckNumbers.{field_of-crc16}
-use Rattle.reply_grammar.specs.Table.{with_check}
+use Rattle.reply_grammar.specs.Replies.{with_check}
 
 -- a part more behind what was written
 pub wrote : (a b : BitString) (front more : List Bool) (capacity : ℕ) → a ≡ record { items = front; capacity = capacity } → b ≡ record { items = a.items ++ more; capacity = a.capacity } → b ≡ record { items = front ++ more; capacity = capacity }

@@ -1,6 +1,6 @@
-pub mod Pairs
+pub mod PcAndEpc
 pub mod Reception
 pub mod Refusals
-pub mod Table
+pub mod Replies
 pub mod laws
 pub use Rattle.bit_strings.specs.Words

@@ -1,7 +1,7 @@
 //! Bits to replies.
 ghost use Rattle.std.specs.Prelude.{◌≡◌, ℕ, ◌+◌, ◌-◌, ◌*◌, ◌≤◌, ◌==◌, ◌↔◌, List, length, take, IsTrue, IfOk, IfErr, OnOk, OnErr, Ok, Err};
 ghost use Rattle.bit_strings.specs.NumbersInBits.{value_of, part_of};
-ghost use Rattle.reply_grammar.specs.Table.{AnswersExpected};
+ghost use Rattle.reply_grammar.specs.Replies.{AnswersExpected};
 ghost use Rattle.reply_grammar.specs.Refusals.{RefusesReply, FitsLength, PassesCheck, PassesHeader, PassesNumber, EndsWithCheck, HasHandle, Passes};
 ghost use Rattle.reply_grammar.specs.declared.expected.Expect.TheVariants.{Epc as OneEpc};
 ghost use Rattle.reply_grammar.specs.declared.expected.Reply.{Reply};

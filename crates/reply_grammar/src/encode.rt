@@ -1,7 +1,7 @@
 //! Replies to bits.
 ghost use Rattle.std.specs.Prelude.{◌≡◌, ◌+◌, ◌*◌, ◌/◌, ◌^◌, ◌<◌, ◌≤◌, [], ◌∷◌, ◌++◌, length};
 ghost use Rattle.bit_strings.specs.NumbersInBits.{field_of};
-ghost use Rattle.reply_grammar.specs.Table.{AnswersExpected, CanBeSent, Carries, FitsBank, IsReply, Suits, longest_reply, spelling, with_check, reply_room};
+ghost use Rattle.reply_grammar.specs.Replies.{AnswersExpected, CanBeSent, Carries, FitsBank, IsReply, Suits, longest_reply, spelling, with_check, reply_room};
 ghost use Rattle.reply_grammar.specs.declared.expected.Expect.{Expect};
 ghost use Rattle.reply_grammar.specs.declared.expected.Reply.TheVariants.{Rn16, Epc, Handle, Words, Header, Error};
 

@@ -1,6 +1,6 @@
 //! The law of replies.
 ghost use Rattle.std.specs.Prelude.{◌≡◌, ℕ, ◌≤◌, ◌⊎◌, ◌↔◌, List, Bool, true, length};
-ghost use Rattle.reply_grammar.specs.Table.{AnswersExpected, FitsBank, IsReply, Suits, longest_reply, spelling, suits};
+ghost use Rattle.reply_grammar.specs.Replies.{AnswersExpected, FitsBank, IsReply, Suits, longest_reply, spelling, suits};
 ghost use Rattle.reply_grammar.specs.Refusals.{RefusesReply};
 ghost use Rattle.reply_grammar.specs.declared.expected.Expect.{Expect};
 ghost use Rattle.reply_grammar.specs.declared.expected.Reply.{Reply};

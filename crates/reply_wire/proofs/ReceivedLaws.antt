@@ -8,7 +8,7 @@ use Rattle.line_code.specs.laws.Streams.{begins_front, one_stream, refused_is_no
 use Rattle.line_code.specs.declared.refusal.LineRefusal.TheVariants.{Invalid, Unfinished}
 use Rattle.line_codes.specs.laws.Codes.{code_even, code_tells}
 use Rattle.line_codes.specs.Codes.{table_of, chips_of}
-use Rattle.reply_grammar.specs.Table.{AnswersExpected}
+use Rattle.reply_grammar.specs.Replies.{AnswersExpected}
 use Rattle.reply_grammar.specs.Refusals.{RefusesReply}
 use Rattle.reply_grammar.specs.laws.Passing.{answers_pass}
 use Rattle.reply_grammar.proofs.Replies.{one_reply, passes_apart}

@@ -2,7 +2,7 @@
 use Rattle.std.proofs.Common.{inl, inr, Bool, List, length, refl}
 use Rattle.line_code.specs.Table.{Table}
 use Rattle.line_code.specs.Stream.{IsStream}
-use Rattle.reply_grammar.specs.Table.{AnswersExpected}
+use Rattle.reply_grammar.specs.Replies.{AnswersExpected}
 use Rattle.reply_grammar.specs.laws.SomeReply.{reply_or_fault}
 use Rattle.reply_grammar.specs.declared.expected.Expect.{Expect}
 use Rattle.reply_grammar.specs.declared.expected.Reply.{Reply}

@@ -4,7 +4,7 @@ use Rattle.std.specs.Prelude.{◌≡◌, ℕ, ◌⊎◌, Bool, List, length}
 use Rattle.bit_strings.specs.Family.{IsBadAt, IsShortAt}
 use Rattle.line_code.specs.Table.{Table}
 use Rattle.line_code.specs.Stream.{IsStream, Streams}
-use Rattle.reply_grammar.specs.Table.{AnswersExpected}
+use Rattle.reply_grammar.specs.Replies.{AnswersExpected}
 use Rattle.reply_grammar.specs.Refusals.{RefusesReply}
 use Rattle.reply_grammar.specs.declared.expected.Expect.{Expect}
 use Rattle.reply_grammar.specs.declared.expected.Reply.{Reply}

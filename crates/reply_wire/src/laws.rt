@@ -3,7 +3,7 @@ ghost use Rattle.std.specs.Prelude.{◌≡◌, ◌^◌, ◌<◌, ℕ, List, Bool
 ghost use Rattle.bit_strings.specs.declared.code.Code.{Code};
 ghost use Rattle.line_code.specs.Stream.{IsStream};
 ghost use Rattle.line_codes.specs.Codes.{table_of};
-ghost use Rattle.reply_grammar.specs.Table.{AnswersExpected, Carries, IsReply, Suits, spelling};
+ghost use Rattle.reply_grammar.specs.Replies.{AnswersExpected, Carries, IsReply, Suits, spelling};
 ghost use Rattle.reply_grammar.specs.declared.expected.Expect.{Expect};
 ghost use Rattle.reply_grammar.specs.declared.expected.Expect.TheVariants.{Rn16 as OneRn16, Epc as OneEpc, Handle as OneHandle, Same};
 ghost use Rattle.reply_grammar.specs.declared.expected.Reply.{Reply};

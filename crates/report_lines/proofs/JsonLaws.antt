@@ -14,12 +14,12 @@ use Rattle.lock_rules.specs.declared.locks.Locks.{Locks}
 use Rattle.lock_rules.specs.declared.locks.Pair.{Pair}
 use Rattle.q_round.specs.declared.round.RoundEnd.{RoundEnd}
 use Rattle.q_round.specs.declared.round.RoundEnd.TheVariants as ends
-use Rattle.reply_grammar.specs.Table.{AreWords}
+use Rattle.reply_grammar.specs.Replies.{AreWords}
 use Rattle.report_lines.specs.JsonLines.{digits_of, json_pairs, result_value, result_word}
 use Rattle.report_lines.specs.ReportLine.{ReportLine, ListLine, OpLine, RoundLine, SeenLine, TagLine, DoneLine, end_word, flags_word, state_word}
 use Rattle.report_lines.specs.Unescaped.{BringsWords, HasWords, IsPlainPair, IsUnescaped}
 use Rattle.session_flags.specs.declared.flags.Flags.{Flags}
-use Rattle.tag_machine.specs.Names.{name_of}
+use Rattle.tag_machine.specs.StateNames.{name_of}
 use Rattle.tag_machine.specs.declared.states.StateName.{StateName}
 use Rattle.tag_machine.specs.declared.states.StateName.TheVariants as names
 use Rattle.text_fields.specs.Binary.{binary_digit}

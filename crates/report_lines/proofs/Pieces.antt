@@ -1,7 +1,7 @@
 -- What a text has gained after several pieces.
 use Rattle.std.proofs.Common.{◌≡◌, ℕ, List, [], ◌∷◌, ◌++◌, map, codes, refl, sym, ap, ◌∙◌, append_assoc}
 use Rattle.std.specs.Fmt.{decimal}
-use Rattle.tag_machine.specs.Names.{name_of}
+use Rattle.tag_machine.specs.StateNames.{name_of}
 use Rattle.tag_machine.specs.TagValue.{TagValue}
 use Rattle.text_fields.specs.Hexadecimal.{hex_words}
 use Rattle.text_fields.specs.Lines.{fields_behind, line_feed, line_with, space}

@@ -4,8 +4,8 @@ use Rattle.std.specs.Prelude.{sum}
 use Rattle.std.proofs.lemmas.List.Sums.{sum_by-cons}
 use Rattle.std.specs.Map.{lookup}
 use Rattle.indexmap.specs.IndexMap.{insert_entry}
-use Rattle.reply_grammar.specs.Pairs.{same_pair}
-use Rattle.report_lines.specs.declared.seen.Listed.{Listed}
+use Rattle.reply_grammar.specs.PcAndEpc.{same_pair}
+use Rattle.report_lines.specs.declared.seen_counts.Listed.{Listed}
 use Rattle.report_lines.specs.Entries.{seen_of_listed, seen_of_entry}
 use Rattle.report_lines.specs.SeenCounts.{SeenCount, count_of, seen_counts, seen_more, total_of}
 use Rattle.report_lines.proofs.SeenLaws.{seen_in-more}

@@ -3,7 +3,7 @@ use Rattle.std.proofs.Common.{◌≡◌, inl, inr, ℕ, ◌+◌, ◌≤◌, true
 use Rattle.std.specs.Prelude.{filter, count_by, if◌then◌else◌}
 use Rattle.std.proofs.lemmas.Bool.{cases_Bool}
 use Rattle.std.proofs.lemmas.List.Sums.{count_by-le-length, sum_by-append}
-use Rattle.reply_grammar.specs.Pairs.{same_pair}
+use Rattle.reply_grammar.specs.PcAndEpc.{same_pair}
 use Rattle.reply_grammar.proofs.SamePairs.{same_pair-is, same_pair-refl, same_pair-equal}
 use Rattle.report_lines.specs.SeenCounts.{SeenCount, counts_pair, distinct, seen_among, seen_counts, seen_more, count_of}
 

@@ -5,9 +5,9 @@ use Rattle.std.proofs.lemmas.Bool.{cases_Bool}
 use Rattle.pie_line.specs.Link.{LinkValue}
 use Rattle.wave_dump.specs.Drawing.{DrawingValue}
 use Rattle.wave_dump.specs.Waves.{new_dump}
-use Rattle.report_lines.specs.Kept.{keeps, kept_line_text, kept_text, line_text_of}
+use Rattle.report_lines.specs.ModeLines.{keeps, kept_line_text, kept_text, line_text_of}
 use Rattle.report_lines.specs.ReportLine.{ReportLine, text_by}
-use Rattle.report_lines.specs.Spelled.{drawing_after, drawn_line, drawn_text, line_of_mode, mode_behind, new_spelling, text_in, SpellingValue}
+use Rattle.report_lines.specs.ModeReport.{drawing_after, drawn_line, drawn_text, line_of_mode, mode_behind, new_spelling, text_in, SpellingValue}
 use Rattle.report_lines.specs.TextReport.{text_from}
 use Rattle.report_lines.specs.declared.mode.Mode.{Mode}
 use Rattle.report_lines.specs.declared.mode.Mode.TheVariants.{Vcd}

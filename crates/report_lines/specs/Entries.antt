@@ -1,6 +1,6 @@
 -- The entries of a map from pairs of PC and EPC to counts, as counts.
 use Rattle.std.specs.Prelude.{ℕ, List, map}
-use Rattle.report_lines.specs.declared.seen.Listed.{Listed}
+use Rattle.report_lines.specs.declared.seen_counts.Listed.{Listed}
 use Rattle.report_lines.specs.SeenCounts.{SeenCount}
 
 -- an entry, as a count

@@ -6,7 +6,7 @@ use Rattle.serde_json.specs.Written.{compact_text}
 use Rattle.access_ops.specs.declared.op_next.OpResult.{OpResult}
 use Rattle.access_ops.specs.declared.op_next.OpResult.TheVariants as results
 use Rattle.report_lines.specs.ReportLine.{ReportLine, ListLine, OpLine, RoundLine, SeenLine, TagLine, DoneLine, end_word, flags_word, state_word}
-use Rattle.tag_machine.specs.Names.{name_of}
+use Rattle.tag_machine.specs.StateNames.{name_of}
 use Rattle.text_fields.specs.Hexadecimal.{hex_byte, hex_word}
 use Rattle.text_fields.specs.Lines.{line_feed}
 use Rattle.value_text.specs.ValueText.{locks_text}

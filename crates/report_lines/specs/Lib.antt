@@ -5,8 +5,8 @@ pub mod JsonLines
 pub mod JsonObject
 pub mod Unescaped
 pub mod Names
-pub mod Kept
-pub mod Spelled
+pub mod ModeLines
+pub mod ModeReport
 pub mod TextReport
 pub mod SeenCounts
 pub mod Entries

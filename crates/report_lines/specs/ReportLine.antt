@@ -20,7 +20,7 @@ use Rattle.value_text.specs.ValueText.{locks_text}
 use Rattle.session_flags.specs.declared.flags.Flags.{Flags}
 use Rattle.tag_machine.specs.declared.states.StateName.{StateName}
 use Rattle.tag_machine.specs.declared.states.StateName.TheVariants as names
-use Rattle.tag_machine.specs.Names.{name_of}
+use Rattle.tag_machine.specs.StateNames.{name_of}
 use Rattle.tag_machine.specs.TagValue.{TagValue}
 
 -- what a run tells at one time, with the values that its line has

@@ -1,6 +1,6 @@
 -- Profile: how often each pair of PC and EPC was listed, in the order in which they came first.
 use Rattle.std.specs.Prelude.{ℕ, ◌+◌, Bool, not, List, [], ◌∷◌, map, filter, count_by, if◌then◌else◌}
-use Rattle.reply_grammar.specs.Pairs.{same_pair}
+use Rattle.reply_grammar.specs.PcAndEpc.{same_pair}
 use Rattle.report_lines.specs.ReportLine.{ReportLine, SeenLine}
 
 -- a PC with an EPC, and how often they were listed

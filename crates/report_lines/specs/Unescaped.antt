@@ -4,7 +4,7 @@ use Rattle.json.specs.Print.{escape}
 use Rattle.serde_json.specs.Data.{Data, string}
 use Rattle.access_ops.specs.declared.op_next.OpResult.{OpResult}
 use Rattle.access_ops.specs.declared.op_next.OpResult.TheVariants as results
-use Rattle.reply_grammar.specs.Table.{AreWords}
+use Rattle.reply_grammar.specs.Replies.{AreWords}
 use Rattle.report_lines.specs.ReportLine.{ReportLine, ListLine, OpLine, SeenLine, TagLine}
 use Rattle.tag_memory.specs.Memory.{AreBanksOfWords}
 

@@ -12,7 +12,7 @@ use crate::json_shapes::{
 use crate::line::Line;
 use crate::lines::end_name;
 use crate::member_texts::{MemberTexts, set_flags, set_locks, set_result, set_word, set_words};
-use crate::tags::state_text;
+use crate::tag_line::state_text;
 use access_ops::OpResult;
 use bit_strings::OutOfMemory;
 use q_round::RoundEnd;

@@ -1,6 +1,6 @@
 //! Who hears what a run tells.
 ghost use Rattle.std.specs.Prelude.{◌≡◌, List, [], ◌∷◌, ◌++◌, IsFalse, Option, true};
-ghost use Rattle.report_lines.specs.Kept.{is_of_exchanges, is_of_trace};
+ghost use Rattle.report_lines.specs.ModeLines.{is_of_exchanges, is_of_trace};
 ghost use Rattle.report_lines.specs.Line.{line_of};
 ghost use Rattle.report_lines.specs.ReportLine.{ReportLine};
 ghost use Rattle.report_lines.specs.declared.mode.PlayFault.{PlayFault as Fault};

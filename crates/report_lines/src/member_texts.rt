@@ -6,7 +6,7 @@ ghost use Rattle.report_lines.specs.ReportLine.{flags_word};
 ghost use Rattle.text_fields.specs.Hexadecimal.{hex_word};
 ghost use Rattle.value_text.specs.ValueText.{locks_text};
 
-use crate::tags::push_flags;
+use crate::tag_line::push_flags;
 use access_ops::OpResult;
 use bit_strings::OutOfMemory;
 use command_grammar::Bank;

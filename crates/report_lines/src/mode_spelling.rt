@@ -1,10 +1,10 @@
 //! The report of a mode, spelled as it is told.
 ghost use Rattle.std.specs.Prelude.{◌≡◌, ◌++◌, IfOk, OnOk, true};
 ghost use Rattle.std.specs.String.{string_bytes};
-ghost use Rattle.report_lines.specs.Kept.{is_of_exchanges, is_of_trace, keeps};
+ghost use Rattle.report_lines.specs.ModeLines.{is_of_exchanges, is_of_trace, keeps};
 ghost use Rattle.report_lines.specs.Line.{line_of};
 ghost use Rattle.report_lines.specs.ReportLine.{ReportLine};
-ghost use Rattle.report_lines.specs.Spelled.{drawing_after, drawn_line, new_spelling};
+ghost use Rattle.report_lines.specs.ModeReport.{drawing_after, drawn_line, new_spelling};
 
 use crate::json_writing::push_json_line;
 use crate::line::Line;
@@ -30,7 +30,7 @@ pub struct ModeSpelling {
 }
 
 impl Model for ModeSpelling {
-    ghost use Rattle.report_lines.specs.Spelled.{SpellingValue};
+    ghost use Rattle.report_lines.specs.ModeReport.{SpellingValue};
 
     ghost Value = { SpellingValue };
 
@@ -53,7 +53,7 @@ impl ModeSpelling {
 }
 
 impl Spelling for ModeSpelling {
-    ghost use Rattle.report_lines.specs.Spelled.{line_of_mode, mode_behind};
+    ghost use Rattle.report_lines.specs.ModeReport.{line_of_mode, mode_behind};
 
     ghost text_of = { line_of_mode };
 

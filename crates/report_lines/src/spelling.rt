@@ -1,7 +1,7 @@
 //! How lines are spelled.
 ghost use Rattle.std.specs.Prelude.{◌≡◌, ◌++◌, ℕ, List, [], IsFalse, OnOk, true};
 ghost use Rattle.std.specs.String.{string_bytes};
-ghost use Rattle.report_lines.specs.Kept.{is_of_exchanges, is_of_trace};
+ghost use Rattle.report_lines.specs.ModeLines.{is_of_exchanges, is_of_trace};
 ghost use Rattle.report_lines.specs.Line.{line_of};
 ghost use Rattle.report_lines.specs.ReportLine.{ReportLine, report_line_text};
 
@@ -13,8 +13,8 @@ use crate::lines::{
     push_blf_line, push_done_line, push_list_line, push_round_line, push_rx_line, push_seen_line,
     push_tx_line,
 };
-use crate::results::push_op_line;
-use crate::tags::push_tag_line;
+use crate::operation_line::push_op_line;
+use crate::tag_line::push_tag_line;
 use bit_strings::OutOfMemory;
 use pie_text::KeptIntervals;
 

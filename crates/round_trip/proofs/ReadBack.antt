@@ -22,7 +22,7 @@ use Rattle.pie_text.proofs.WaveLength.{length-wave}
 use Rattle.command_grammar.specs.Commands.{spelling_of, IsLegalCommand, SpellsCommand}
 use Rattle.command_grammar.specs.declared.commands.Command.{Command as OneCommand}
 use Rattle.command_text.proofs.FieldTexts.{Texts, bit_is, code_is, no_more, only, with}
-use Rattle.reply_grammar.specs.Table.{AnswersExpected, FitsBank, IsReply, handle_of}
+use Rattle.reply_grammar.specs.Replies.{AnswersExpected, FitsBank, IsReply, handle_of}
 use Rattle.reply_grammar.proofs.Suiting.{spelling-within}
 use Rattle.reply_grammar.specs.declared.expected.Expect.{Expect}
 use Rattle.reply_grammar.specs.declared.expected.Expect.TheVariants.{Rn16 as OneRn16, Epc as OneEpc, Handle as OneHandle, Same, Words as SomeWords, AnyWords, Header as OneHeader}

@@ -4,7 +4,7 @@ use Rattle.std.proofs.Common.{◌≡◌, ℕ, zero, suc, ◌⊎◌, inl, inr, Bo
 use Rattle.std.proofs.lemmas.Bool.{eq-eqb}
 use Rattle.access_ops.specs.laws.OperationLaws.{Expects}
 use Rattle.access_ops.specs.Operations.{words_expected}
-use Rattle.tag_machine.specs.Exchange.{AreLegalTags, outcomes_in, replies_in}
+use Rattle.tag_machine.specs.TagsInExchange.{AreLegalTags, outcomes_in, replies_in}
 use Rattle.air_model.specs.Channel.{given_in}
 use Rattle.air_model.specs.Past.{Start}
 use Rattle.air_model.specs.Reception.{has_handle, is_expected, HoldsOfSent, IsReplyFor, IsGivenFor, IsUnmistakable}
@@ -17,7 +17,7 @@ use Rattle.command_grammar.specs.declared.commands.Command.{Command}
 use Rattle.command_grammar.specs.declared.commands.Command.TheVariants as commands
 use Rattle.reply_grammar.specs.laws.Passing.{answers_pass}
 use Rattle.reply_grammar.proofs.Suiting.{suits-from}
-use Rattle.reply_grammar.specs.Table.{AnswersExpected, Suits, handle_of, spelling, suits}
+use Rattle.reply_grammar.specs.Replies.{AnswersExpected, Suits, handle_of, spelling, suits}
 use Rattle.reply_grammar.specs.declared.expected.Expect.{Expect}
 use Rattle.reply_grammar.specs.declared.expected.Expect.TheVariants as expects
 use Rattle.reply_grammar.specs.declared.expected.Reply.{Reply}

@@ -7,10 +7,10 @@ use Rattle.air_events.specs.declared.Several.TheVariants as severals
 use Rattle.runs.specs.Headline.{AreLegalSteps, rounds_of}
 use Rattle.runs.specs.History.{history_of}
 use Rattle.runs.specs.Complete.{HasNumber, IsMatchedTag, ListsNoTagTwice, StepsFlags, IsQuietComplete, EndsByLimit, CompleteInventory}
-use Rattle.runs.specs.Counted.{is_spoken_to, CountedRound}
+use Rattle.runs.specs.CountedTags.{is_spoken_to, CountedRound}
 use Rattle.runs.specs.Honest.{IsHonest, IsApart}
 use Rattle.runs.specs.Listed.{is_of_round, is_of_slot, tags_listed_in, tags_listed_in_slot, times}
-use Rattle.runs.specs.Moments.{Ending, ending_of, past_after_query, tag_after_query, is_matched_in, flags_after_query}
+use Rattle.runs.specs.MomentsOfRound.{Ending, ending_of, past_after_query, tag_after_query, is_matched_in, flags_after_query}
 use Rattle.runs.specs.TagAtEnd.{StandsAtQuiet, StandsAtEnd, IsListedOnce}
 use Rattle.runs.specs.TagInRound.{is_matched, flags_in_round}
 use Rattle.runs.proofs.Records.{AllRecords, records-at, records-behind, records-all}

@@ -8,7 +8,7 @@ use Rattle.std.specs.List.{AllByRecursion}
 use Rattle.std.specs.Prelude.{nat_eq}
 use Rattle.access_ops.specs.declared.OpList.{OpList}
 use Rattle.air_model.specs.Channel.{Given, whole, raw, IsOfReplies}
-use Rattle.tag_machine.specs.Exchange.{Replied}
+use Rattle.tag_machine.specs.TagsInExchange.{Replied}
 use Rattle.air_model.specs.Past.{Start, Record, Item, exchanged, tag_behind, next_entry}
 use Rattle.air_model.specs.Reception.{is_expected, reception_of}
 use Rattle.air_events.specs.Entries.{no_entry, entry_at}
@@ -19,10 +19,10 @@ use Rattle.runs.specs.Listing.{Listed, reception_of_ack, listed_from, listed_by,
 use Rattle.command_grammar.specs.declared.commands.Command.{Command}
 use Rattle.command_grammar.specs.declared.commands.Command.TheVariants as commands
 use Rattle.runs.specs.Complete.{HasNumber}
-use Rattle.runs.specs.Counted.{is_spoken_to, tags_spoken_to}
+use Rattle.runs.specs.CountedTags.{is_spoken_to, tags_spoken_to}
 use Rattle.runs.specs.EveryTag.{AllTakePart, HaveOwnEpcs, pairs_listed, ListsEveryTag}
 use Rattle.runs.specs.Listed.{listed_as, sender_where, sender_listed_by, is_of_round, tags_listed_where, tags_listed_in, times}
-use Rattle.runs.specs.Moments.{Ending, ending_of, tag_after_query}
+use Rattle.runs.specs.MomentsOfRound.{Ending, ending_of, tag_after_query}
 use Rattle.runs.specs.TagInRound.{is_matched, flags_behind_query}
 use Rattle.runs.proofs.CompleteRound.{IsTold, IsToldBy, RoundsHaveFacts, IsFairRound, history-told, told-counted}
 use Rattle.runs.proofs.RoundsAmong.{RoundAmong, played}
@@ -42,7 +42,7 @@ use Rattle.reply_grammar.specs.Reception.{whole_reply, no_such_reply}
 use Rattle.reply_grammar.specs.declared.expected.Expect.TheVariants as expects
 use Rattle.reply_grammar.specs.declared.expected.Reply.{Reply}
 use Rattle.reply_grammar.specs.declared.expected.Reply.TheVariants as replies
-use Rattle.reply_grammar.specs.Pairs.{same_pair}
+use Rattle.reply_grammar.specs.PcAndEpc.{same_pair}
 use Rattle.report_lines.specs.SeenCounts.{distinct}
 use Rattle.scenario.specs.declared.values.Step.TheVariants as steps
 use Rattle.session_flags.specs.Flags.{matches}

@@ -1,6 +1,6 @@
 -- What is listed is what was heard, whoever sent it.
 use Rattle.std.proofs.Common.{◌≡◌, ℕ, ◌∷◌, ◌++◌, [], List, length, Some, ap, arith}
-use Rattle.tag_machine.specs.Exchange.{AreLegalTags}
+use Rattle.tag_machine.specs.TagsInExchange.{AreLegalTags}
 use Rattle.air_model.specs.Channel.{Given, silence, whole, broken, raw, heard_levels, IsReadBy}
 use Rattle.air_model.specs.Past.{Item, Record, exchanged, tags_behind}
 use Rattle.air_model.specs.Reception.{IsGivenFor, reception_of}

@@ -7,7 +7,7 @@ use Rattle.runs.specs.Headline.{is_round_line, is_list_line}
 use Rattle.runs.specs.Listing.{Listed, listed_by, listing_of}
 use Rattle.runs.specs.Said.{answer_line, exchanged_by}
 use Rattle.runs.specs.Report.{exchange_lines, list_line, item_lines, past_lines, tag_lines, last_lines}
-use Rattle.report_lines.specs.Kept.{is_plain}
+use Rattle.report_lines.specs.ModeLines.{is_plain}
 use Rattle.pie_line.specs.Link.{LinkValue}
 use Rattle.report_lines.specs.ReportLine.{ReportLine, ExchangeLine, MissedLine, GivenLine, TxLine, RxLine, ListLine, RoundLine, SeenLine, TagLine, DoneLine}
 use Rattle.report_lines.specs.SeenCounts.{SeenCount, seen_counts}

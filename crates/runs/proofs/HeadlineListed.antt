@@ -3,7 +3,7 @@ use Rattle.std.proofs.Common.{◌≡◌, ℕ, suc, ◌+◌, ◌<◌, ◌==◌, �
 use Rattle.access_ops.specs.laws.OperationLaws.{Expects}
 use Rattle.access_ops.specs.declared.OpList.{OpList}
 use Rattle.air_model.specs.Channel.{Given, whole}
-use Rattle.tag_machine.specs.Exchange.{Replied}
+use Rattle.tag_machine.specs.TagsInExchange.{Replied}
 use Rattle.air_model.specs.Past.{Start, Record, Item, exchanged, past_behind_command, rounds_in}
 use Rattle.air_model.specs.Reception.{has_handle, is_expected, reception_of}
 use Rattle.reply_grammar.specs.Reception.{Reception, whole_reply, no_such_reply}
@@ -20,7 +20,7 @@ use Rattle.command_grammar.specs.declared.commands.Command.{Command}
 use Rattle.command_grammar.specs.declared.commands.Command.TheVariants as commands
 use Rattle.pie_line.specs.Link.{LinkValue}
 use Rattle.q_round.specs.SpecValue.{SpecValue, IsLegalSpec}
-use Rattle.reply_grammar.specs.Table.{handle_of, suits}
+use Rattle.reply_grammar.specs.Replies.{handle_of, suits}
 use Rattle.reply_grammar.specs.declared.expected.Expect.{Expect}
 use Rattle.reply_grammar.specs.declared.expected.Expect.TheVariants as expects
 use Rattle.reply_grammar.specs.declared.expected.Reply.{Reply}

@@ -1,7 +1,7 @@
 -- Each list line is what a present tag sent, where no raw stream is given: from what the channel gave to a reply, and from the
 -- reply to the tag with its number.
 use Rattle.std.proofs.Common.{◌≡◌, ℕ, zero, suc, ◌+◌, Bool, true, false, inl, inr, List, [], ◌∷◌, Contains, Option, Some, None, slice_get, if◌then◌else◌, refl, ap, sym, ◌∙◌, subst, arith}
-use Rattle.tag_machine.specs.Exchange.{replies_in, Replied, is_missed, outcome_unless, tag_after_events}
+use Rattle.tag_machine.specs.TagsInExchange.{replies_in, Replied, is_missed, outcome_unless, tag_after_events}
 use Rattle.air_model.specs.Channel.{given_in, Given, whole, broken, raw, whole_or_silence, first_broken, default_given, given_of, IsOfReplies}
 use Rattle.air_model.specs.Past.{Start, Record, Item, tag_behind, tags_behind, next_entry, next_record, hearers_of}
 use Rattle.air_model.specs.Reception.{is_expected, reception_of}

@@ -7,7 +7,7 @@ use Rattle.runs.specs.Headline.{AreLegalSteps, IsAckOf, is_list_line}
 use Rattle.runs.specs.History.{history_of}
 use Rattle.runs.specs.Listing.{Listed, reception_of_ack, listed_from, listed_by, listing_of}
 use Rattle.runs.specs.Report.{first_lines, exchange_lines, list_line, item_lines, past_lines, last_lines, run_lines, report_of}
-use Rattle.report_lines.specs.Kept.{keeps}
+use Rattle.report_lines.specs.ModeLines.{keeps}
 use Rattle.report_lines.specs.declared.mode.Mode.{Mode}
 use Rattle.runs.proofs.Growth.{RoundsKeepLimit}
 use Rattle.runs.proofs.Among.{Among, among-filter, among-of, among-split}

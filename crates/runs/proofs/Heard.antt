@@ -2,7 +2,7 @@
 use Rattle.std.proofs.Common.{◌≡◌, ℕ, ◌+◌, ◌==◌, inl, inr, Bool, true, false, List, [], ◌∷◌, Option, Some, None, slice_get, if◌then◌else◌, refl, ap, sym, ◌∙◌, subst, arith, eq-eqb}
 use Rattle.std.proofs.lemmas.Bool.{eqb-true}
 use Rattle.air_model.specs.Channel.{given_in, Given, whole, default_given}
-use Rattle.tag_machine.specs.Exchange.{Replied}
+use Rattle.tag_machine.specs.TagsInExchange.{Replied}
 use Rattle.air_model.specs.Past.{Start, Item, tag_behind, tags_behind, next_entry, next_record}
 use Rattle.air_model.specs.Reception.{is_expected, reception_of}
 use Rattle.reply_grammar.specs.Reception.{Reception, whole_reply, no_such_reply}

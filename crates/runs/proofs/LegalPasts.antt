@@ -11,7 +11,7 @@ use Rattle.access_ops.specs.declared.op_next.Answer.TheVariants.{Silence, Got}
 use Rattle.access_ops.specs.declared.op_next.OpNext.{OpNext}
 use Rattle.access_ops.specs.declared.op_next.OpNext.TheVariants.{Send, Result}
 use Rattle.access_ops.specs.declared.op_next.OpResult.{OpResult}
-use Rattle.tag_machine.specs.Exchange.{AreLegalTags, outcome_unless, outcomes_from, tags_after, tags_after_event, tag_after_events, is_missed}
+use Rattle.tag_machine.specs.TagsInExchange.{AreLegalTags, outcome_unless, outcomes_from, tags_after, tags_after_event, tag_after_events, is_missed}
 use Rattle.air_model.specs.Channel.{given_in, Given, whole, raw}
 use Rattle.air_model.specs.Past.{Start, Record, Item, befell, exchanged, operated, ended, next_record, next_entry, past_behind_command, rounds_in, tags_behind, tags_behind_from}
 use Rattle.air_model.specs.Reception.{has_handle, has_preamble, is_expected, reception_of, reception_with, IsGiven}
@@ -40,7 +40,7 @@ use Rattle.q_round.specs.declared.frame.Outcome.{Outcome}
 use Rattle.q_round.specs.declared.round.RoundEnd.{RoundEnd}
 use Rattle.reply_grammar.specs.Reception.{Reception, no_stream, whole_reply, no_such_reply, reception_from}
 use Rattle.reply_grammar.proofs.Suiting.{suits-true}
-use Rattle.reply_grammar.specs.Table.{Suits, suits, handle_of, IsReply}
+use Rattle.reply_grammar.specs.Replies.{Suits, suits, handle_of, IsReply}
 use Rattle.reply_grammar.specs.declared.expected.Expect.{Expect}
 use Rattle.reply_grammar.specs.declared.expected.Expect.TheVariants as expects
 use Rattle.reply_grammar.specs.declared.expected.Received.{Received}

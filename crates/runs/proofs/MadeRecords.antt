@@ -4,7 +4,7 @@ use Rattle.std.proofs.Common.{◌≡◌, ℕ, ◌+◌, ◌==◌, Bool, true, fal
 use Rattle.air_events.specs.Entries.{entry_at, no_entry}
 use Rattle.air_events.specs.declared.Entry.{Entry}
 use Rattle.air_model.specs.Channel.{Given, raw, IsReadBy, IsOfReplies, GoesByReplies}
-use Rattle.tag_machine.specs.Exchange.{replies_in, AreLegalTags}
+use Rattle.tag_machine.specs.TagsInExchange.{replies_in, AreLegalTags}
 use Rattle.air_model.specs.Past.{Start, Record, Item, tags_behind, exchanges_in, next_entry, next_record, exchanged}
 use Rattle.air_model.proofs.GivenLaws.{given_is_read, given_of_replies}
 use Rattle.bit_strings.specs.declared.code.Code.{Code}

@@ -16,7 +16,7 @@ use Rattle.tag_machine.specs.TagValue.{StateValue, TagValue, ReadyState, is_pres
 use Rattle.two_portals.specs.Played.{AreReady, IsLeftByRound, IsPairOf, IsQuietRound, ListsItsTags, Played, flags_in_round, is_named, pc_and_epc_of, times}
 use Rattle.two_portals.proofs.Independence.{Laws}
 use Rattle.runs.specs.Listed.{tags_listed_in, tags_listed_where}
-use Rattle.runs.specs.Moments.{ending_of, flags_after_query, is_matched_in, tag_after_query}
+use Rattle.runs.specs.MomentsOfRound.{ending_of, flags_after_query, is_matched_in, tag_after_query}
 use Rattle.scenario.specs.Limits.{no_operations}
 use Rattle.runs.specs.RoundsTold.{played_of, start_with}
 use Rattle.runs.specs.TagInRound.{flags_behind_query}

@@ -8,7 +8,7 @@ use Rattle.runs.specs.History.{past_behind_round, past_behind_step, past_behind}
 use Rattle.command_grammar.specs.declared.commands.Command.{Command}
 use Rattle.command_grammar.specs.declared.commands.Command.TheVariants as commands
 use Rattle.runs.specs.Listed.{sender_listed_by, tags_listed_where}
-use Rattle.runs.specs.Moments.{is_query, is_query_of, past_after_query, ending_of}
+use Rattle.runs.specs.MomentsOfRound.{is_query, is_query_of, past_after_query, ending_of}
 use Rattle.runs.proofs.HeadlineLines.{and-false}
 use Rattle.runs.proofs.Records.{AllRecords}
 use Rattle.runs.proofs.Turns.{round-holds}

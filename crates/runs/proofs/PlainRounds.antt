@@ -24,7 +24,7 @@ use Rattle.reply_grammar.specs.Reception.{Reception, no_stream, whole_reply, no_
 use Rattle.reply_grammar.specs.declared.expected.Expect.TheVariants as expects
 use Rattle.reply_grammar.specs.declared.expected.Reply.TheVariants as replies
 use Rattle.tag_machine.specs.Answers.{Outcome as TagOutcome}
-use Rattle.tag_machine.specs.Exchange.{outcome_in, outcomes_from, replies_from, replies_in, tags_after}
+use Rattle.tag_machine.specs.TagsInExchange.{outcome_in, outcomes_from, replies_from, replies_in, tags_after}
 use Rattle.tag_machine.specs.Step.{step}
 use Rattle.tag_machine.specs.TagValue.{StateValue, BodyValue, TagValue}
 use Rattle.two_portals.specs.Played.{Played}

@@ -1,7 +1,7 @@
 -- Who answers a command among the tags of a start, where nothing is said of the exchange: from each tag's own answer to the replies
 -- of the exchange, and back.
 use Rattle.std.proofs.Common.{◌≡◌, ◌≢◌, ℕ, zero, suc, ◌+◌, inl, inr, Bool, true, false, if◌then◌else◌, List, [], ◌∷◌, ◌++◌, Option, Some, None, slice_get, refl, ap, sym, ◌∙◌, subst, arith}
-use Rattle.tag_machine.specs.Exchange.{Replied, reply_of, replies_from, outcome_in, outcomes_from}
+use Rattle.tag_machine.specs.TagsInExchange.{Replied, reply_of, replies_from, outcome_in, outcomes_from}
 use Rattle.air_model.specs.Past.{Start, Item, tag_behind, tags_behind_from, past_behind_command, next_entry, is_hearer, hearers_of}
 use Rattle.air_events.specs.Entries.{no_entry}
 use Rattle.air_events.specs.declared.Entry.{Entry}

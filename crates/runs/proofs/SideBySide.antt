@@ -16,12 +16,12 @@ use Rattle.session_flags.specs.declared.flags.Flags.{Flags}
 use Rattle.session_flags.specs.Flags.{flags_after_inversion, is_side, matches, sel_allows, side_of}
 use Rattle.tag_machine.specs.TagValue.{StateValue, ReadyState, AcknowledgedState, OpenState, SecuredState, TagValue, is_present}
 use Rattle.runs.specs.Complete.{HasNumber}
-use Rattle.runs.specs.Counted.{is_spoken_to}
+use Rattle.runs.specs.CountedTags.{is_spoken_to}
 use Rattle.runs.specs.Headline.{AreLegalSteps, IsRecordOf, rounds_of}
 use Rattle.runs.specs.History.{history_of}
 use Rattle.runs.specs.Listed.{is_of_round, listed_as, sender_listed_by, sender_where, tags_listed_in, times}
 use Rattle.runs.specs.Listing.{Listed, listed_by}
-use Rattle.runs.specs.Moments.{Ending, ending_of, is_query_of, past_after_query, tag_after_query}
+use Rattle.runs.specs.MomentsOfRound.{Ending, ending_of, is_query_of, past_after_query, tag_after_query}
 use Rattle.runs.specs.Recounts.{IsSound, MayTakePart, is_inventoried_in, other_side, round_behind, tag_where}
 use Rattle.runs.specs.TagInRound.{flags_behind_query, flags_in_round, is_matched}
 use Rattle.runs.proofs.Growth.{RoundsKeepLimit}

@@ -10,9 +10,9 @@ use Rattle.runs.specs.Listing.{listed_from, listed_by, reception_of_ack}
 use Rattle.command_grammar.specs.declared.commands.Command.{Command}
 use Rattle.command_grammar.specs.declared.commands.Command.TheVariants as commands
 use Rattle.runs.specs.Complete.{HasNumber}
-use Rattle.runs.specs.Counted.{is_spoken_to}
+use Rattle.runs.specs.CountedTags.{is_spoken_to}
 use Rattle.runs.specs.Listed.{sender_where, sender_listed_by, listed_as, is_of_round, is_of_slot, tags_listed_in, tags_listed_in_slot, times}
-use Rattle.runs.specs.Moments.{is_query, begins_later_slot, is_query_of, past_after_query, flags_behind}
+use Rattle.runs.specs.MomentsOfRound.{is_query, begins_later_slot, is_query_of, past_after_query, flags_behind}
 use Rattle.runs.specs.TagInRound.{is_matched, flags_in_round, slot_answer_of, is_acknowledged_by}
 use Rattle.runs.proofs.Heard.{slot-heard, silent-none, no-replies-none, IsOnlyAnswerer, same-tag, acknowledges-one, epc_sent, ack-lists, ack-lists-as}
 use Rattle.runs.proofs.HeadlineLines.{and-false}

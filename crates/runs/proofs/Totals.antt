@@ -4,9 +4,9 @@ use Rattle.std.proofs.lemmas.Bool.{cases_lt}
 use Rattle.std.specs.List.{AllByRecursion}
 use Rattle.air_model.specs.Past.{Start, Item}
 use Rattle.runs.specs.Complete.{HasNumber}
-use Rattle.runs.specs.Counted.{is_spoken_to, tags_spoken_to}
+use Rattle.runs.specs.CountedTags.{is_spoken_to, tags_spoken_to}
 use Rattle.runs.specs.Listed.{times}
-use Rattle.runs.specs.Moments.{tag_after_query}
+use Rattle.runs.specs.MomentsOfRound.{tag_after_query}
 use Rattle.runs.proofs.Times.{bit, times-first}
 use Rattle.q_round.specs.SpecValue.{SpecValue}
 use Rattle.tag_machine.specs.TagValue.{TagValue}

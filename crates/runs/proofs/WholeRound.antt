@@ -1,7 +1,7 @@
 -- A round of which nothing is said, from its Query to its end.
 use Rattle.std.proofs.Common.{◌≡◌, ℕ, ◌+◌, ◌==◌, Bool, true, false, List, [], ◌∷◌, length, if◌then◌else◌, refl, ap, sym, ◌∙◌, subst, append-nil, eq-eqb}
 use Rattle.std.proofs.lemmas.Bool.{and_parts, eqb-true}
-use Rattle.tag_machine.specs.Exchange.{replies_in}
+use Rattle.tag_machine.specs.TagsInExchange.{replies_in}
 use Rattle.air_model.specs.Past.{Start, Record, Item, exchanged, ended, tag_behind, tags_behind, next_entry, next_record}
 use Rattle.reply_grammar.specs.Reception.{whole_reply}
 use Rattle.air_events.specs.Entries.{no_entry}
@@ -9,10 +9,10 @@ use Rattle.air_events.specs.declared.Entry.{Entry}
 use Rattle.air_events.specs.declared.Several.TheVariants as severals
 use Rattle.runs.specs.Headline.{begins_slot}
 use Rattle.command_grammar.specs.declared.commands.Command.{Command}
-use Rattle.runs.specs.Counted.{is_spoken_to}
+use Rattle.runs.specs.CountedTags.{is_spoken_to}
 use Rattle.runs.specs.Honest.{AreApart}
 use Rattle.runs.specs.Listed.{sender_listed_by, is_of_round, is_of_slot, tags_listed_where, times}
-use Rattle.runs.specs.Moments.{past_after_query}
+use Rattle.runs.specs.MomentsOfRound.{past_after_query}
 use Rattle.runs.specs.TagInRound.{is_matched, slot_answer_of, StandsAfterSlot}
 use Rattle.runs.proofs.Heard.{slot-heard, heard-one, one-answerer}
 use Rattle.runs.proofs.OtherRounds.{AreOfOthers, IsTestOf, listed-others, records-others}

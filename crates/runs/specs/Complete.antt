@@ -3,7 +3,7 @@ use Rattle.std.specs.Prelude.{◌≡◌, ℕ, ◌-◌, ◌≤◌, ◌==◌, Bool
 use Rattle.air_model.specs.Past.{Start, Record, Item, exchanged, tag_behind}
 use Rattle.runs.specs.Headline.{IsRecordOf}
 use Rattle.runs.specs.Listed.{tags_listed_in, tags_listed_in_slot, times}
-use Rattle.runs.specs.Moments.{begins_later_slot, is_query, ending_of, is_matched_in, flags_behind, flags_after_query}
+use Rattle.runs.specs.MomentsOfRound.{begins_later_slot, is_query, ending_of, is_matched_in, flags_behind, flags_after_query}
 use Rattle.runs.specs.TagAtEnd.{is_acknowledged}
 use Rattle.runs.specs.TagInRound.{is_matched, flags_in_round}
 use Rattle.q_round.specs.declared.round.RoundEnd.TheVariants as ends

@@ -8,7 +8,7 @@ use Rattle.scenario.specs.declared.values.Scenario.{Scenario}
 use Rattle.scenario.specs.declared.values.Step.{Step}
 use Rattle.scenario.specs.declared.values.Step.TheVariants as steps
 use Rattle.runs.specs.Complete.{CompleteInventory, HasNumber}
-use Rattle.runs.specs.Counted.{CountedRound}
+use Rattle.runs.specs.CountedTags.{CountedRound}
 use Rattle.runs.specs.Headline.{rounds_of}
 use Rattle.runs.specs.Honest.{IsHonest, IsApart}
 use Rattle.runs.specs.ListLines.{IsOfRepliesIn, IsEntryOf, entries_in}

@@ -2,7 +2,7 @@
 -- answer alike.
 use Rattle.std.specs.Prelude.{◌≡◌, ℕ, true, List, [], Contains}
 use Rattle.access_ops.specs.declared.OpList.{OpList}
-use Rattle.tag_machine.specs.Exchange.{Replied}
+use Rattle.tag_machine.specs.TagsInExchange.{Replied}
 use Rattle.air_model.specs.Past.{Record, Item}
 use Rattle.air_events.specs.Entries.{no_entry}
 use Rattle.runs.specs.Headline.{IsRecordOf, begins_slot}

@@ -9,10 +9,10 @@ pub mod NextItem
 pub mod EventsAndRecords
 pub mod Listed
 pub mod TagInRound
-pub mod Moments
+pub mod MomentsOfRound
 pub mod TagAtEnd
 pub mod Complete
-pub mod Counted
+pub mod CountedTags
 pub mod Honest
 pub mod EveryTag
 pub mod ListLines

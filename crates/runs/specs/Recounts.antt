@@ -18,7 +18,7 @@ use Rattle.runs.specs.History.{history_of}
 use Rattle.runs.specs.Honest.{IsHonest, IsApart}
 use Rattle.runs.specs.Listed.{listed_as, sender_listed_by}
 use Rattle.runs.specs.Listing.{listed_by}
-use Rattle.runs.specs.Moments.{ending_of, tag_after_query}
+use Rattle.runs.specs.MomentsOfRound.{ending_of, tag_after_query}
 
 -- the other value of an inventoried flag
 abbrev pub other_side : Side → Side

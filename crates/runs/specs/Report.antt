@@ -6,8 +6,8 @@ use Rattle.runs.specs.History.{history_of}
 use Rattle.runs.specs.Listing.{Listed, listed_by, listing_of}
 use Rattle.runs.specs.Said.{said_lines}
 use Rattle.runs.specs.ScenarioStart.{start_of}
-use Rattle.report_lines.specs.Kept.{keeps}
-use Rattle.report_lines.specs.Spelled.{text_in}
+use Rattle.report_lines.specs.ModeLines.{keeps}
+use Rattle.report_lines.specs.ModeReport.{text_in}
 use Rattle.report_lines.specs.declared.mode.Mode.{Mode}
 use Rattle.pie_line.specs.Link.{LinkValue, blf_of}
 use Rattle.report_lines.specs.ReportLine.{ReportLine, BlfLine, TxLine, RxLine, ListLine, OpLine, RoundLine, SeenLine, TagLine, DoneLine}

@@ -4,7 +4,7 @@ use Rattle.air_model.specs.Channel.{Given, silence, whole, broken, raw, heard_le
 use Rattle.air_model.specs.Past.{Record}
 use Rattle.pie_line.specs.Link.{LinkValue}
 use Rattle.report_lines.specs.ReportLine.{ReportLine, ExchangeLine, MissedLine, AnswerLine, GivenLine}
-use Rattle.tag_machine.specs.Exchange.{Replied}
+use Rattle.tag_machine.specs.TagsInExchange.{Replied}
 use Rattle.wave_dump.specs.Exchanged.{Exchanged}
 use Rattle.wave_dump.specs.declared.exchanged.Gave.{Gave}
 use Rattle.wave_dump.specs.declared.exchanged.Gave.TheVariants as gave

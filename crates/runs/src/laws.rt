@@ -2,7 +2,7 @@
 ghost use Rattle.std.specs.Prelude.{◌≡◌, ◌≢◌, ◌*◌, ◌≤◌, ◌⊎◌, Bool, ◌||◌, List, ◌∷◌, ◌++◌, length, filter, Some, None};
 ghost use Rattle.access_ops.specs.laws.OperationLaws.{Expects};
 ghost use Rattle.command_grammar.specs.Commands.{IsLegalCommand};
-ghost use Rattle.tag_machine.specs.Exchange.{AreLegalTags};
+ghost use Rattle.tag_machine.specs.TagsInExchange.{AreLegalTags};
 ghost use Rattle.air_model.specs.Channel.{got_of, heard_levels};
 ghost use Rattle.air_model.specs.Past.{Start, Record, Item, exchanges_in, next_record, tags_behind};
 ghost use Rattle.reply_wire.specs.Received.{IsReceived};

@@ -29,7 +29,7 @@ use Rattle.scenario_text.specs.StepLines.{IsBareRound, StepLinesValue, steps_of,
 use Rattle.scenario_text.specs.Faults.{DisagreesBy, IsFirstUnmet}
 use Rattle.scenario_text.proofs.Counts.{tags_more}
 use Rattle.scenario_text.proofs.Settled.{not_empty, same_count}
-use Rattle.scenario_text.specs.LinesBefore.{is_air, is_step, tags_by, tags_in, version_in, airs_in, steps_in, ops_behind, EndsInRound, IsFullBefore, IsNoEnd, IsRoundLine, MayStandBehind, happening_turn, ComesBefore, ChoosesOther, KeepsOrderBehind, ChoosesFirst, DisagreesWith}
+use Rattle.scenario_text.specs.LineOrder.{is_air, is_step, tags_by, tags_in, version_in, airs_in, steps_in, ops_behind, EndsInRound, IsFullBefore, IsNoEnd, IsRoundLine, MayStandBehind, happening_turn, ComesBefore, ChoosesOther, KeepsOrderBehind, ChoosesFirst, DisagreesWith}
 
 -- lists with one more
 

@@ -24,7 +24,7 @@ use Rattle.scenario_text.specs.Draft.{DraftValue, tag_count}
 use Rattle.scenario_text.specs.Faults.{IsFirstScenarioFault, IsRefused, LeadsBy, ScenarioMayEnd, scenario_rules}
 use Rattle.scenario_text.specs.Standing.{ScenarioStanding, ended, start, within}
 use Rattle.scenario_text.specs.StepLines.{steps_of}
-use Rattle.scenario_text.specs.Taking.{IsNotTaken, IsUnfinished, SaysScenario, StandsFor}
+use Rattle.scenario_text.specs.ReaderAnswers.{IsNotTaken, IsUnfinished, SaysScenario, StandsFor}
 use Rattle.checked_lines.specs.declared.fault.FaultReason.{FaultReason}
 use Rattle.checked_lines.specs.declared.fault.Unread.{Unread}
 use Rattle.checked_lines.specs.declared.fault.Unread.TheVariants as unread

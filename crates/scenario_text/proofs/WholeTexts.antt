@@ -16,7 +16,7 @@ use Rattle.scenario_text.specs.laws.LineLaws.{LineLaws}
 use Rattle.scenario_text.specs.Draft.{DraftValue, scenario_of}
 use Rattle.scenario_text.specs.Faults.{IsFirstScenarioFault, IsRefused, scenario_rules}
 use Rattle.scenario_text.specs.Standing.{ended, start}
-use Rattle.scenario_text.specs.Taking.{SaysScenario}
+use Rattle.scenario_text.specs.ReaderAnswers.{SaysScenario}
 use Rattle.scenario_text.proofs.Reasons.{unambiguous}
 use Rattle.scenario_text.proofs.Settled.{said_scenario}
 use Rattle.scenario_text.proofs.Spoken.{scenario_is_said}

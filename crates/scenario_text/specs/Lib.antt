@@ -4,9 +4,9 @@ pub mod StepLines
 pub mod Draft
 pub mod Standing
 pub mod Faults
-pub mod Taking
+pub mod ReaderAnswers
 pub mod Beginnings
-pub mod LinesBefore
+pub mod LineOrder
 pub use Rattle.scenario.specs.Limits
 pub use Rattle.scenario.specs.ScenarioText
 pub use Rattle.scenario_lines.specs.Spelling

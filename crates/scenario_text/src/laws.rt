@@ -9,7 +9,7 @@ ghost use Rattle.scenario.specs.ScenarioText.{scenario_lines, scenario_text, IsS
 ghost use Rattle.scenario.specs.Limits.{IsScenario};
 ghost use Rattle.scenario_text.specs.laws.LineLaws.{LineLaws};
 ghost use Rattle.scenario_text.specs.Faults.{DisagreesBy, IsFirstScenarioFault};
-ghost use Rattle.scenario_text.specs.LinesBefore.{DisagreesWith, IsFullBefore, MayStandBehind};
+ghost use Rattle.scenario_text.specs.LineOrder.{DisagreesWith, IsFullBefore, MayStandBehind};
 ghost use Rattle.scenario_text.specs.Beginnings.{BeginsScenario, FirstLinesBegin};
 ghost use Rattle.scenario_text.specs.Draft.{DraftValue, scenario_of};
 ghost use Rattle.scenario_text.specs.Standing.{HasRoomForLine, IsSaid, LinesLead, MayStand, ended, ScenarioStanding, start, within};

@@ -5,7 +5,7 @@ ghost use Rattle.scenario_lines.specs.LineFaults.{SpellsLine};
 ghost use Rattle.scenario_lines.specs.Spelling.{line_text};
 ghost use Rattle.scenario_text.specs.Faults.{DisagreesAt, IsFaultyAt, IsFaultyInScenario, LeadsBy};
 ghost use Rattle.scenario_text.specs.Standing.{AgreesWith, MayStandNext, HasRoomForLine, MayStand, standing_after, begun, start};
-ghost use Rattle.scenario_text.specs.Taking.{IsNotTaken, IsUnfinished, StandsFor, standing_of};
+ghost use Rattle.scenario_text.specs.ReaderAnswers.{IsNotTaken, IsUnfinished, StandsFor, standing_of};
 
 use crate::draft::Draft;
 use air_events::Several;

@@ -5,7 +5,7 @@ ghost use Rattle.scenario.specs.Limits.{IsScenario};
 ghost use Rattle.scenario.specs.ScenarioText.{scenario_text};
 ghost use Rattle.scenario_text.specs.Faults.{IsFirstScenarioFault, IsRefused};
 ghost use Rattle.checked_lines.specs.declared.fault.FaultReason.{FaultReason};
-ghost use Rattle.scenario_text.specs.Taking.{SaysScenario};
+ghost use Rattle.scenario_text.specs.ReaderAnswers.{SaysScenario};
 
 use crate::laws::line_laws;
 use crate::progress::Progress;

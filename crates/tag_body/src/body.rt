@@ -4,7 +4,7 @@ ghost use Rattle.session_flags.specs.Flags.{new_flags};
 ghost use Rattle.tag_body.specs.Draws.{draw_of, place_behind, slot_of_draw, body_after_draw};
 ghost use Rattle.tag_body.specs.BodyFlags.{selected_body};
 
-mod access;
+mod access_commands;
 mod flags;
 
 use bit_strings::{Action, OutOfMemory, Pointer, QValue};

@@ -8,17 +8,17 @@ use Rattle.command_grammar.specs.declared.commands.Command.{Command}
 use Rattle.command_grammar.specs.declared.commands.Command.TheVariants as commands
 use Rattle.command_grammar.specs.Commands.{IsLegalCommand}
 use Rattle.lock_rules.specs.declared.locks.Locks.{Locks}
-use Rattle.lock_rules.specs.declared.terms.ErrorCode.{ErrorCode}
-use Rattle.lock_rules.specs.declared.terms.ErrorCode.TheVariants as errors
-use Rattle.lock_rules.specs.declared.terms.Level.{Level}
-use Rattle.lock_rules.specs.declared.terms.Level.TheVariants as levels
-use Rattle.lock_rules.specs.Codes.{error_number}
+use Rattle.lock_rules.specs.declared.permissions.ErrorCode.{ErrorCode}
+use Rattle.lock_rules.specs.declared.permissions.ErrorCode.TheVariants as errors
+use Rattle.lock_rules.specs.declared.permissions.Level.{Level}
+use Rattle.lock_rules.specs.declared.permissions.Level.TheVariants as levels
+use Rattle.lock_rules.specs.ErrorCodes.{error_number}
 use Rattle.lock_rules.specs.Lock.{locks_after}
 use Rattle.reply_grammar.specs.declared.expected.Reply.{Reply}
 use Rattle.reply_grammar.specs.declared.expected.Reply.TheVariants.{Handle, Header, Error}
-use Rattle.reply_grammar.specs.Table.{IsReply}
+use Rattle.reply_grammar.specs.Replies.{IsReply}
 use Rattle.tag_memory.specs.Memory.{Banks, kill_word_of, access_word_of, AreSound}
-use Rattle.tag_memory.specs.Access.{words_read, banks_after_write, banks_after_erase}
+use Rattle.tag_memory.specs.ReadsAndWrites.{words_read, banks_after_write, banks_after_erase}
 use Rattle.tag_machine.specs.declared.states.Half.{Half}
 use Rattle.tag_machine.specs.declared.states.Held.{Held}
 use Rattle.tag_machine.specs.declared.states.Password.{Password}

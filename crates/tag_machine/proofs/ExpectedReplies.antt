@@ -7,7 +7,7 @@ use Rattle.reply_grammar.specs.declared.expected.Expect.{Expect}
 use Rattle.reply_grammar.specs.declared.expected.Expect.TheVariants as expects
 use Rattle.reply_grammar.specs.declared.expected.Reply.{Reply}
 use Rattle.reply_grammar.specs.declared.expected.Reply.TheVariants.{Rn16, Epc, Handle, Words, Header, Error}
-use Rattle.reply_grammar.specs.Table.{AnswersExpected, Carries, Suits}
+use Rattle.reply_grammar.specs.Replies.{AnswersExpected, Carries, Suits}
 use Rattle.tag_machine.specs.TagValue.{StateValue, BodyValue, IsLegalTag}
 use Rattle.tag_machine.specs.Answers.{Sent, IsSent, bits_sent}
 use Rattle.tag_machine.specs.laws.Extended.{has_half}

@@ -13,7 +13,7 @@ use Rattle.command_fields.specs.declared.choices.UpDn.{UpDn}
 use Rattle.command_fields.specs.declared.choices.UpDn.TheVariants.{Up, Same, Down}
 use Rattle.command_grammar.specs.declared.commands.Command.{Command}
 use Rattle.command_grammar.specs.declared.commands.Command.TheVariants as commands
-use Rattle.reply_grammar.specs.Table.{AreWords}
+use Rattle.reply_grammar.specs.Replies.{AreWords}
 use Rattle.session_flags.specs.Actions.{effect_of}
 use Rattle.session_flags.specs.Flags.{matches}
 use Rattle.session_flags.specs.laws.FlagLaws.{side_of-flags_after_effect, sl-flags_after_effect}

@@ -9,12 +9,12 @@ use Rattle.gen2_crc.specs.laws.CheckNumbers.{length-crc16_of}
 use Rattle.command_fields.specs.declared.choices.Bank.{Bank}
 use Rattle.command_fields.specs.declared.choices.Bank.TheVariants.{Reserved, Epc, Tid, User}
 use Rattle.lock_rules.specs.declared.locks.Locks.{Locks}
-use Rattle.lock_rules.specs.declared.terms.ErrorCode.TheVariants.{Overrun, Locked}
-use Rattle.lock_rules.specs.declared.terms.Level.{Level}
+use Rattle.lock_rules.specs.declared.permissions.ErrorCode.TheVariants.{Overrun, Locked}
+use Rattle.lock_rules.specs.declared.permissions.Level.{Level}
 use Rattle.bit_strings.specs.Words.{bits_of_words}
-use Rattle.reply_grammar.specs.Table.{AreWords}
+use Rattle.reply_grammar.specs.Replies.{AreWords}
 use Rattle.tag_memory.specs.Memory.{Banks, IsLegalMemory, AreBanksOfWords, AreSound, bank_of, pc_of, epc_of, length_in, stored_crc_of, with_stored_crc}
-use Rattle.tag_memory.specs.Access.{may_write_word, all_words, with_words_at, banks_with_words_at, length_fits, banks_after_write, banks_after_erase}
+use Rattle.tag_memory.specs.ReadsAndWrites.{may_write_word, all_words, with_words_at, banks_with_words_at, length_fits, banks_after_write, banks_after_erase}
 
 abbrev IsWord : ℕ → Type 0
 IsWord word = word < 2 ^ 16

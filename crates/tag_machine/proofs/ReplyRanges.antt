@@ -4,7 +4,7 @@ use Rattle.reply_grammar.specs.declared.expected.Expect.{Expect}
 use Rattle.reply_grammar.specs.declared.expected.Expect.TheVariants as expects
 use Rattle.reply_grammar.specs.declared.expected.Reply.{Reply}
 use Rattle.reply_grammar.specs.declared.expected.Reply.TheVariants.{Rn16, Epc, Handle, Words, Header, Error}
-use Rattle.reply_grammar.specs.Table.{AnswersExpected, Carries, Suits}
+use Rattle.reply_grammar.specs.Replies.{AnswersExpected, Carries, Suits}
 use Rattle.reply_grammar.proofs.Replies.{answers_from}
 use Rattle.tag_machine.specs.Answers.{Sent, HasFewWords, IsSent, bits_sent}
 

@@ -3,15 +3,15 @@
 use Rattle.std.specs.Prelude.{ℕ, ◌+◌, ◌*◌, ◌^◌, ◌==◌, Bool, true, false, List, [], ◌∷◌, Option, Some, None, Result, bit_xor, if◌then◌else◌}
 use Rattle.command_fields.specs.declared.choices.Bank.{Bank}
 use Rattle.lock_rules.specs.declared.locks.Locks.{Locks}
-use Rattle.lock_rules.specs.declared.terms.ErrorCode.{ErrorCode}
-use Rattle.lock_rules.specs.declared.terms.ErrorCode.TheVariants as errors
-use Rattle.lock_rules.specs.declared.terms.Level.{Level}
-use Rattle.lock_rules.specs.declared.terms.Level.TheVariants as levels
-use Rattle.lock_rules.specs.Codes.{error_number}
+use Rattle.lock_rules.specs.declared.permissions.ErrorCode.{ErrorCode}
+use Rattle.lock_rules.specs.declared.permissions.ErrorCode.TheVariants as errors
+use Rattle.lock_rules.specs.declared.permissions.Level.{Level}
+use Rattle.lock_rules.specs.declared.permissions.Level.TheVariants as levels
+use Rattle.lock_rules.specs.ErrorCodes.{error_number}
 use Rattle.lock_rules.specs.Lock.{locks_after}
 use Rattle.reply_grammar.specs.declared.expected.Reply.TheVariants.{Handle, Header, Error}
 use Rattle.tag_memory.specs.Memory.{Banks, kill_word_of, access_word_of}
-use Rattle.tag_memory.specs.Access.{words_read, banks_after_write, banks_after_erase}
+use Rattle.tag_memory.specs.ReadsAndWrites.{words_read, banks_after_write, banks_after_erase}
 use Rattle.tag_machine.specs.declared.states.Half.{Half}
 use Rattle.tag_machine.specs.declared.states.Password.{Password}
 use Rattle.tag_machine.specs.declared.states.Password.TheVariants as passwords

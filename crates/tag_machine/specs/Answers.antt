@@ -1,7 +1,7 @@
 -- What a tag becomes when it hears a command, and what it answers.
 use Rattle.std.specs.Prelude.{ℕ, ◌^◌, ◌<◌, Bool, true, false, List, [], Option, Some, None}
 use Rattle.reply_grammar.specs.declared.expected.Reply.{Reply}
-use Rattle.reply_grammar.specs.Table.{IsReply, spelling}
+use Rattle.reply_grammar.specs.Replies.{IsReply, spelling}
 use Rattle.tag_machine.specs.TagValue.{StateValue, BodyValue, TagValue}
 pub use Rattle.tag_body.specs.MemoryAnswers.{HasFewWords}
 

@@ -4,10 +4,10 @@ pub mod Draws
 pub mod Inventory
 pub mod Access
 pub mod Step
-pub mod Exchange
+pub mod TagsInExchange
 pub mod Events
 pub mod States
-pub mod Names
+pub mod StateNames
 pub mod StateNumbers
 pub mod Hearing
 pub mod Slots

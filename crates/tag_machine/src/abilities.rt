@@ -4,7 +4,7 @@ ghost use Rattle.tag_machine.specs.Hearing.{tag_value_of};
 
 use crate::any_tag::AnyTag;
 use crate::states::{Acknowledged, Arbitrate, InReply, Opened, Ready, Secured, State};
-use crate::steps::Steps;
+use crate::step_counter::Steps;
 use crate::tag::Tag;
 use std::sync::ledger::Ledger;
 use tag_body::Body;

@@ -2,7 +2,7 @@
 ghost use Rattle.std.specs.Prelude.{◌≡◌, length, true, IfOk};
 ghost use Rattle.tag_machine.specs.TagValue.{is_present, IsLegalTag};
 ghost use Rattle.tag_machine.specs.Events.{new_tag, tag_of_image};
-ghost use Rattle.tag_machine.specs.Names.{name_of};
+ghost use Rattle.tag_machine.specs.StateNames.{name_of};
 ghost use Rattle.tag_machine.specs.Hearing.{tag_value_of, typed_name_of};
 ghost use Rattle.tag_memory.specs.Image.{pc_fits, sizes_fit};
 

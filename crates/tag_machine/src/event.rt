@@ -6,9 +6,9 @@ ghost use Rattle.tag_machine.specs.Hearing.{tag_value_of};
 
 use crate::abilities::Present;
 use crate::any_tag::AnyTag;
-use crate::moves::back;
 use crate::states::{Ready, Unpowered};
 use crate::tag::Tag;
+use crate::transitions::back;
 use air_events::Event;
 use command_grammar::FlagName;
 

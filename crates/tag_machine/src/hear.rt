@@ -7,11 +7,11 @@ ghost use Rattle.tag_machine.specs.laws.Extended.{is_extended};
 ghost use Rattle.tag_machine.specs.Hearing.{GivesOutcome, tag_value_of};
 ghost use Rattle.tag_machine.specs.Step.{step};
 ghost use Rattle.tag_machine.specs.laws.Isolation.{IsIsolated};
-ghost use Rattle.reply_grammar.specs.Table.{reply_room};
+ghost use Rattle.reply_grammar.specs.Replies.{reply_room};
 
 use crate::any_tag::{Answered, AnyTag, Heard};
 use crate::states::Password;
-use crate::steps::Steps;
+use crate::step_counter::Steps;
 use bit_strings::Bits;
 use command_grammar::Command;
 use std::sync::ledger::Ledger;

@@ -11,7 +11,7 @@ ghost use Rattle.tag_machine.specs.TagValue.{ArbitrateState, BodyValue, IsLegalT
 
 use crate::any_tag::AnyTag;
 use crate::states::{Arbitrate, Ready};
-use crate::steps::Steps;
+use crate::step_counter::Steps;
 use crate::tag::Tag;
 use bit_strings::{QValue, Session};
 use command_grammar::{Command, UpDn};

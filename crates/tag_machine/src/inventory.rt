@@ -1,7 +1,7 @@
 //! Select and the inventory commands (6.3.2.11.1 and 6.3.2.11.2), each with its rule for all states.
 
 mod ack;
-mod back;
+mod back_to_arbitrate;
 mod nak;
 mod query;
 mod query_adjust;

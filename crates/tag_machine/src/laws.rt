@@ -7,7 +7,7 @@ ghost use Rattle.command_grammar.specs.declared.commands.Command.{Command};
 ghost use Rattle.command_grammar.specs.declared.commands.Command.TheVariants as commands;
 ghost use Rattle.command_grammar.specs.Commands.{IsLegalCommand};
 ghost use Rattle.reply_grammar.specs.declared.expected.Expect.{Expect};
-ghost use Rattle.reply_grammar.specs.Table.{AnswersExpected, Carries, Suits};
+ghost use Rattle.reply_grammar.specs.Replies.{AnswersExpected, Carries, Suits};
 ghost use Rattle.tag_machine.specs.TagValue.{StateValue, ArbitrateState, BodyValue, IsLegalTag, is_present};
 ghost use Rattle.tag_machine.specs.Answers.{Sent, IsSent, bits_sent, silent};
 ghost use Rattle.tag_machine.specs.Draws.{draw_of, body_after_draws};

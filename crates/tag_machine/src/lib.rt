@@ -11,11 +11,11 @@ mod hear;
 mod in_place;
 mod inventory;
 mod laws;
-mod moves;
 mod state_numbers;
 mod states;
-mod steps;
+mod step_counter;
 mod tag;
+mod transitions;
 
 pub use air_events::{Choice, Entry, Event, Several};
 pub use any_tag::{Answered, AnyTag, Heard};
@@ -30,5 +30,5 @@ pub use states::{
     Acknowledged, Arbitrate, Half, Held, InReply, Killed, Opened, Password, Ready, Secured, State,
     StateName, Unpowered,
 };
-pub use steps::Steps;
+pub use step_counter::Steps;
 pub use tag::Tag;

@@ -1,6 +1,6 @@
 -- A test of all words from a place on, one word at a time.
 use Rattle.std.proofs.Common.{◌≡◌, ℕ, suc, ◌+◌, ◌-◌, ◌<◌, Bool, true, false, ◌&&◌, refl, arith, ◌∙◌, ap}
-use Rattle.tag_memory.specs.Access.{all_words}
+use Rattle.tag_memory.specs.ReadsAndWrites.{all_words}
 
 all_words-more : (passes : ℕ → Bool) (place end : ℕ) → place < end → all_words passes place (end - place) ≡ passes place && all_words passes (place + 1) (end - (place + 1))
 all_words-more passes place end inside =

@@ -3,7 +3,7 @@ use Rattle.std.proofs.Common.{◌≡◌, ℕ, suc, ◌+◌, ◌-◌, ◌<◌, �
 use Rattle.std.proofs.lemmas.List.{take-append-drop, take-set, drop-set}
 use Rattle.command_fields.specs.declared.choices.Bank.TheVariants.{Epc, Tid}
 use Rattle.tag_memory.specs.declared.image.BankImage.{BankImage}
-use Rattle.tag_memory.specs.Access.{banks_with_words_at, with_words_at}
+use Rattle.tag_memory.specs.ReadsAndWrites.{banks_with_words_at, with_words_at}
 use Rattle.tag_memory.specs.Image.{banks_of, image_banks, with_last_words}
 use Rattle.tag_memory.specs.Memory.{Banks, length_in, with_stored_crc}
 

@@ -1,3 +1,3 @@
-pub mod Access
+pub mod ReadsAndWrites
 pub mod Image
 pub mod Memory

@@ -4,7 +4,7 @@ use Rattle.std.specs.Prelude.{◌≡◌, ℕ, ◌+◌, ◌*◌, ◌/◌, ◌^◌
 use Rattle.bit_strings.specs.NumbersInBits.{value_of}
 use Rattle.bit_strings.specs.Words.{bits_of_words}
 use Rattle.gen2_crc.specs.Crc.{crc16_of}
-use Rattle.reply_grammar.specs.Table.{AreWords}
+use Rattle.reply_grammar.specs.Replies.{AreWords}
 use Rattle.command_fields.specs.declared.choices.Bank.{Bank}
 use Rattle.command_fields.specs.declared.choices.Bank.TheVariants.{Reserved, Epc, Tid, User}
 use Rattle.command_fields.specs.declared.choices.MaskBank.{MaskBank}

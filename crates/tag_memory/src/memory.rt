@@ -3,11 +3,11 @@ ghost use Rattle.std.specs.Prelude.{◌≡◌, ◌/◌, ◌%◌, ◌^◌, ◌<�
 ghost use Rattle.bit_strings.specs.NumbersInBits.{value_of};
 ghost use Rattle.bit_strings.specs.Words.{bits_of_words};
 ghost use Rattle.gen2_crc.specs.Crc.{crc16_of};
-ghost use Rattle.reply_grammar.specs.Table.{AreWords};
+ghost use Rattle.reply_grammar.specs.Replies.{AreWords};
 ghost use Rattle.tag_memory.specs.Memory.{IsLegalMemory, AreSound, bank_of, bank_named, pc_of, epc_of, kill_word_of, access_word_of, length_in, epc_fits, with_stored_crc};
 ghost use Rattle.tag_memory.specs.Image.{sizes_fit, pc_fits, image_banks, banks_of, with_last_words};
 
-mod access;
+mod reads_and_writes;
 
 use crate::image::{BankImage, ImageRefusal};
 use command_fields::{Bank, MaskBank};

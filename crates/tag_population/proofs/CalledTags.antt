@@ -7,7 +7,7 @@ use Rattle.std.proofs.lemmas.List.{get_or-set_same, get_or-set_other, get_or_pas
 use Rattle.std.proofs.lemmas.List.Folds.{list_any_at}
 use Rattle.air_events.specs.TagNumbers.{most_tags}
 use Rattle.air_events.specs.declared.Entry.{Entry}
-use Rattle.tag_machine.specs.Exchange.{is_missed}
+use Rattle.tag_machine.specs.TagsInExchange.{is_missed}
 use Rattle.tag_population.specs.Floor.{steps_back, called_in, calling, FloorValue, CallsTags, IsMissedCalled}
 use Rattle.waiting_tags.specs.Waiting.{participation_at, is_called, waits_in}
 use Rattle.waiting_tags.specs.declared.waiting.Participation.{Participation}

@@ -14,7 +14,7 @@ use Rattle.tag_machine.specs.TagValue.{TagValue, IsLegalTag}
 use Rattle.tag_machine.specs.declared.any_tag.AnyTag.{AnyTag}
 use Rattle.tag_machine.proofs.StepFacts.{step_facts}
 use Rattle.tag_machine.specs.Answers.{IsSent, Sent}
-use Rattle.tag_machine.specs.Exchange.{AreLegalTags, Replied, is_missed, outcome_unless, replies_from, reply_of, tag_after_own_event, tags_after_event, tags_after}
+use Rattle.tag_machine.specs.TagsInExchange.{AreLegalTags, Replied, is_missed, outcome_unless, replies_from, reply_of, tag_after_own_event, tags_after_event, tags_after}
 use Rattle.tag_population.specs.Hearing.{tags_after_events, hearing_from}
 
 -- an event befalls no tag of another number

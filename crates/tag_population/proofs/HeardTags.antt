@@ -6,7 +6,7 @@ use Rattle.std.proofs.lemmas.List.{get_or-set_same, get_or-set_other, length-set
 use Rattle.air_events.specs.declared.Entry.{Entry}
 use Rattle.command_grammar.specs.declared.commands.Command.{Command}
 use Rattle.tag_machine.specs.Answers.{Outcome, Sent, silent}
-use Rattle.tag_machine.specs.Exchange.{Replied, outcome_unless, is_missed, tags_after, reply_of, replies_from}
+use Rattle.tag_machine.specs.TagsInExchange.{Replied, outcome_unless, is_missed, tags_after, reply_of, replies_from}
 use Rattle.tag_machine.specs.TagValue.{TagValue}
 use Rattle.tag_population.proofs.CalledTags.{participation_inside, counted_here, called_further}
 use Rattle.tag_population.proofs.EventsOnTags.{length-heard}

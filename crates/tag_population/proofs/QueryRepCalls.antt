@@ -12,7 +12,7 @@ use Rattle.command_grammar.specs.declared.commands.Command.{Command}
 use Rattle.command_grammar.specs.declared.commands.Command.TheVariants as commands
 use Rattle.tag_machine.proofs.QueryRepLaws.{waits, other_rep}
 use Rattle.tag_machine.specs.Answers.{Outcome, silent}
-use Rattle.tag_machine.specs.Exchange.{outcome_unless, is_missed, is_busy, busy_from}
+use Rattle.tag_machine.specs.TagsInExchange.{outcome_unless, is_missed, is_busy, busy_from}
 use Rattle.tag_machine.specs.Inventory.{slot_below, count_down}
 use Rattle.tag_machine.specs.Reach.{reaches_waiting}
 use Rattle.tag_machine.specs.Slots.{is_beyond_arbitrate}

@@ -4,7 +4,7 @@ use Rattle.air_events.specs.declared.Entry.{Entry}
 use Rattle.air_events.specs.declared.Event.{Event}
 use Rattle.command_grammar.specs.declared.commands.Command.{Command}
 use Rattle.tag_machine.specs.Answers.{Outcome}
-use Rattle.tag_machine.specs.Exchange.{outcome_in, outcomes_from, outcomes_in, tag_after_events, tag_after_own_event, tags_after_event}
+use Rattle.tag_machine.specs.TagsInExchange.{outcome_in, outcomes_from, outcomes_in, tag_after_events, tag_after_own_event, tags_after_event}
 use Rattle.tag_machine.specs.TagValue.{TagValue}
 use Rattle.tag_population.proofs.EventsOnTags.{length-tags_after_event}
 use Rattle.tag_population.specs.Hearing.{hearing_from, tags_after_events}

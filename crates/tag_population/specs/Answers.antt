@@ -2,7 +2,7 @@
 use Rattle.std.specs.Prelude.{ℕ, ◌-◌, ◌*◌, ◌≤◌, Bool, List, length, map, take, drop, Some}
 use Rattle.std.specs.List.{All}
 use Rattle.tag_machine.specs.Answers.{bits_sent}
-use Rattle.tag_machine.specs.Exchange.{Replied}
+use Rattle.tag_machine.specs.TagsInExchange.{Replied}
 use Rattle.tag_population.specs.declared.answers.Answer.{Answer}
 use Rattle.tag_population.specs.declared.answers.Kept.{Kept}
 

@@ -11,7 +11,7 @@ use Rattle.lock_rules.specs.Lock.{locks_of}
 use Rattle.tag_machine.specs.declared.any_tag.AnyTag.{AnyTag}
 use Rattle.tag_machine.specs.Answers.{Outcome, silent}
 use Rattle.tag_machine.specs.Events.{new_tag}
-use Rattle.tag_machine.specs.Exchange.{AreLegalTags, Replied, outcome_unless, is_missed, reply_of}
+use Rattle.tag_machine.specs.TagsInExchange.{AreLegalTags, Replied, outcome_unless, is_missed, reply_of}
 use Rattle.tag_machine.specs.Hearing.{tag_value_of}
 use Rattle.tag_machine.specs.TagValue.{StateValue, ReadyState, ArbitrateState, ReplyState, AcknowledgedState, OpenState, SecuredState, KilledState, UnpoweredState, TagValue}
 use Rattle.tag_population.specs.Answers.{AnswerValue, answers_of}

@@ -6,7 +6,7 @@ use Rattle.air_events.specs.declared.Event.{Event}
 use Rattle.command_grammar.specs.declared.commands.Command.{Command}
 use Rattle.tag_machine.specs.TagValue.{TagValue}
 use Rattle.tag_machine.specs.Answers.{Outcome}
-use Rattle.tag_machine.specs.Exchange.{tags_after_event, outcome_unless, is_missed, tags_after, replies_from}
+use Rattle.tag_machine.specs.TagsInExchange.{tags_after_event, outcome_unless, is_missed, tags_after, replies_from}
 use Rattle.tag_population.specs.Answers.{AnswersValue, answers_of}
 use Rattle.tag_population.specs.Floor.{FloorValue, participations_of}
 

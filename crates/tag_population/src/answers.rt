@@ -2,7 +2,7 @@
 ghost use Rattle.std.specs.Prelude.{◌≡◌, ◌+◌, ◌*◌, ◌<◌, ◌≤◌, ◌++◌, [], ◌∷◌, length, slice_get, IfOk};
 ghost use Rattle.std.specs.Option.{option_map};
 ghost use Rattle.air_events.specs.TagNumbers.{most_tags};
-ghost use Rattle.tag_machine.specs.Exchange.{reply_of};
+ghost use Rattle.tag_machine.specs.TagsInExchange.{reply_of};
 ghost use Rattle.tag_machine.specs.Hearing.{tag_value_of};
 ghost use Rattle.tag_machine.specs.Step.{step};
 ghost use Rattle.tag_machine.specs.TagValue.{IsLegalTag};
@@ -64,7 +64,7 @@ impl Drop for Answers {
 
 impl Model for Answers {
     ghost use Rattle.std.specs.Prelude.{◌≡◌, ◌*◌, ◌≤◌};
-    ghost use Rattle.reply_grammar.specs.Table.{reply_room};
+    ghost use Rattle.reply_grammar.specs.Replies.{reply_room};
     ghost use Rattle.tag_population.specs.Answers.{AnswersValue, AreKept, answers_kept, most_answer_bits};
 
     ghost Value = { AnswersValue };

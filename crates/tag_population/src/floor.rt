@@ -4,7 +4,7 @@ ghost use Rattle.std.specs.Borrow.{sem};
 ghost use Rattle.std.specs.Option.{is_some};
 ghost use Rattle.air_events.specs.TagNumbers.{most_tags};
 ghost use Rattle.tag_machine.specs.Events.{tag_after_event};
-ghost use Rattle.tag_machine.specs.Exchange.{AreLegalTags, outcome_unless, reply_of};
+ghost use Rattle.tag_machine.specs.TagsInExchange.{AreLegalTags, outcome_unless, reply_of};
 ghost use Rattle.tag_machine.specs.Hearing.{tag_value_of};
 ghost use Rattle.tag_machine.specs.TagValue.{IsLegalTag};
 ghost use Rattle.tag_population.specs.Answers.{answers_of};

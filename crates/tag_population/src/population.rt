@@ -3,7 +3,7 @@ ghost use Rattle.std.specs.Prelude.{◌≡◌, ℕ, ◌+◌, ◌*◌, ◌<◌, �
 ghost use Rattle.std.specs.Borrow.{sem};
 ghost use Rattle.air_events.specs.TagNumbers.{most_tags};
 ghost use Rattle.tag_machine.specs.Answers.{IsSent};
-ghost use Rattle.tag_machine.specs.Exchange.{AreLegalTags, IsQueryRep, busy_from, is_missed, replies_from, tags_after, tags_after_event};
+ghost use Rattle.tag_machine.specs.TagsInExchange.{AreLegalTags, IsQueryRep, busy_from, is_missed, replies_from, tags_after, tags_after_event};
 ghost use Rattle.tag_machine.specs.Hearing.{tag_value_of};
 ghost use Rattle.tag_machine.specs.TagValue.{IsLegalTag};
 ghost use Rattle.tag_population.specs.Answers.{answers_of};

@@ -2,7 +2,7 @@
 ghost use Rattle.std.specs.Prelude.{◌≡◌, ◌+◌, ◌<◌, ◌≤◌, ◌++◌, Some, true, false, length, if◌then◌else◌};
 ghost use Rattle.tag_machine.specs.Answers.{silent};
 ghost use Rattle.tag_machine.specs.Events.{tag_after_event};
-ghost use Rattle.tag_machine.specs.Exchange.{outcome_unless, reply_of};
+ghost use Rattle.tag_machine.specs.TagsInExchange.{outcome_unless, reply_of};
 ghost use Rattle.tag_machine.specs.Hearing.{tag_value_of, typed_name_of};
 ghost use Rattle.tag_machine.specs.TagValue.{IsLegalTag};
 ghost use Rattle.tag_population.specs.Answers.{answers_of};

@@ -21,7 +21,7 @@ mod laws;
 mod lines;
 mod more_fields;
 mod next_fields;
-mod ranges;
+mod ranged_fields;
 mod short_text;
 mod single_bits;
 mod word_lists;
@@ -46,7 +46,9 @@ pub use next_fields::{
     push_named_number, push_named_word, push_next_bits, push_next_long_number, push_next_name,
     push_next_number, push_next_numbers, push_next_word, push_next_words,
 };
-pub use ranges::{action_of, count_of, number_from, pointer_of, q_of, session_of, words_from};
+pub use ranged_fields::{
+    action_of, count_of, number_from, pointer_of, q_of, session_of, words_from,
+};
 pub use short_text::push_bytes;
 pub use single_bits::one_bit;
 pub use word_lists::Words;

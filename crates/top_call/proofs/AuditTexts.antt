@@ -16,7 +16,7 @@ use Rattle.scenario.specs.ScenarioText.{IsScenarioText, scenario_text}
 use Rattle.scenario.specs.declared.values.Scenario.{Scenario}
 use Rattle.scenario.specs.declared.values.Step.{Step}
 use Rattle.scenario.specs.declared.values.Step.TheVariants as steps
-use Rattle.tag_machine.specs.Exchange.{AreLegalTags}
+use Rattle.tag_machine.specs.TagsInExchange.{AreLegalTags}
 use Rattle.tag_machine.specs.TagValue.{TagValue}
 use Rattle.top_call.specs.words.Audited.{Audits, SaysReceived}
 use Rattle.top_call.proofs.RunEnds.{AreToldApart}

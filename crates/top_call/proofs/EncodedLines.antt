@@ -9,7 +9,7 @@ use Rattle.encode_lines.specs.EncodeLines.{Encodes, EncodesLine, AskForEncoding,
 use Rattle.encode_lines.specs.Request.{AsksToEncode}
 use Rattle.encode_lines.specs.Written.{AreWritten}
 use Rattle.encode_lines.specs.declared.request.Request.{Request}
-use Rattle.top_call.specs.Outcome.{AddsFront}
+use Rattle.top_call.specs.StatusMeanings.{AddsFront}
 use Rattle.top_call.specs.UnwrittenBytes.{Loses}
 
 -- what the law of requests says

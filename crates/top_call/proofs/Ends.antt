@@ -11,7 +11,7 @@ use Rattle.report_lines.specs.declared.mode.PlayFault.TheVariants as plays
 use Rattle.text_fields.specs.FaultLine.{fault_line}
 use Rattle.top_call.specs.Ending.{end_of_play}
 use Rattle.top_call.specs.Job.{Job, Defines, IsLawful}
-use Rattle.top_call.specs.Outcome.{input_limit, ReadsWithin, TakesInput, AddsFront, EndsSo, IsTextOf, WritesAs, SinkChange, SourceChange, Tells, WritesWhole, NothingFailed, WritesFront}
+use Rattle.top_call.specs.StatusMeanings.{input_limit, ReadsWithin, TakesInput, AddsFront, EndsSo, IsTextOf, WritesAs, SinkChange, SourceChange, Tells, WritesWhole, NothingFailed, WritesFront}
 use Rattle.top_call.specs.declared.ending.Wrote.{Wrote}
 use Rattle.top_call.specs.declared.ending.Wrote.TheVariants.{Text, FaultLine}
 use Rattle.top_call.specs.declared.ending.WriteEnd.{WriteEnd}

@@ -7,7 +7,7 @@ use Rattle.text_fields.specs.Lines.{lines_of, line_feed, text_with}
 use Rattle.epc_sgtin.specs.SgtinValue.{SgtinValue}
 use Rattle.sgtin_text.specs.SgtinText.{name_line}
 use Rattle.report_lines.specs.Names.{IsNamed, HasName, BecomesLines, AreWithNames}
-use Rattle.top_call.specs.Outcome.{AddsFront}
+use Rattle.top_call.specs.StatusMeanings.{AddsFront}
 use Rattle.top_call.specs.UnwrittenBytes.{WritesWaiting, Loses}
 use Rattle.text_fields.specs.FaultLine.{fault_line}
 use Rattle.checked_lines.specs.FaultWords.{reason_word}

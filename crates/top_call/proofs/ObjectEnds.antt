@@ -7,7 +7,7 @@ use Rattle.line_objects.specs.declared.line_members.LineSet.TheVariants as sets
 use Rattle.report_lines.specs.declared.mode.Mode.{Mode}
 use Rattle.report_lines.specs.declared.mode.Mode.TheVariants.{Exchanges}
 use Rattle.top_call.specs.Job.{Job, Defines, IsLawful}
-use Rattle.top_call.specs.Outcome.{EndsSo, NothingFailed, ReadsWithin, SinkChange, SourceChange, TakesInput, Tells, WritesWhole, status_of}
+use Rattle.top_call.specs.StatusMeanings.{EndsSo, NothingFailed, ReadsWithin, SinkChange, SourceChange, TakesInput, Tells, WritesWhole, status_of}
 use Rattle.top_call.specs.words.Audited.{audit_job}
 use Rattle.top_call.specs.words.Decoded.{decode_job}
 use Rattle.top_call.specs.words.Judged.{judge_job}

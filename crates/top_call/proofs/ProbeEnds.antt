@@ -5,13 +5,13 @@ use Rattle.report_lines.specs.declared.mode.PlayFault.{PlayFault}
 use Rattle.report_lines.specs.declared.mode.PlayFault.TheVariants as plays
 use Rattle.tag_machine.specs.TagValue.{TagValue}
 use Rattle.checked_lines.specs.declared.fault.FaultReason.{FaultReason}
-use Rattle.probe_lines.specs.Said.{Stimulus}
-use Rattle.probe_lines.specs.Answers.{TellsEffects, probed_tag}
+use Rattle.probe_lines.specs.Stimuli.{Stimulus}
+use Rattle.probe_lines.specs.AnswerLines.{TellsEffects, probed_tag}
 use Rattle.probe_lines.specs.Played.{HasPlayed, WritesPart}
 use Rattle.probe_lines.specs.ProbeText.{IsFirstProbeFault, IsProbe, IsProbeText}
 use Rattle.top_call.specs.Ending.{end_of_play}
 use Rattle.top_call.specs.Job.{Defines}
-use Rattle.top_call.specs.Outcome.{AddsFront, EndsSo, SinkChange}
+use Rattle.top_call.specs.StatusMeanings.{AddsFront, EndsSo, SinkChange}
 use Rattle.top_call.specs.declared.ending.Wrote.{Wrote}
 use Rattle.top_call.specs.declared.ending.Wrote.TheVariants.{Text}
 use Rattle.top_call.specs.declared.ending.WriteEnd.{WriteEnd}

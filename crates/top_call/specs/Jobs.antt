@@ -1,7 +1,7 @@
 -- Profile: what the words of each form do.
 use Rattle.std.specs.Prelude.{◌≡◌, false}
 use Rattle.top_call.specs.Job.{Job}
-use Rattle.top_call.specs.Outcome.{SinkChange, SourceChange, SpeaksOfNoInput, Tells}
+use Rattle.top_call.specs.StatusMeanings.{SinkChange, SourceChange, SpeaksOfNoInput, Tells}
 use Rattle.top_call.specs.declared.forms.Form.{Form}
 use Rattle.top_call.specs.declared.forms.Form.TheVariants.{Decode, Encode, Run, Upgrade, Portals, Names, Probe, Judge, Audit, Objects, Gen, Help, Version}
 use Rattle.top_call.specs.declared.status.Status.{Status}

@@ -3,6 +3,6 @@ pub mod words
 pub mod Form
 pub mod Jobs
 pub mod UnwrittenBytes
-pub mod Outcome
+pub mod StatusMeanings
 pub mod Ending
 pub mod StatusNumber

@@ -1,6 +1,6 @@
 //! How the reading of an input and the writing of a word's text ended, and the status of that.
 ghost use Rattle.std.specs.Prelude.{◌≡◌, Result};
-ghost use Rattle.top_call.specs.Outcome.{WritesAs, sink_change, status_of, unread_status};
+ghost use Rattle.top_call.specs.StatusMeanings.{WritesAs, sink_change, status_of, unread_status};
 
 use crate::status::Status;
 use air_io::{ReadEnd, Sink, WriteFailed, write_all};

@@ -4,7 +4,7 @@ ghost use Rattle.air_io.specs.Flow.{FaultsRose};
 ghost use Rattle.top_call.specs.declared.forms.Form.{Form};
 ghost use Rattle.top_call.specs.Form.{texts, SpellForm, SpellSomeForm, IsForm};
 ghost use Rattle.top_call.specs.Jobs.{Answers, job_of};
-ghost use Rattle.top_call.specs.Outcome.{input_limit, WritesWhole, WritesFront, ReadsWithin, ReadsTooMuch, SpeaksOfNoInput, source_change, sink_change};
+ghost use Rattle.top_call.specs.StatusMeanings.{input_limit, WritesWhole, WritesFront, ReadsWithin, ReadsTooMuch, SpeaksOfNoInput, source_change, sink_change};
 ghost use Rattle.top_call.specs.words.Generated.{CountsEveryTag, gen_job};
 ghost use Rattle.top_call.specs.words.Reported.{IsOwnTrace, SaysHeadline, SaysInventory, run_job};
 ghost use Rattle.report_lines.specs.declared.mode.Mode.{Mode};

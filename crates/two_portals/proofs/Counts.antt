@@ -5,7 +5,7 @@ use Rattle.std.specs.Cmp.{first_so, second_so}
 use Rattle.std.proofs.lemmas.Bool.{eqb-true}
 use Rattle.std.proofs.lemmas.List.Elements.{Contains-append_right}
 use Rattle.std.proofs.lemmas.List.Sums.{sum_by-append, sum_by-cons}
-use Rattle.reply_grammar.specs.Pairs.{same_pair}
+use Rattle.reply_grammar.specs.PcAndEpc.{same_pair}
 use Rattle.reply_grammar.proofs.SamePairs.{same_pair-is, same_pair-refl}
 use Rattle.two_portals.specs.PortalLines.{agree_on, are_same}
 

@@ -6,7 +6,7 @@ use Rattle.std.proofs.lemmas.Bool.{eqb-true}
 use Rattle.std.proofs.lemmas.List.{length-append}
 use Rattle.std.proofs.lemmas.List.Elements.{filter-append}
 use Rattle.std.proofs.lemmas.List.Sums.{sum_by-append, sum_by-cons}
-use Rattle.reply_grammar.specs.Pairs.{same_pair}
+use Rattle.reply_grammar.specs.PcAndEpc.{same_pair}
 use Rattle.two_portals.specs.Played.{times}
 use Rattle.two_portals.proofs.Counts.{Pair, AreAlike, count, one-where, split}
 

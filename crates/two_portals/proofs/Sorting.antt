@@ -12,7 +12,7 @@ use Rattle.std.specs.declared.cmp.Ordering.{Ordering}
 use Rattle.std.specs.declared.cmp.Ordering.TheVariants.{Less, Equal, Greater}
 use Rattle.std.proofs.lemmas.List.Elements.{All-contains}
 use Rattle.std.proofs.lemmas.List.Sorted.{ranks_by, sorted_far, sum_by-IsPermutation}
-use Rattle.reply_grammar.specs.Pairs.{same_pair}
+use Rattle.reply_grammar.specs.PcAndEpc.{same_pair}
 use Rattle.reply_grammar.proofs.SamePairs.{same_pair-is, same_pair-equal}
 use Rattle.two_portals.specs.PortalLines.{are_same}
 use Rattle.two_portals.proofs.Counts.{Pair, AreAlike, alike-rest, alike-same, count, count-itself, counted-stands, one-where, same-alike}

@@ -5,7 +5,7 @@ use Rattle.std.specs.List.{AllZip}
 use Rattle.q_round.specs.SpecValue.{SpecValue}
 use Rattle.q_round.specs.declared.round.RoundEnd.{RoundEnd}
 use Rattle.q_round.specs.declared.round.RoundEnd.TheVariants as ends
-use Rattle.reply_grammar.specs.Pairs.{same_pair}
+use Rattle.reply_grammar.specs.PcAndEpc.{same_pair}
 use Rattle.session_flags.specs.Flags.{new_flags}
 use Rattle.tag_machine.specs.TagValue.{TagValue, ReadyState}
 use Rattle.two_portals.specs.Played.{Played, times}

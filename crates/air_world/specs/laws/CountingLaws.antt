@@ -1,7 +1,7 @@
 -- What is counted of lines is counted line by line.
 use Rattle.std.proofs.Common.{◌≡◌, true, List, [], ◌∷◌, ◌++◌, refl, sym, ◌∙◌, ap, subst, arith}
 use Rattle.air_world.specs.Counting.{CountsLines, Fits, counted_line, counted_lines}
-use Rattle.report_lines.specs.Kept.{is_of_exchanges, is_of_trace}
+use Rattle.report_lines.specs.ModeLines.{is_of_exchanges, is_of_trace}
 use Rattle.report_lines.specs.ReportLine.{ReportLine, BlfLine, ExchangeLine, MissedLine, AnswerLine, GivenLine, TxLine, RxLine, ListLine, OpLine, RoundLine, SeenLine, TagLine, DoneLine}
 use Rattle.runs.specs.declared.summary.Summary.{Summary}
 

@@ -5,13 +5,13 @@ ghost use Rattle.air_model.specs.Past.{Record};
 ghost use Rattle.air_world.specs.Saying.{AnswersCommand, AreOfDifferentTags, AreShort, IsBehind};
 ghost use Rattle.air_world.specs.Telling.{PassesOn};
 ghost use Rattle.pie_line.specs.Link.{LinkValue};
-ghost use Rattle.reply_grammar.specs.Table.{longest_reply};
+ghost use Rattle.reply_grammar.specs.Replies.{longest_reply};
 ghost use Rattle.report_lines.specs.ReportLine.{ReportLine, ExchangeLine, GivenLine, MissedLine};
 ghost use Rattle.runs.specs.Report.{wave_lines};
 ghost use Rattle.runs.specs.Said.{answer_line, exchanged_by, gave_of, said_lines};
 ghost use Rattle.runs.specs.laws.Replies.{AreReplies};
 ghost use Rattle.tag_machine.specs.Answers.{Sent, bits_sent};
-ghost use Rattle.tag_machine.specs.Exchange.{Replied};
+ghost use Rattle.tag_machine.specs.TagsInExchange.{Replied};
 ghost use Rattle.tag_population.specs.Answers.{answer_of, answers_of};
 
 use air_channel::{Air, Answers, Got};

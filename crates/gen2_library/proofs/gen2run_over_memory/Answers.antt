@@ -7,7 +7,7 @@ use Rattle.text_fields.specs.Lines.{fields_of}
 use Rattle.top_call.specs.Form.{SpellForm, texts}
 use Rattle.top_call.specs.Job.{Defines}
 use Rattle.top_call.specs.Jobs.{job_of}
-use Rattle.top_call.specs.Outcome.{input_limit, SpeaksOfNoInput}
+use Rattle.top_call.specs.StatusMeanings.{input_limit, SpeaksOfNoInput}
 use Rattle.top_call.specs.StatusNumber.{status_number}
 use Rattle.top_call.specs.declared.forms.Form.{Form}
 use Rattle.top_call.specs.declared.forms.Form.TheVariants.{Run, Gen}

@@ -1,8 +1,8 @@
 -- What single lines of logs say, together.
 use Rattle.std.specs.Prelude.{◌≡◌, List}
 use Rattle.std.specs.List.{AllZip}
-use Rattle.probe_lines.specs.Answers.{HasEffect}
-use Rattle.probe_lines.specs.Said.{Stimulus, StimulusEffect}
+use Rattle.probe_lines.specs.AnswerLines.{HasEffect}
+use Rattle.probe_lines.specs.Stimuli.{Stimulus, StimulusEffect}
 use Rattle.probe_lines.specs.laws.LineLaws.{ProbeLineLaws, TagLineLaws}
 use Rattle.judge_lines.specs.laws.SeenLaws.{SeenLaws}
 

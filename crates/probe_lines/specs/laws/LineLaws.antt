@@ -3,7 +3,7 @@ use Rattle.std.specs.Prelude.{◌≡◌, ℕ, List}
 use Rattle.text_fields.specs.declared.fields_fault.FieldsFault.{FieldsFault}
 use Rattle.checked_lines.specs.declared.fault.FaultReason.{FaultReason}
 use Rattle.scenario_lines.specs.declared.tag.TagSpec.{TagSpec}
-use Rattle.probe_lines.specs.Said.{ProbeLine}
+use Rattle.probe_lines.specs.Stimuli.{ProbeLine}
 use Rattle.probe_lines.specs.LineFaults.{IsFaultyProbeLine}
 use Rattle.probe_lines.specs.ProbeLine.{SpellsProbeLine, SpellsTag}
 use Rattle.probe_lines.specs.ProbeText.{IsFaultyTagLine}

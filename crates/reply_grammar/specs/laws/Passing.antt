@@ -13,7 +13,7 @@ use Rattle.reply_grammar.specs.declared.expected.Expect.{Expect}
 use Rattle.reply_grammar.specs.declared.expected.Expect.TheVariants.{Rn16 as OneRn16, Epc as OneEpc, Handle as OneHandle, Same, Words as SomeWords, AnyWords, Header as OneHeader}
 use Rattle.reply_grammar.specs.declared.expected.Reply.{Reply}
 use Rattle.reply_grammar.specs.declared.expected.Reply.TheVariants.{Rn16, Epc, Handle, Words, Header, Error}
-use Rattle.reply_grammar.specs.Table.{AnswersExpected, Suits, IsReply, handle_of, spelling, with_check}
+use Rattle.reply_grammar.specs.Replies.{AnswersExpected, Suits, IsReply, handle_of, spelling, with_check}
 use Rattle.reply_grammar.specs.Refusals.{EndsWithCheck, HasHeader, HasHandle, Passes}
 
 pub length-with_check : (front : List Bool) → length (with_check front) ≡ length front + 16

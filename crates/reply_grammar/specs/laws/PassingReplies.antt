@@ -10,7 +10,7 @@ use Rattle.gen2_crc.specs.Crc.{crc16_of}
 use Rattle.reply_grammar.specs.declared.expected.Expect.{Expect}
 use Rattle.reply_grammar.specs.declared.expected.Expect.TheVariants.{Rn16 as OneRn16, Epc as OneEpc, Handle as OneHandle, Same, Words as SomeWords, AnyWords, Header as OneHeader}
 use Rattle.reply_grammar.specs.declared.expected.Reply.TheVariants.{Rn16, Epc, Handle, Words, Header, Error}
-use Rattle.reply_grammar.specs.Table.{AnswersExpected, Suits, handle_of, spelling, with_check}
+use Rattle.reply_grammar.specs.Replies.{AnswersExpected, Suits, handle_of, spelling, with_check}
 use Rattle.reply_grammar.specs.Refusals.{FitsLength, EndsWithCheck, HasHeader, HasHandle, Passes}
 use Rattle.reply_grammar.specs.laws.Passing.{length-with_check, first-five}
 use Rattle.reply_grammar.specs.laws.Reading.{ReadTo, part-field, value_of-part, part-add}

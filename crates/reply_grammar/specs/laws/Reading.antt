@@ -7,7 +7,7 @@ use Rattle.bit_strings.specs.NumbersInBits.{value_of, field_of, part_of}
 use Rattle.bit_strings.specs.laws.NumbersInBits.{field_of-value_of, value_of-within}
 use Rattle.bit_strings.specs.Words.{bits_of_words}
 use Rattle.bit_strings.specs.laws.Words.{bits_of_words-push}
-use Rattle.reply_grammar.specs.Table.{AreWords}
+use Rattle.reply_grammar.specs.Replies.{AreWords}
 
 pub length-part_of : (bits : List Bool) (at width : ℕ) → at + width ≤ length bits → length (part_of bits at width) ≡ width
 length-part_of bits at width within = omega (arith, length-take width (drop at bits), length-drop at bits)

@@ -14,7 +14,7 @@ use Rattle.reply_grammar.specs.declared.expected.Reply.{Reply}
 use Rattle.reply_grammar.specs.declared.expected.Reply.TheVariants.{Rn16, Epc, Handle, Words, Header, Error}
 use Rattle.reply_grammar.specs.declared.expected.ReplyRefusal.{ReplyRefusal}
 use Rattle.reply_grammar.specs.declared.expected.ReplyRefusal.TheVariants.{Length, Crc, Header as HeaderBit, Number}
-use Rattle.reply_grammar.specs.Table.{AnswersExpected}
+use Rattle.reply_grammar.specs.Replies.{AnswersExpected}
 use Rattle.reply_grammar.specs.Refusals.{RefusesReply, FitsLength, EndsWithCheck, PassesCheck, PassesHeader, PassesNumber, Passes}
 use Rattle.reply_grammar.specs.laws.Reading.{ReadTo, read_none, read_more}
 use Rattle.reply_grammar.specs.laws.PassingReplies.{rn16_passed, handle_passed, same_passed, epc_passed, words_passed, any_words_passed, header_passed, words_error, any_words_error, header_error}

@@ -9,7 +9,7 @@ use Rattle.line_code.specs.declared.refusal.LineRefusal.TheVariants.{Invalid, Un
 use Rattle.line_code.specs.laws.Existence.{some_answer}
 use Rattle.line_codes.specs.laws.Codes.{code_even, code_tells}
 use Rattle.line_codes.specs.Codes.{table_of, chips_of}
-use Rattle.reply_grammar.specs.Table.{AnswersExpected}
+use Rattle.reply_grammar.specs.Replies.{AnswersExpected}
 use Rattle.reply_grammar.specs.Refusals.{RefusesReply}
 use Rattle.reply_grammar.specs.laws.SomeReply.{reply_or_fault}
 use Rattle.reply_grammar.specs.declared.expected.Expect.{Expect}

@@ -7,7 +7,7 @@ use Rattle.air_events.specs.declared.Event.{Event}
 use Rattle.command_grammar.specs.declared.commands.Command.{Command}
 use Rattle.tag_machine.specs.Answers.{Outcome, Sent}
 use Rattle.tag_machine.specs.Events.{tag_after_event}
-use Rattle.tag_machine.specs.Exchange.{AreLegalTags, Replied, tag_after_own_event, tag_after_events, is_missed, outcome_unless, outcomes_from, outcomes_in, replies_in, reply_of, replies_from}
+use Rattle.tag_machine.specs.TagsInExchange.{AreLegalTags, Replied, tag_after_own_event, tag_after_events, is_missed, outcome_unless, outcomes_from, outcomes_in, replies_in, reply_of, replies_from}
 use Rattle.tag_machine.specs.Step.{step}
 use Rattle.tag_machine.specs.TagValue.{TagValue, StateValue, BodyValue, IsLegalTag}
 

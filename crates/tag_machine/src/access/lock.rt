@@ -2,13 +2,13 @@
 ghost use Rattle.std.specs.Prelude.{◌≡◌, ◌+◌, ◌≤◌};
 ghost use Rattle.tag_machine.specs.Access.{lock};
 ghost use Rattle.tag_machine.specs.Hearing.{GivesOutcome, tag_value_of};
-ghost use Rattle.reply_grammar.specs.Table.{reply_room};
+ghost use Rattle.reply_grammar.specs.Replies.{reply_room};
 
 use crate::any_tag::{AnyTag, Heard};
-use crate::moves::unanswered;
 use crate::states::Secured;
-use crate::steps::Steps;
+use crate::step_counter::Steps;
 use crate::tag::Tag;
+use crate::transitions::unanswered;
 use bit_strings::{Bits, Payload};
 use lock_rules::Level;
 use std::sync::ledger::Ledger;

@@ -2,11 +2,11 @@
 ghost use Rattle.std.specs.Prelude.{◌≡◌, ◌+◌, ◌≤◌};
 ghost use Rattle.tag_machine.specs.Access.{read, write, block_write, block_erase};
 ghost use Rattle.tag_machine.specs.Hearing.{GivesOutcome, tag_value_of};
-ghost use Rattle.reply_grammar.specs.Table.{reply_room};
+ghost use Rattle.reply_grammar.specs.Replies.{reply_room};
 
 use crate::abilities::WithHandle;
 use crate::any_tag::{Answered, AnyTag, Heard};
-use crate::steps::Steps;
+use crate::step_counter::Steps;
 use crate::tag::Tag;
 use bit_strings::{Bits, Count1, Pointer};
 use command_grammar::{Bank, BlockWords};

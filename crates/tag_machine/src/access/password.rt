@@ -3,15 +3,15 @@
 ghost use Rattle.std.specs.Prelude.{◌≡◌, ◌+◌, ◌≤◌, Some};
 ghost use Rattle.tag_machine.specs.Access.{in_access, kill_whole, kill, access_whole, access, password_outcome, whole_of};
 ghost use Rattle.tag_machine.specs.Hearing.{GivesOutcome, tag_value_of};
-ghost use Rattle.reply_grammar.specs.Table.{reply_room};
+ghost use Rattle.reply_grammar.specs.Replies.{reply_room};
 
 use super::rules::TagWithHandle;
 use crate::abilities::WithHandle;
 use crate::any_tag::{AnyTag, Heard};
-use crate::moves::{answer_header, go_back};
 use crate::states::{Half, Killed, Password};
-use crate::steps::Steps;
+use crate::step_counter::Steps;
 use crate::tag::Tag;
+use crate::transitions::{answer_header, go_back};
 use bit_strings::Bits;
 use lock_rules::{ErrorCode, Level};
 use std::sync::ledger::Ledger;

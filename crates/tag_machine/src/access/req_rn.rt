@@ -2,15 +2,15 @@
 ghost use Rattle.std.specs.Prelude.{◌≡◌, ◌+◌, ◌≤◌};
 ghost use Rattle.tag_machine.specs.Access.{give_handle, req_rn, req_rn_outcome};
 ghost use Rattle.tag_machine.specs.Hearing.{GivesOutcome, tag_value_of};
-ghost use Rattle.reply_grammar.specs.Table.{reply_room};
+ghost use Rattle.reply_grammar.specs.Replies.{reply_room};
 
 use super::rules::TagWithHandle;
 use crate::abilities::{InTurn, Present};
 use crate::any_tag::{AnyTag, Heard};
-use crate::moves::{answer_handle, go_back, unanswered};
 use crate::states::Held;
-use crate::steps::Steps;
+use crate::step_counter::Steps;
 use crate::tag::Tag;
+use crate::transitions::{answer_handle, go_back, unanswered};
 use bit_strings::{Bits, QValue, Session};
 use lock_rules::Level;
 use std::sync::ledger::Ledger;

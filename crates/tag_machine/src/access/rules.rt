@@ -1,10 +1,10 @@
 //! A tag with a handle, and the rules that stand before what an access command does (6.3.2.11.3): the tag has a handle, the command
 //! carries it, it ends no unfinished Kill or Access, and the covered number of a Write, Kill or Access has a cover.
 ghost use Rattle.std.specs.Prelude.{◌≡◌, ◌≤◌, ℕ, IfOk, IfErr, OnOk, if◌then◌else◌};
-ghost use Rattle.lock_rules.specs.declared.terms.Level.{Level};
+ghost use Rattle.lock_rules.specs.declared.permissions.Level.{Level};
 ghost use Rattle.tag_machine.specs.declared.states.Held.{Held};
 ghost use Rattle.tag_machine.specs.TagValue.{BodyValue};
-ghost use Rattle.reply_grammar.specs.Table.{reply_room};
+ghost use Rattle.reply_grammar.specs.Replies.{reply_room};
 ghost use Rattle.reply_grammar.specs.declared.expected.Reply.TheVariants.{Handle};
 ghost use Rattle.tag_machine.specs.Answers.{Outcome, plain_answer, extended_answer};
 ghost use Rattle.tag_machine.specs.Access.{change_answer, held_state, outcome_where_heeded, in_access, uncover, unless_ended};
@@ -13,9 +13,9 @@ ghost use Rattle.tag_machine.specs.Hearing.{GivesOutcome, tag_value_of};
 
 use crate::abilities::Present;
 use crate::any_tag::{Answered, AnyTag, Heard};
-use crate::moves::{answer_handle, answer_header, go_back, unanswered};
 use crate::states::{Held, Opened, Password, Secured};
 use crate::tag::Tag;
+use crate::transitions::{answer_handle, answer_header, go_back, unanswered};
 use bit_strings::{Bits, xor16};
 use lock_rules::{ErrorCode, Level};
 use reply_grammar::encode_error;

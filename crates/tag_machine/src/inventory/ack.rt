@@ -3,14 +3,14 @@ ghost use Rattle.std.specs.Prelude.{◌≡◌, ◌+◌, ◌≤◌};
 ghost use Rattle.tag_machine.specs.Answers.{plain_answer};
 ghost use Rattle.tag_machine.specs.Inventory.{ack, epc_reply};
 ghost use Rattle.tag_machine.specs.Hearing.{GivesOutcome, tag_value_of};
-ghost use Rattle.reply_grammar.specs.Table.{reply_room};
+ghost use Rattle.reply_grammar.specs.Replies.{reply_room};
 
 use crate::abilities::{InTurn, Present};
 use crate::any_tag::{Answered, AnyTag, Heard};
-use crate::moves::{go_back, unanswered};
 use crate::states::Acknowledged;
-use crate::steps::Steps;
+use crate::step_counter::Steps;
 use crate::tag::Tag;
+use crate::transitions::{go_back, unanswered};
 use bit_strings::Bits;
 use reply_grammar::encode_epc;
 use std::sync::ledger::Ledger;

@@ -2,13 +2,13 @@
 ghost use Rattle.std.specs.Prelude.{◌≡◌, ◌+◌, ◌≤◌};
 ghost use Rattle.tag_machine.specs.Inventory.{query_adjust};
 ghost use Rattle.tag_machine.specs.Hearing.{GivesOutcome, tag_value_of};
-ghost use Rattle.reply_grammar.specs.Table.{reply_room};
+ghost use Rattle.reply_grammar.specs.Replies.{reply_room};
 
 use crate::abilities::{InRound, Present};
 use crate::any_tag::{AnyTag, Heard};
-use crate::moves::{enter, unanswered};
-use crate::steps::Steps;
+use crate::step_counter::Steps;
 use crate::tag::Tag;
+use crate::transitions::{enter, unanswered};
 use bit_strings::{Bits, Session};
 use command_grammar::UpDn;
 use std::sync::ledger::Ledger;

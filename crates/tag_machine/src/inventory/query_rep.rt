@@ -2,14 +2,14 @@
 ghost use Rattle.std.specs.Prelude.{◌≡◌, ◌+◌, ◌≤◌};
 ghost use Rattle.tag_machine.specs.Inventory.{query_rep, end_turn};
 ghost use Rattle.tag_machine.specs.Hearing.{GivesOutcome, tag_value_of};
-ghost use Rattle.reply_grammar.specs.Table.{reply_room};
+ghost use Rattle.reply_grammar.specs.Replies.{reply_room};
 
 use crate::abilities::{InRound, Present};
 use crate::any_tag::{AnyTag, Heard};
-use crate::moves::{begin_reply, close, go_back, unanswered};
 use crate::states::{Arbitrate, Held};
-use crate::steps::Steps;
+use crate::step_counter::Steps;
 use crate::tag::Tag;
+use crate::transitions::{begin_reply, close, go_back, unanswered};
 use bit_strings::{Bits, Session};
 use std::sync::ledger::Ledger;
 use tag_body::{Body, Slot};

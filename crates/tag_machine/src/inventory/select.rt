@@ -2,14 +2,14 @@
 ghost use Rattle.std.specs.Prelude.{◌≡◌, ◌+◌, ◌≤◌};
 ghost use Rattle.tag_machine.specs.Inventory.{select, selected_ready};
 ghost use Rattle.tag_machine.specs.Hearing.{GivesOutcome, tag_value_of};
-ghost use Rattle.reply_grammar.specs.Table.{reply_room};
+ghost use Rattle.reply_grammar.specs.Replies.{reply_room};
 
 use crate::abilities::Present;
 use crate::any_tag::{AnyTag, Heard};
-use crate::moves::{go_back, unanswered};
 use crate::states::Ready;
-use crate::steps::Steps;
+use crate::step_counter::Steps;
 use crate::tag::Tag;
+use crate::transitions::{go_back, unanswered};
 use bit_strings::{Action, Bits, Pointer};
 use command_grammar::{FlagName, Mask, MaskBank};
 use std::sync::ledger::Ledger;

@@ -3,7 +3,7 @@ ghost use Rattle.std.specs.Prelude.{◌≡◌, ◌+◌, ◌<◌, ◌^◌, ℕ};
 ghost use Rattle.tag_machine.specs.TagValue.{ArbitrateState};
 
 use crate::states::Arbitrate;
-use crate::steps::Steps;
+use crate::step_counter::Steps;
 use crate::tag::Tag;
 use bit_strings::Session;
 use std::sync::ledger::Ledger;

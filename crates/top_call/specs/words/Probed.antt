@@ -2,8 +2,8 @@
 use Rattle.std.specs.Prelude.{ℕ, true, List}
 use Rattle.checked_lines.specs.TextRules.{IsFaultText}
 use Rattle.scenario_lines.specs.declared.tag.TagSpec.{TagSpec}
-use Rattle.probe_lines.specs.Said.{Stimulus}
-use Rattle.probe_lines.specs.Answers.{TellsEffects, probed_tag}
+use Rattle.probe_lines.specs.Stimuli.{Stimulus}
+use Rattle.probe_lines.specs.AnswerLines.{TellsEffects, probed_tag}
 use Rattle.probe_lines.specs.ProbeText.{IsProbe, IsProbeText, probe_rules}
 use Rattle.top_call.specs.Job.{Job}
 

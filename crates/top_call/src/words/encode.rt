@@ -5,7 +5,7 @@ ghost use Rattle.encode_lines.specs.EncodeLines.{EncodesLine, AskForEncoding};
 ghost use Rattle.encode_lines.specs.Request.{AsksToEncode};
 ghost use Rattle.encode_lines.specs.declared.request.Request.{Request};
 ghost use Rattle.top_call.specs.Job.{IsLawful};
-ghost use Rattle.top_call.specs.Outcome.{input_limit, EndsSo, sink_change};
+ghost use Rattle.top_call.specs.StatusMeanings.{input_limit, EndsSo, sink_change};
 ghost use Rattle.top_call.specs.UnwrittenBytes.{WritesWaiting, Loses};
 ghost use Rattle.top_call.specs.words.Encoded.{encode_job};
 

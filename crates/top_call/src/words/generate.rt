@@ -3,7 +3,7 @@ ghost use Rattle.std.specs.Prelude.{◌≡◌, ◌+◌, ◌≤◌, ℕ, List, []
 ghost use Rattle.std.specs.Fmt.{decimal};
 ghost use Rattle.top_call.specs.Job.{IsLawful};
 ghost use Rattle.top_call.specs.words.Generated.{end_line, summary_text, gen_job};
-ghost use Rattle.top_call.specs.Outcome.{EndsSo, sink_change};
+ghost use Rattle.top_call.specs.StatusMeanings.{EndsSo, sink_change};
 ghost use Rattle.made_scenario.specs.Made.{most_made_tags};
 ghost use Rattle.text_fields.specs.Lines.{line_feed};
 

@@ -1,7 +1,7 @@
 //! The word `judge`: whether a log of one tag can be that of a tag that follows the tables, whatever it drew.
 ghost use Rattle.std.specs.Prelude.{◌≡◌, ◌⊎◌, ℕ, List};
 ghost use Rattle.top_call.specs.Job.{Defines, IsLawful};
-ghost use Rattle.top_call.specs.Outcome.{EndsSo, sink_change};
+ghost use Rattle.top_call.specs.StatusMeanings.{EndsSo, sink_change};
 ghost use Rattle.top_call.specs.words.Judged.{judge_job};
 
 use crate::ending::{WriteEnd, Wrote, write_text};

@@ -6,7 +6,7 @@ ghost use Rattle.report_lines.specs.Names.{BecomesLines};
 ghost use Rattle.sgtin_text.specs.SgtinText.{name_line};
 ghost use Rattle.top_call.specs.Job.{Defines, IsLawful};
 ghost use Rattle.top_call.specs.words.Named.{IsOfLines, IsCutAt, names_job};
-ghost use Rattle.top_call.specs.Outcome.{input_limit, EndsSo, sink_change};
+ghost use Rattle.top_call.specs.StatusMeanings.{input_limit, EndsSo, sink_change};
 ghost use Rattle.top_call.specs.UnwrittenBytes.{WritesWaiting, Loses};
 
 use crate::ending::{WriteEnd, Wrote, write_text};

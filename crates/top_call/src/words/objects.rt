@@ -2,7 +2,7 @@
 ghost use Rattle.std.specs.Prelude.{◌≡◌, ◌⊎◌, ℕ, List};
 ghost use Rattle.line_objects.specs.declared.line_members.LineSet.{LineSet};
 ghost use Rattle.top_call.specs.Job.{Defines, IsLawful};
-ghost use Rattle.top_call.specs.Outcome.{EndsSo, Tells, source_change, sink_change};
+ghost use Rattle.top_call.specs.StatusMeanings.{EndsSo, Tells, source_change, sink_change};
 ghost use Rattle.top_call.specs.words.Objects.{objects_job, plain_job};
 
 use crate::ending::{WriteEnd, Wrote, status_of, write_text};

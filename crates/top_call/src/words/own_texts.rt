@@ -1,7 +1,7 @@
 //! The words `--help` and `--version`: what the program says of itself.
 ghost use Rattle.std.specs.Prelude.{◌≡◌, ℕ, List};
 ghost use Rattle.top_call.specs.Job.{IsLawful};
-ghost use Rattle.top_call.specs.Outcome.{EndsSo, sink_change};
+ghost use Rattle.top_call.specs.StatusMeanings.{EndsSo, sink_change};
 ghost use Rattle.top_call.specs.words.OwnTexts.{text_job};
 
 use crate::ending::{WriteEnd, Wrote, write_text};

@@ -6,7 +6,7 @@ ghost use Rattle.portal_text.specs.PortalText.{portals_text};
 ghost use Rattle.runs.specs.Portals.{portals_told};
 ghost use Rattle.scenario.specs.Limits.{IsScenario};
 ghost use Rattle.top_call.specs.Job.{Defines, IsLawful};
-ghost use Rattle.top_call.specs.Outcome.{EndsSo, sink_change};
+ghost use Rattle.top_call.specs.StatusMeanings.{EndsSo, sink_change};
 ghost use Rattle.top_call.specs.words.Compared.{portals_job};
 
 use crate::ending::{WriteEnd, Wrote, write_text};

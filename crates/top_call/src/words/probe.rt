@@ -1,7 +1,7 @@
 //! The word `probe`: one tag at the bench.
 ghost use Rattle.std.specs.Prelude.{◌≡◌};
 ghost use Rattle.top_call.specs.Job.{IsLawful};
-ghost use Rattle.top_call.specs.Outcome.{EndsSo, sink_change};
+ghost use Rattle.top_call.specs.StatusMeanings.{EndsSo, sink_change};
 ghost use Rattle.top_call.specs.words.Probed.{probe_job};
 
 use crate::ending::{WriteEnd, Wrote, write_text};

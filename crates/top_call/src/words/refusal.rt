@@ -3,7 +3,7 @@ ghost use Rattle.std.specs.Prelude.{ℕ, List};
 ghost use Rattle.scenario_text.specs.Faults.{IsRefused};
 ghost use Rattle.top_call.specs.declared.forms.Form.{Form};
 ghost use Rattle.top_call.specs.Jobs.{job_of};
-ghost use Rattle.top_call.specs.Outcome.{EndsSo, sink_change};
+ghost use Rattle.top_call.specs.StatusMeanings.{EndsSo, sink_change};
 ghost use Rattle.top_call.specs.words.Reported.{RefusesScenario};
 
 use crate::ending::{WriteEnd, Wrote, write_text};

@@ -1,7 +1,7 @@
 //! The word `upgrade`: a scenario of either version as the text of version 2.
 ghost use Rattle.std.specs.Prelude.{◌≡◌, ℕ, List};
 ghost use Rattle.top_call.specs.Job.{Defines, IsLawful};
-ghost use Rattle.top_call.specs.Outcome.{EndsSo, sink_change};
+ghost use Rattle.top_call.specs.StatusMeanings.{EndsSo, sink_change};
 ghost use Rattle.top_call.specs.words.Upgraded.{upgrade_job};
 
 use crate::ending::{WriteEnd, Wrote, write_text};

@@ -3,7 +3,7 @@ ghost use Rattle.std.specs.Prelude.{◌≡◌, ◌≢◌, ◌≤◌, Err, length
 ghost use Rattle.top_call.specs.declared.forms.Form.{Form};
 ghost use Rattle.top_call.specs.Form.{IsForm, ReadsFirst};
 ghost use Rattle.top_call.specs.Jobs.{Answers, job_of};
-ghost use Rattle.top_call.specs.Outcome.{EndsSo, input_limit, source_change, sink_change};
+ghost use Rattle.top_call.specs.StatusMeanings.{EndsSo, input_limit, source_change, sink_change};
 
 use crate::ending::{MOST_INPUT_BYTES, WriteEnd, Wrote, status_of, unread_status};
 use crate::forms::{Form, reads_input};

@@ -1,6 +1,6 @@
 use Rattle.std.proofs.Common.{Option, subst}
 use Rattle.std.specs.Option.{IsSomeAnd}
-use Rattle.reply_grammar.specs.Table.{AnswersExpected}
+use Rattle.reply_grammar.specs.Replies.{AnswersExpected}
 use Rattle.reply_grammar.specs.declared.expected.Expect.{Expect}
 use Rattle.answer_reading.proofs.ByLength.{read-by-length, tested-length}
 use Rattle.answer_reading.proofs.answers.reply_to.Goals as goal

@@ -2,10 +2,10 @@
 use Rattle.std.proofs.Common.{arith, refl}
 use Rattle.std.specs.Prelude.{Some, None}
 use Rattle.log_verdicts.specs.Log.{Befalls}
-use Rattle.probe_lines.specs.Said as said
-use Rattle.probe_lines.specs.Said.{stimulus_with}
+use Rattle.probe_lines.specs.Stimuli as said
+use Rattle.probe_lines.specs.Stimuli.{stimulus_with}
 use Rattle.text_fields.specs.Lines.{lines_of}
-use Rattle.judge_lines.specs.Reading.{IsFaultOf}
+use Rattle.judge_lines.specs.ReadEntries.{IsFaultOf}
 use Rattle.judge_lines.proofs.Entries.{event_read, handed_on, next_does, next_ends, next_faulty}
 use Rattle.judge_lines.proofs.entry.read_entry.Goals as goal
 

@@ -1,6 +1,6 @@
 -- Entry by entry the judge has heard what is read.
 use Rattle.std.proofs.Common.{◌≡◌, ◌≢◌, ◌+◌, ℕ, arith, subst, sym}
-use Rattle.judge_lines.specs.Reading.{lines_said}
+use Rattle.judge_lines.specs.ReadEntries.{lines_said}
 use Rattle.judge_lines.specs.declared.entry.SaidEntry.TheVariants as said
 use Rattle.judge_lines.proofs.Standing.{StandsAt, stands_on}
 use Rattle.judge_lines.proofs.judging.judge_text.Goals as goal

@@ -1,5 +1,5 @@
 use Rattle.std.proofs.Common.{inl, inr}
-use Rattle.probe_lines.specs.Said.{probe_line_with}
+use Rattle.probe_lines.specs.Stimuli.{probe_line_with}
 use Rattle.text_fields.specs.Lines.{fields_of}
 use Rattle.judge_lines.proofs.LogLaws.{no_unknown_other, other_known}
 use Rattle.judge_lines.proofs.reading.missed_answer.Goals as goal

@@ -1,4 +1,4 @@
-use Rattle.probe_lines.specs.Answers.{probed_tag}
+use Rattle.probe_lines.specs.AnswerLines.{probed_tag}
 use Rattle.probe_lines.proofs.PlayedParts.{nothing_played}
 use Rattle.probe_lines.proofs.playing.play.Goals as goal
 

@@ -2,7 +2,7 @@ use Rattle.std.proofs.Common.{arith, ◌+◌, refl, ◌∙◌}
 use Rattle.std.specs.String.{string_bytes}
 use Rattle.tag_machine.specs.Hearing.{tag_value_of}
 use Rattle.report_lines.specs.declared.mode.PlayFault.TheVariants.{OutOfMemory}
-use Rattle.probe_lines.specs.Said.{stimulus_with}
+use Rattle.probe_lines.specs.Stimuli.{stimulus_with}
 use Rattle.probe_lines.specs.Played.{HasPlayed}
 use Rattle.probe_lines.proofs.PlayedParts.{all_told, beginning, handed_on, last_told, no_memory, none_played, one_played, place, some_sent, stop_played}
 use Rattle.probe_lines.proofs.playing.play_on.Goals as goal

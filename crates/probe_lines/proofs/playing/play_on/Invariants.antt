@@ -1,7 +1,7 @@
 use Rattle.std.proofs.Common.{◌≡◌, List, length}
 use Rattle.std.specs.String.{string_bytes}
 use Rattle.tag_machine.specs.Hearing.{tag_value_of}
-use Rattle.probe_lines.specs.Said.{Stimulus}
+use Rattle.probe_lines.specs.Stimuli.{Stimulus}
 use Rattle.probe_lines.specs.ProbeText.{AreStimuli}
 use Rattle.probe_lines.proofs.PlayedParts.{PlayedTo, beginning, place}
 use Rattle.probe_lines.proofs.playing.play_on.Given as goal

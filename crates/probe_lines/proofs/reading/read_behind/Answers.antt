@@ -1,6 +1,6 @@
 use Rattle.std.proofs.Common.{arith}
 use Rattle.text_fields.specs.Lines.{fields_of}
-use Rattle.probe_lines.specs.Said.{stimulus_with}
+use Rattle.probe_lines.specs.Stimuli.{stimulus_with}
 use Rattle.probe_lines.proofs.FaultyLines.{one_too_many}
 use Rattle.probe_lines.proofs.reading.read_behind.Goals as goal
 

@@ -3,7 +3,7 @@ use Rattle.bit_strings.specs.NumbersInBits.{field_of}
 use Rattle.bit_strings.specs.laws.NumbersInBits.{length-field_of}
 use Rattle.bit_strings.specs.Words.{bits_of_words}
 use Rattle.bit_strings.specs.laws.Words.{length-bits_of_words}
-use Rattle.reply_grammar.specs.Table.{spelling}
+use Rattle.reply_grammar.specs.Replies.{spelling}
 use Rattle.reply_grammar.proofs.Writing.{wrote, checked, room_left, words_lent}
 use Rattle.reply_grammar.proofs.encode.encode_epc.Goals as goal
 

@@ -1,6 +1,6 @@
 use Rattle.std.proofs.Common.{[], arith}
 use Rattle.bit_strings.specs.laws.NumbersInBits.{length-field_of}
-use Rattle.reply_grammar.specs.Table.{spelling}
+use Rattle.reply_grammar.specs.Replies.{spelling}
 use Rattle.reply_grammar.proofs.Writing.{wrote, checked, room_left}
 use Rattle.reply_grammar.proofs.encode.encode_handle.Goals as goal
 

@@ -1,5 +1,5 @@
 use Rattle.std.proofs.Common.{[]}
-use Rattle.reply_grammar.specs.Table.{spelling}
+use Rattle.reply_grammar.specs.Replies.{spelling}
 use Rattle.reply_grammar.proofs.Writing.{wrote}
 use Rattle.reply_grammar.proofs.encode.encode_rn16.Goals as goal
 

@@ -3,7 +3,7 @@ use Rattle.line_code.specs.Stream.{Streams}
 use Rattle.line_code.specs.Refusal.{RefusesStream}
 use Rattle.line_code.specs.declared.refusal.LineRefusal.{LineRefusal}
 use Rattle.line_codes.specs.Codes.{table_of}
-use Rattle.reply_grammar.specs.Table.{AnswersExpected}
+use Rattle.reply_grammar.specs.Replies.{AnswersExpected}
 use Rattle.reply_grammar.specs.declared.expected.Reply.{Reply}
 use Rattle.reply_grammar.specs.declared.expected.Received.{Received}
 use Rattle.reply_grammar.specs.declared.expected.Received.TheVariants.{Whole, Refused}

@@ -4,7 +4,7 @@ use Rattle.std.proofs.lemmas.Result.{IfErr-weaker, IfOk-weaker}
 use Rattle.text_fields.specs.Lines.{lines_of}
 use Rattle.checked_lines.specs.laws.ReadingOn.{NextLine}
 use Rattle.scenario_text.specs.Faults.{IsRefused}
-use Rattle.scenario_text.specs.Taking.{IsUnfinished, SaysScenario, StandsFor, standing_of}
+use Rattle.scenario_text.specs.ReaderAnswers.{IsUnfinished, SaysScenario, StandsFor, standing_of}
 use Rattle.scenario_text.proofs.Reader.{all_said, end_refused, line_refused, read_more, read_none}
 use Rattle.scenario_text.proofs.Refusals.{of_fault}
 use Rattle.scenario_text.proofs.reading.read_lines.Goals as goal

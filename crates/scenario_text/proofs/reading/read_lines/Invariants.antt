@@ -1,5 +1,5 @@
 use Rattle.std.proofs.Common.{length}
-use Rattle.scenario_text.specs.Taking.{standing_of}
+use Rattle.scenario_text.specs.ReaderAnswers.{standing_of}
 use Rattle.scenario_text.proofs.Reader.{IsRead}
 use Rattle.scenario_text.proofs.reading.read_lines.Given as goal
 

@@ -5,7 +5,7 @@ use Rattle.checked_lines.specs.declared.fault.Unread.TheVariants as unread
 use Rattle.scenario.specs.ScenarioText.{scenario_text}
 use Rattle.scenario.specs.Limits.{IsScenario}
 use Rattle.scenario_text.specs.Faults.{IsRefused}
-use Rattle.scenario_text.specs.Taking.{SaysScenario}
+use Rattle.scenario_text.specs.ReaderAnswers.{SaysScenario}
 use Rattle.scenario_text.proofs.WholeTexts.{is_the_one, memory_alone, none_is_read, read_is_spelled, told_exactly}
 use Rattle.scenario_text.proofs.reading.read_scenario.Goals as goal
 

@@ -1,6 +1,6 @@
 use Rattle.std.proofs.Common.{◌≡◌, ◌≤◌, ◌++◌, map, vec_len, vec_capacity}
 use Rattle.tag_machine.specs.Hearing.{tag_value_of}
-use Rattle.tag_machine.specs.Exchange.{AreLegalTags}
+use Rattle.tag_machine.specs.TagsInExchange.{AreLegalTags}
 use Rattle.tag_population.proofs.floor.seats_of.Given as goal
 
 abbrev pub invariant-loop-tag : goal.invariant-loop-tag

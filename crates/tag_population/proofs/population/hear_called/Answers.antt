@@ -1,5 +1,5 @@
 use Rattle.std.proofs.Common.{◌≡◌, ◌∙◌, ap, arith, get_or, refl, Bool, Option}
-use Rattle.tag_machine.specs.Exchange.{is_missed, outcome_unless}
+use Rattle.tag_machine.specs.TagsInExchange.{is_missed, outcome_unless}
 use Rattle.tag_machine.specs.TagValue.{TagValue}
 use Rattle.tag_population.proofs.CalledTags.{participation_inside}
 use Rattle.tag_population.proofs.HeardTags.{heard_none, heard_on, heard_before, heard_further, heard_end, called_outcome, next_from_start, next_smaller}

@@ -1,5 +1,5 @@
 use Rattle.std.proofs.Common.{◌≡◌, ◌∙◌, ap, arith, get_or, refl, sym, Bool, None}
-use Rattle.tag_machine.specs.Exchange.{is_missed, outcome_unless}
+use Rattle.tag_machine.specs.TagsInExchange.{is_missed, outcome_unless}
 use Rattle.tag_machine.specs.TagValue.{TagValue}
 use Rattle.tag_population.proofs.HeardTags.{heard_none, heard_next, heard_past, heard_each}
 use Rattle.tag_population.proofs.QueryRepCalls.{passed_silent}

@@ -1,6 +1,6 @@
 use Rattle.std.proofs.Common.{◌≡◌, ℕ, ◌==◌, Bool, true, false, List, refl, ap, sym}
 use Rattle.std.specs.List.{list_any}
-use Rattle.tag_machine.specs.Exchange.{is_missed}
+use Rattle.tag_machine.specs.TagsInExchange.{is_missed}
 use Rattle.tag_population.proofs.population.is_missed.Goals as goal
 
 -- tests that tell the same

@@ -1,6 +1,6 @@
 use Rattle.std.proofs.Common.{List, ◌∙◌, ap}
 use Rattle.std.specs.Cmp.Lexicographic.{pointwise}
-use Rattle.reply_grammar.specs.Pairs.{same_pair}
+use Rattle.reply_grammar.specs.PcAndEpc.{same_pair}
 use Rattle.two_portals.proofs.Counts.{Pair}
 use Rattle.two_portals.proofs.Sorting.{sorted-same}
 use Rattle.two_portals.proofs.portals.are_same.Goals as goal

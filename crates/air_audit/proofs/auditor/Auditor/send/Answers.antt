@@ -5,7 +5,7 @@ use Rattle.air_events.specs.Cursor.{AreEntriesLeft}
 use Rattle.command_grammar.specs.declared.commands.Command.{Command}
 use Rattle.air_events.specs.declared.Several.{Several}
 use Rattle.pie_line.specs.Link.{LinkValue}
-use Rattle.tag_machine.specs.Exchange.{Replied, outcomes_in, replies_from}
+use Rattle.tag_machine.specs.TagsInExchange.{Replied, outcomes_in, replies_from}
 use Rattle.tag_machine.specs.TagValue.{TagValue}
 use Rattle.tag_population.specs.Answers.{AnswerValue, AnswersValue, answer_of, answers_of}
 use Rattle.tag_population.specs.Hearing.{hearing_from}

@@ -1,7 +1,7 @@
 use Rattle.std.proofs.Common.{◌∙◌, refl, sym, subst}
 use Rattle.std.proofs.lemmas.Result.{IfErr-weaker}
 use Rattle.air_audit.specs.LineRefusals.{IsNoTxLine}
-use Rattle.air_audit.specs.Sent.{IsNoFrame}
+use Rattle.air_audit.specs.SentFrame.{IsNoFrame}
 use Rattle.air_audit.specs.declared.verdict.AuditReason.{AuditReason}
 use Rattle.air_audit.proofs.ReadLines.{tx-faulty, tx-other}
 use Rattle.air_audit.proofs.SentFrames.{line-refused, line-sends}

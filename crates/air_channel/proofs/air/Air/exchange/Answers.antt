@@ -2,7 +2,7 @@ use Rattle.std.proofs.Common.{◌<◌, ◌≤◌, length, ap, sym, subst, arith}
 use Rattle.std.specs.List.{All}
 use Rattle.std.specs.Prelude.{Some}
 use Rattle.tag_machine.specs.Answers.{IsSent}
-use Rattle.tag_machine.specs.Exchange.{replies_in}
+use Rattle.tag_machine.specs.TagsInExchange.{replies_in}
 use Rattle.tag_population.specs.Answers.{AnswersValue}
 use Rattle.air_channel.specs.Air.{AirValue}
 use Rattle.air_channel.proofs.ExchangeFacts.{Exchanged, exchange_answers, exchange_air, exchange_steps, exchange_bound, as_many_befallen}

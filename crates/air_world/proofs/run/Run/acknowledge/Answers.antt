@@ -12,7 +12,7 @@ use Rattle.report_lines.specs.ReportLine.{ReportLine, ListLine}
 use Rattle.runs.specs.History.{ack_reception}
 use Rattle.runs.specs.Listing.{Listed, listed_by}
 use Rattle.runs.specs.Report.{exchange_lines}
-use Rattle.tag_machine.specs.Exchange.{AreLegalTags}
+use Rattle.tag_machine.specs.TagsInExchange.{AreLegalTags}
 use Rattle.air_world.proofs.run.Run.acknowledge.Given.{Over}
 use Rattle.air_world.proofs.run.Run.acknowledge.Goals.{After-hear_epc, After-tell_listed}
 use Rattle.air_world.proofs.run.Run.acknowledge.Goals as goal

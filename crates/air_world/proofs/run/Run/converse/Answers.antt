@@ -3,7 +3,7 @@ use Rattle.access_ops.specs.Operations.{reception_in}
 use Rattle.air_model.specs.Past.{next_record}
 use Rattle.air_model.proofs.AwaitedLaws.{silent_awaited}
 use Rattle.air_world.proofs.Slots.{dialogue-heard, received-answer, run-kept}
-use Rattle.tag_machine.specs.Exchange.{AreLegalTags}
+use Rattle.tag_machine.specs.TagsInExchange.{AreLegalTags}
 use Rattle.air_world.proofs.run.Run.converse.Goals as goal
 
 pub returns-in-Silence-clause-heard : goal.returns-in-Silence-clause-heard

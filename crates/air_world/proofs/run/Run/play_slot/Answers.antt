@@ -8,7 +8,7 @@ use Rattle.air_world.specs.Telling.{PassesOn, lines_to_tell}
 use Rattle.reply_grammar.specs.Reception.{no_stream, no_such_reply}
 use Rattle.reply_grammar.specs.declared.expected.Expect.TheVariants as expects
 use Rattle.runs.specs.History.{outcome_of, slot_reception}
-use Rattle.tag_machine.specs.Exchange.{AreLegalTags}
+use Rattle.tag_machine.specs.TagsInExchange.{AreLegalTags}
 use Rattle.air_world.proofs.run.Run.play_slot.Given.{Over}
 use Rattle.air_world.proofs.run.Run.play_slot.Goals.{After-send, After-hear_rn16}
 use Rattle.air_world.proofs.run.Run.play_slot.Goals as goal

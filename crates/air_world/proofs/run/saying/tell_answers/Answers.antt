@@ -6,7 +6,7 @@ use Rattle.air_world.proofs.Saying.{answer-at, reply-at, reply-there}
 use Rattle.air_world.specs.Saying.{AnswersCommand}
 use Rattle.report_lines.specs.ReportLine.{ReportLine}
 use Rattle.runs.specs.Said.{answer_line}
-use Rattle.tag_machine.specs.Exchange.{Replied}
+use Rattle.tag_machine.specs.TagsInExchange.{Replied}
 use Rattle.tag_population.specs.Answers.{AnswerValue, answer_of}
 use Rattle.air_world.proofs.run.saying.tell_answers.Goals as goal
 

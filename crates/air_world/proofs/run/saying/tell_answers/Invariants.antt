@@ -4,7 +4,7 @@ use Rattle.air_world.specs.Telling.{PassesOn}
 use Rattle.report_lines.specs.ReportLine.{ReportLine}
 use Rattle.runs.specs.Said.{answer_line}
 use Rattle.runs.specs.laws.Replies.{AreReplies}
-use Rattle.tag_machine.specs.Exchange.{Replied}
+use Rattle.tag_machine.specs.TagsInExchange.{Replied}
 use Rattle.tag_population.specs.Answers.{answers_of}
 use Rattle.air_world.proofs.run.saying.tell_answers.Given as goal
 

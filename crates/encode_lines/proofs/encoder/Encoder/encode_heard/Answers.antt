@@ -4,7 +4,7 @@ use Rattle.std.proofs.lemmas.Result.{on_ok_weaker}
 use Rattle.bit_strings.specs.BitString.{BitString}
 use Rattle.line_code.specs.Stream.{stream_of}
 use Rattle.line_codes.specs.Codes.{table_of}
-use Rattle.reply_grammar.specs.Table.{spelling}
+use Rattle.reply_grammar.specs.Replies.{spelling}
 use Rattle.encode_lines.proofs.WrittenLines.{not_both, heard_refused, heard_written}
 use Rattle.encode_lines.proofs.encoder.Encoder.encode_heard.Goals as goal
 

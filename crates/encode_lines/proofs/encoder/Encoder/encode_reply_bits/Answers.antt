@@ -2,7 +2,7 @@
 use Rattle.std.proofs.Common.{ap, ◌∙◌}
 use Rattle.std.proofs.lemmas.Result.{on_ok_weaker}
 use Rattle.bit_strings.specs.BitString.{BitString}
-use Rattle.reply_grammar.specs.Table.{spelling}
+use Rattle.reply_grammar.specs.Replies.{spelling}
 use Rattle.encode_lines.proofs.WrittenLines.{not_both, reply_refused, reply_written}
 use Rattle.encode_lines.proofs.encoder.Encoder.encode_reply_bits.Goals as goal
 

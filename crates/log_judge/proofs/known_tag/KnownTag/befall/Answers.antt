@@ -6,7 +6,7 @@ use Rattle.log_verdicts.specs.Log.{Befalls}
 use Rattle.log_verdicts.specs.laws.Known.{Known}
 use Rattle.log_judge.specs.declared.draws.Draws.TheVariants as draws
 use Rattle.log_judge.specs.Drawing.{slots_behind}
-use Rattle.log_judge.specs.Tracking.{Goes, known_of}
+use Rattle.log_judge.specs.KnownTag.{Goes, known_of}
 use Rattle.log_judge.proofs.Showing.{befallen, befallen_to}
 use Rattle.log_judge.proofs.known_tag.KnownTag.befall.Goals as goal
 

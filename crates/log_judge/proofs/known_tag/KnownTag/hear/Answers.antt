@@ -10,7 +10,7 @@ use Rattle.log_judge.specs.declared.draws.Draws.{Draws}
 use Rattle.log_judge.specs.Answers.{seen_in}
 use Rattle.log_judge.specs.Drawing.{draws_at, fallen, first_word, words_given}
 use Rattle.log_judge.specs.Optional.{answers_now}
-use Rattle.log_judge.specs.Tracking.{Goes, IsExcusedHere, known_of}
+use Rattle.log_judge.specs.KnownTag.{Goes, IsExcusedHere, known_of}
 use Rattle.log_judge.proofs.Asked.{lacks, lacks_want}
 use Rattle.log_judge.proofs.Moving.{falls}
 use Rattle.log_judge.proofs.Tests.{nothing_seen}

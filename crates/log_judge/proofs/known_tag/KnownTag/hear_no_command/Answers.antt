@@ -4,7 +4,7 @@ use Rattle.log_verdicts.specs.Explaining.{ByTables}
 use Rattle.log_verdicts.specs.Log.{Exchange}
 use Rattle.log_verdicts.specs.laws.Known.{Known}
 use Rattle.log_judge.specs.Answers.{seen_in}
-use Rattle.log_judge.specs.Tracking.{Goes}
+use Rattle.log_judge.specs.KnownTag.{Goes}
 use Rattle.log_judge.proofs.Tests.{nothing_seen}
 use Rattle.log_judge.proofs.Showing.{no_command_explained}
 use Rattle.log_judge.proofs.known_tag.KnownTag.hear_no_command.Goals as goal

@@ -5,7 +5,7 @@ use Rattle.tag_machine.specs.Hearing.{tag_value_of}
 use Rattle.tag_machine.specs.Step.{step}
 use Rattle.tag_machine.specs.TagValue.{TagValue}
 use Rattle.tag_machine.specs.laws.Replies.{expect_of}
-use Rattle.probe_lines.specs.Answers.{probe_answer_line, state_line}
+use Rattle.probe_lines.specs.AnswerLines.{probe_answer_line, state_line}
 use Rattle.probe_lines.proofs.HeardAnswers.{answer_heard, two_lines}
 use Rattle.probe_lines.proofs.playing.Rooms.hear.Goals as goal
 

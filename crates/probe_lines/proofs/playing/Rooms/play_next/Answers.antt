@@ -2,7 +2,7 @@ use Rattle.std.proofs.Common.{[]}
 use Rattle.std.specs.Prelude.{None}
 use Rattle.std.specs.String.{string_bytes}
 use Rattle.tag_machine.specs.Hearing.{tag_value_of}
-use Rattle.probe_lines.specs.Said.{effect_with, stimulus_with}
+use Rattle.probe_lines.specs.Stimuli.{effect_with, stimulus_with}
 use Rattle.probe_lines.proofs.PlayedParts.{tells_next}
 use Rattle.probe_lines.proofs.playing.Rooms.play_next.Goals as goal
 

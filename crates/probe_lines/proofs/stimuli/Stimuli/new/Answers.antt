@@ -2,7 +2,7 @@
 use Rattle.std.proofs.Common.{◌≢◌, [], ◌∙◌, ap, length, refl, sym}
 use Rattle.std.proofs.lemmas.Bool.{eqb-false, eqb-true}
 use Rattle.std.proofs.lemmas.List.{nil_from_length}
-use Rattle.probe_lines.specs.Said.{stimulus_with}
+use Rattle.probe_lines.specs.Stimuli.{stimulus_with}
 use Rattle.probe_lines.proofs.Checking.{line_extra, line_faulty, line_last, line_wanted, none_said, one_said}
 use Rattle.probe_lines.proofs.stimuli.Stimuli.new.Goals as goal
 

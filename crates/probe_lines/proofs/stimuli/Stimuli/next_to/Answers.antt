@@ -1,7 +1,7 @@
 -- What the first of the lines says that are left, and that the others are left behind it.
 use Rattle.std.proofs.Common.{◌∙◌, sym}
 use Rattle.text_fields.specs.Lines.{lines_of}
-use Rattle.probe_lines.specs.Said.{stimulus_with}
+use Rattle.probe_lines.specs.Stimuli.{stimulus_with}
 use Rattle.probe_lines.proofs.Checking.{first_left, left_behind, none_faulty}
 use Rattle.probe_lines.proofs.stimuli.Stimuli.next_to.Goals as goal
 

@@ -7,7 +7,7 @@ use Rattle.scenario_lines.specs.LineFaults.{BeginsWithKeyword, IsFaultyLine, Spe
 use Rattle.scenario_lines.specs.Spelling.{keyword_of}
 use Rattle.scenario_text.specs.Faults.{IsFaultyAt}
 use Rattle.scenario_text.specs.Standing.{HasRoomForLine, MayStand}
-use Rattle.scenario_text.specs.Taking.{standing_of}
+use Rattle.scenario_text.specs.ReaderAnswers.{standing_of}
 use Rattle.scenario_text.proofs.Refusals.{of_fault, says_nothing, says_otherwise}
 use Rattle.scenario_text.proofs.progress.Progress.said_behind_first.Goals as goal
 

@@ -1,5 +1,5 @@
 use Rattle.std.proofs.Common.{◌∙◌, ◌++◌, ap, arith}
-use Rattle.tag_machine.specs.Exchange.{outcome_unless, reply_of}
+use Rattle.tag_machine.specs.TagsInExchange.{outcome_unless, reply_of}
 use Rattle.tag_machine.specs.TagValue.{TagValue}
 use Rattle.tag_population.proofs.SeatedTags.{Back, Becomes, written, back_long, back_read, becomes_floor, becomes_seated, parts_within, seats_within}
 use Rattle.tag_population.specs.Answers.{answers_of, AnswersValue}

@@ -2,7 +2,7 @@ use Rattle.std.proofs.Common.{◌∙◌, ap, length, List}
 use Rattle.tag_machine.specs.TagValue.{TagValue}
 use Rattle.tag_population.proofs.EventsOnTags.{length-heard, sent_all}
 use Rattle.tag_population.specs.Answers.{AnswersValue, answers_of}
-use Rattle.tag_machine.specs.Exchange.{replies_from}
+use Rattle.tag_machine.specs.TagsInExchange.{replies_from}
 use Rattle.tag_population.specs.Hearing.{hearing_from}
 use Rattle.tag_population.proofs.population.Population.hear.Goals as goal
 

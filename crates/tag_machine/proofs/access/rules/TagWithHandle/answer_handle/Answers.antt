@@ -1,5 +1,5 @@
 use Rattle.std.proofs.Common.{◌∙◌}
-use Rattle.reply_grammar.specs.Table.{spelling}
+use Rattle.reply_grammar.specs.Replies.{spelling}
 use Rattle.tag_machine.proofs.access.rules.TagWithHandle.answer_handle.Goals as goal
 
 -- the bits of a handle are the same under each handle that would stand behind them

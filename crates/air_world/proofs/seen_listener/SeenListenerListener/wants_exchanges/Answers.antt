@@ -1,0 +1,12 @@
+use Rattle.std.proofs.Common.{sym, ◌∙◌, ap}
+use Rattle.air_world.proofs.Listings.{pairs-skipped, said-untold}
+use Rattle.report_lines.specs.SeenCounts.{seen_counts}
+use Rattle.air_world.proofs.seen_listener.SeenListenerListener.wants_exchanges.Goals as goal
+
+pub returns : goal.returns
+returns g c = λ is first lines line of hears. (
+  hears.0,
+  hears.1,
+  c.wants_exchanges.ensures is first.report.now lines line of hears.2,
+  λ fresh enough. hears.3 fresh enough ∙ ap seen_counts (sym (pairs-skipped lines line (said-untold line of))),
+)

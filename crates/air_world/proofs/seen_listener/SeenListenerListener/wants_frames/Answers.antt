@@ -1,0 +1,12 @@
+use Rattle.std.proofs.Common.{sym, ◌∙◌, ap}
+use Rattle.air_world.proofs.Listings.{pairs-skipped, frame-untold}
+use Rattle.report_lines.specs.SeenCounts.{seen_counts}
+use Rattle.air_world.proofs.seen_listener.SeenListenerListener.wants_frames.Goals as goal
+
+pub returns : goal.returns
+returns g c = λ is first lines line of hears. (
+  hears.0,
+  hears.1,
+  c.wants_frames.ensures is first.report.now lines line of hears.2,
+  λ fresh enough. hears.3 fresh enough ∙ ap seen_counts (sym (pairs-skipped lines line (frame-untold line of))),
+)

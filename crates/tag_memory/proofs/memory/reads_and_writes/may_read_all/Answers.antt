@@ -1,0 +1,16 @@
+use Rattle.std.proofs.Common.{◌≡◌, true, false, sym}
+use Rattle.tag_memory.specs.ReadsAndWrites.{may_read_word}
+use Rattle.tag_memory.proofs.AllWords.{one_passes, one_fails}
+use Rattle.tag_memory.proofs.memory.reads_and_writes.may_read_all.Goals as goal
+
+pub returns-then-not-may_read : goal.returns-then-not-may_read
+returns-then-not-may_read c =
+    let passes = may_read_word c.args.locks.now c.args.level c.args.bank in
+    let failed : passes c.loop-place.place ≡ false = cc in
+    sym (one_fails passes _ c.loop-place.place c.args.end c.loop-place-test.true c.loop-place.invariant failed)
+
+pub loop-place-preserved : goal.loop-place-preserved
+loop-place-preserved c =
+    let passes = may_read_word c.args.locks.now c.args.level c.args.bank in
+    let passed : passes c.loop-place.place ≡ true = cc in
+    one_passes passes _ c.loop-place.place c.args.end c.loop-place-test.true c.loop-place.invariant passed
