@@ -15,19 +15,17 @@ use Rattle.air_events.specs.declared.Event.{Event}
 use Rattle.air_model.specs.Channel.{HasFewLevels}
 use Rattle.tag_machine.specs.TagsInExchange.{AreLegalTags}
 use Rattle.air_model.specs.Past.{Start, Item, tags_behind_from}
-use Rattle.air_world.proofs.Passing.{Listening, IsCutIn, IsTold, IsCause, cut-longer}
-use Rattle.air_world.proofs.Rounds.{KeepsLimit}
 use Rattle.air_world.specs.NewAir.{new_air}
-use Rattle.air_world.specs.Playing.{RunValue, RunIsAt, IsPlayable, StandsAt, IsBetweenSteps, NamesItsTags}
-use Rattle.air_world.specs.Telling.{EndsOrFails, IsCutShort, IsPlayed, lines_to_tell}
+use Rattle.air_world.specs.Playing.{RunValue, RunIsAt, IsPlayable, StandsAt, IsBetweenSteps, NamesItsTags, begun_with}
+use Rattle.air_world.specs.Telling.{IsCutShort, PlaysOrFails}
 use Rattle.report_lines.specs.ReportLine.{ReportLine, DoneLine}
 use Rattle.report_lines.specs.SeenCounts.{SeenCount, seen_counts, seen_line}
 use Rattle.report_lines.specs.declared.mode.PlayFault.{PlayFault}
 use Rattle.report_lines.specs.declared.mode.PlayFault.TheVariants.{OutOfMemory}
-use Rattle.runs.specs.History.{past_behind}
 use Rattle.runs.specs.Report.{last_lines, run_lines, tag_lines}
 use Rattle.runs.specs.ScenarioStart.{start_of, history, scenario_tag}
 use Rattle.runs.specs.Summary.{pairs_in}
+use Rattle.runs.proofs.Growth.{RoundsKeepLimit}
 use Rattle.runs.proofs.HeadlineCounts.{few-exchanges, steps-exchanges}
 use Rattle.runs.proofs.HeadlineLegal.{legal-steps}
 use Rattle.scenario.specs.Groups.{tags_of}
@@ -117,81 +115,39 @@ at-first scenario air run is fresh legal left left_is run_is = record {
 }
 
 -- there is room for all steps
-pub between-first : (scenario : Scenario) (air : AirValue) (run : RunValue) → IsScenario scenario → RunIsAt (start_of scenario) 0 [] air run → IsBetweenSteps (length scenario.steps) air run
-between-first scenario air run is at = record {
-  start = start_of scenario;
-  earlier = 0;
-  past = [];
-  at = at;
-  room = omega (arith, is.few_steps);
-  rounds = omega (arith, is.few_steps);
-}
+pub between-first : {A : Type 0} {hears : A → List ReportLine → A → Type 0} {first report : A} {air : AirValue} {run : RunValue} (scenario : Scenario) → IsScenario scenario
+    → StandsAt hears (begun_with scenario first) [] air run report → IsBetweenSteps hears (length scenario.steps) air run report
+between-first {first} scenario is stands = record { begun = begun_with scenario first; past = []; stands = stands; room = omega (arith, is.few_steps); rounds = omega (arith, is.few_steps) }
 
 -- what is told behind the steps is what the report has there
-last-told : (scenario : Scenario) (air : AirValue) (run : RunValue) (seen : List SeenCount) → RunIsAt (start_of scenario) 0 (history scenario) air run → seen ≡ seen_counts (pairs_in (history scenario))
+pub last-told : (scenario : Scenario) {air : AirValue} {run : RunValue} {seen : List SeenCount} → RunIsAt (start_of scenario) 0 (history scenario) air run → seen ≡ seen_counts (pairs_in (history scenario))
     → map seen_line seen ++ tag_lines 0 air.tags ++ DoneLine ∷ [] ≡ last_lines (start_of scenario) (history scenario)
-last-told scenario air run seen at counted =
-    ap (λ s. map seen_line s ++ tag_lines 0 air.tags ++ DoneLine ∷ []) counted
-    ∙ ap (λ t. map seen_line (seen_counts (pairs_in (history scenario))) ++ tag_lines 0 t ++ DoneLine ∷ []) at.tags
+last-told scenario at counted = λ i. map seen_line (counted i) ++ tag_lines 0 (at.tags i) ++ DoneLine ∷ []
 
--- the steps as a slice
-pub stands-slice : (Heard : List ReportLine → Type 0) (scenario : Scenario) (steps : List Step) (air : AirValue) (run : RunValue) → steps ≡ scenario.steps
-    → StandsAt Heard (start_of scenario) 0 (past_behind (start_of scenario) steps []) air run → StandsAt Heard (start_of scenario) 0 (history scenario) air run
-stands-slice Heard scenario steps air run same stands = subst (λ (s : List Step). StandsAt Heard (start_of scenario) 0 (past_behind (start_of scenario) s []) air run) same stands
-
--- ... where they were cut off
-pub cut-slice : {A : Type 0} (l : Listening A) (scenario : Scenario) (steps : List Step) (fault : PlayFault) → steps ≡ scenario.steps
-    → IsCutIn l [] (lines_to_tell (start_of scenario) (past_behind (start_of scenario) steps [])) fault → IsCutIn l [] (lines_to_tell (start_of scenario) (history scenario)) fault
-cut-slice l scenario steps fault same cut = subst (λ (s : List Step). IsCutIn l [] (lines_to_tell (start_of scenario) (past_behind (start_of scenario) s [])) fault) same cut
-
--- all is told
-pub whole-told : {A : Type 0} (l : Listening A) (first : A) (scenario : Scenario) (air : AirValue) (run : RunValue) (seen : List SeenCount)
-    → StandsAt (λ lines. l.hears first lines l.old) (start_of scenario) 0 (history scenario) air run × (seen ≡ seen_counts (pairs_in (history scenario)))
-    → ((before : List ReportLine) → IsTold l before (before ++ (map seen_line seen ++ tag_lines 0 air.tags ++ DoneLine ∷ [])))
-    → l.hears first (run_lines (start_of scenario) scenario.steps) l.new
-whole-told l first scenario air run seen (stands, counted) last =
-    let lines : List ReportLine = lines_to_tell (start_of scenario) (history scenario) in
-    (subst (λ (more : List ReportLine). IsTold l lines (lines ++ more)) (last-told scenario air run seen stands.at counted) (last lines)).on first stands.told
-
--- the air stayed as it was
-pub at-kept : (start : Start) (earlier : ℕ) (past : List Item) (air after : AirValue) (run : RunValue) → after ≡ air → RunIsAt start earlier past air run → RunIsAt start earlier past after run
-at-kept start earlier past air after run kept at = subst (λ (a : AirValue). RunIsAt start earlier past a run) (sym kept) at
-
--- ... so the run is played, or its listener met a fault
-pub ends-played : {A : Type 0} (l : Listening A) (r : Result (Unit {0}) PlayFault) (scenario : Scenario) (air : AirValue) (run : RunValue)
-    → KeepsLimit → IsScenario scenario → l.hears l.old (run_lines (start_of scenario) scenario.steps) l.new → RunIsAt (start_of scenario) 0 (history scenario) air run
-    → OnOk r (l.failed l.new ≡ None) × IfErr r (IsCause l)
-    → EndsOrFails r (IsPlayed l.hears l.failed scenario l.old l.new air) (IsCutShort l.hears l.failed l.old l.new (run_lines (start_of scenario) scenario.steps))
-ends-played l (Ok done) scenario air run keeps is told at (faultless, cause) =
+-- all is told, so the run is played, or its listener met a fault
+pub ends-played : {A : Type 0} (hears : A → List ReportLine → A → Type 0) (failed : A → Option PlayFault) (old new : A) (r : Result (Unit {0}) PlayFault) (scenario : Scenario) {air : AirValue} {run : RunValue}
+    → RoundsKeepLimit → IsScenario scenario → hears old (run_lines (start_of scenario) scenario.steps) new → RunIsAt (start_of scenario) 0 (history scenario) air run
+    → OnOk r (failed new ≡ None) → IfErr r (λ fault. failed new ≡ Some fault) → PlaysOrFails hears failed r scenario old new air
+ends-played hears failed old new (Ok done) scenario keeps is told at faultless cause =
     let legal = legal-steps scenario is in
     let most = steps-exchanges keeps (start_of scenario) scenario.steps [] legal in
     let few = few-exchanges scenario.steps legal in
     record { told = told; faultless = faultless; tags = at.tags; exchanges = omega (arith, at.exchanges, most, few, is.few_steps) }
-ends-played l (Err fault) scenario air run keeps is told at (faultless, cause) = record {
+ends-played hears failed old new (Err fault) scenario keeps is told at faultless cause = record {
   front = run_lines (start_of scenario) scenario.steps;
   rest = [];
   split = sym (append-nil (run_lines (start_of scenario) scenario.steps));
-  told = told;
+  heard = told;
   cause = inl cause;
 }
 
--- it was cut off before its last lines
-pub cut-before-last : {A : Type 0} (l : Listening A) (scenario : Scenario) (fault : PlayFault) → IsCutShort l.hears l.failed l.old l.new (lines_to_tell (start_of scenario) (history scenario)) fault
-    → IsCutShort l.hears l.failed l.old l.new (run_lines (start_of scenario) scenario.steps) fault
-cut-before-last l scenario fault cut =
-    cut-longer (lines_to_tell (start_of scenario) (history scenario)) (last_lines (start_of scenario) (history scenario)) (run_lines (start_of scenario) scenario.steps) fault refl cut
-
 -- nothing was told before there was no memory
-pub cut-at-first : {A : Type 0} (l : Listening A) (scenario : Scenario) → l.hears l.old [] l.new → l.failed l.new ≡ None
-    → IsCutShort l.hears l.failed l.old l.new (run_lines (start_of scenario) scenario.steps) OutOfMemory
-cut-at-first l scenario told none = record {
-  front = [];
-  rest = run_lines (start_of scenario) scenario.steps;
-  split = refl;
-  told = told;
-  cause = inr (refl, none);
-}
+pub cut-at-first : {A : Type 0} (hears : A → List ReportLine → A → Type 0) (failed : A → Option PlayFault) (now : A) (whole : List ReportLine) → hears now [] now → failed now ≡ None
+    → IsCutShort hears failed now now whole OutOfMemory
+cut-at-first hears failed now whole told none = record { front = []; rest = whole; split = refl; heard = told; cause = inr (refl, none) }
 
--- what a listener has heard that was lent, and was given back
-pub given-back : {A : Type 0} (l : Listening A) (first later : A) (lines : List ReportLine) → first ≡ l.old → later ≡ l.new → l.hears first lines later → l.hears l.old lines l.new
-given-back l first later lines was is told = subst (λ now. l.hears l.old lines now) is (subst (λ was_first. l.hears was_first lines later) was told)
+-- what holds of a listener that was lent, once it is given back
+pub given-back : {A : Type 0} (hears : A → List ReportLine → A → Type 0) (failed : A → Option PlayFault) (r : Result (Unit {0}) PlayFault) (scenario : Scenario) (air : AirValue) {first old later new : A}
+    → first ≡ old → later ≡ new → PlaysOrFails hears failed r scenario first later air → PlaysOrFails hears failed r scenario old new air
+given-back hears failed r scenario air {old} {later} was is ends =
+    subst (λ now. PlaysOrFails hears failed r scenario old now air) is (subst (λ before. PlaysOrFails hears failed r scenario before later air) was ends)

@@ -6,7 +6,6 @@ use Rattle.std.specs.Borrow.{Bor}
 use Rattle.access_ops.specs.declared.OpList.{OpList}
 use Rattle.air_model.specs.Past.{Start, Record, Item, befell, exchanged, operated, ended, past_behind_command, exchanges_in, rounds_in, tags_behind}
 use Rattle.air_world.proofs.Beginning.{scenario-few}
-use Rattle.air_world.proofs.Rounds.{KeepsLimit}
 use Rattle.air_world.proofs.Listings.{few-listed}
 use Rattle.air_world.specs.Counting.{CountsLines, Fits, counted_line, counted_lines, nothing_counted}
 use Rattle.air_world.specs.laws.CountingLaws.{counted-append}
@@ -21,7 +20,7 @@ use Rattle.reply_grammar.specs.PcAndEpc.{same_pair}
 use Rattle.report_lines.specs.SeenCounts.{SeenCount, distinct, seen_among, seen_counts}
 use Rattle.report_lines.specs.declared.line.Line.{Line}
 use Rattle.report_lines.specs.declared.line.Line.TheVariants as lines
-use Rattle.runs.proofs.Growth.{answer-keeps, few-outcomes, round-holds}
+use Rattle.runs.proofs.Growth.{RoundsKeepLimit, answer-keeps, few-outcomes, round-holds}
 use Rattle.runs.proofs.HeadlineCounts.{steps-exchanges, few-exchanges}
 use Rattle.runs.proofs.HeadlineLegal.{legal-steps}
 use Rattle.runs.proofs.Tags.{length-tags}
@@ -127,7 +126,7 @@ slots-slot start operations round slot command past =
     (λ rn same. same) refl
 
 -- how many slots a step adds at most
-step-slots : KeepsLimit → (start : Start) (step : Step) (past : List Item) → IsLegalStep step → slots_past (past_behind_step start step past) ≤ slots_past past + most_slots
+step-slots : RoundsKeepLimit → (start : Start) (step : Step) (past : List Item) → IsLegalStep step → slots_past (past_behind_step start step past) ≤ slots_past past + most_slots
 step-slots keeps start (steps.Select command) past is = omega arith
 step-slots keeps start steps.Nak past is = omega arith
 step-slots keeps start (steps.Event event number) past is = omega arith
@@ -141,7 +140,7 @@ step-slots keeps start (steps.Round spec operations) past is =
     refl
 
 -- ... and steps
-steps-slots : KeepsLimit → (start : Start) (steps : List Step) (past : List Item) → AreLegalSteps steps → slots_past (past_behind start steps past) ≤ slots_past past + most_slots * length steps
+steps-slots : RoundsKeepLimit → (start : Start) (steps : List Step) (past : List Item) → AreLegalSteps steps → slots_past (past_behind start steps past) ≤ slots_past past + most_slots * length steps
 steps-slots keeps start [] past are = omega arith
 steps-slots keeps start (step ∷ steps) past are =
     let behind : List Item = past_behind_step start step past in
@@ -155,7 +154,7 @@ few-distinct (pair ∷ pairs) =
     omega (arith, length-filter keep (distinct pairs), count_by-le-length keep (distinct pairs), few-distinct pairs)
 
 -- the numbers of a summary fit
-summary-fits : KeepsLimit → (scenario : Scenario) → IsScenario scenario → Fits (summary_of scenario)
+summary-fits : RoundsKeepLimit → (scenario : Scenario) → IsScenario scenario → Fits (summary_of scenario)
 summary-fits keeps scenario is =
     let start : Start = start_of scenario in
     let past : List Item = history scenario in
@@ -174,7 +173,7 @@ summary-fits keeps scenario is =
     }
 
 -- who counted all that is told has the summary
-pub summary-counted : KeepsLimit → (scenario : Scenario) (first later : Summary) → IsScenario scenario → first ≡ nothing_counted → CountsLines (run_lines (start_of scenario) scenario.steps) first later → later ≡ summary_of scenario
+pub summary-counted : RoundsKeepLimit → (scenario : Scenario) (first later : Summary) → IsScenario scenario → first ≡ nothing_counted → CountsLines (run_lines (start_of scenario) scenario.steps) first later → later ≡ summary_of scenario
 summary-counted keeps scenario first later is fresh counts =
     let whole : counted_lines first (run_lines (start_of scenario) scenario.steps) ≡ summary_of scenario =
     ap (λ (s : Summary). counted_lines s (run_lines (start_of scenario) scenario.steps)) fresh ∙ counted-whole scenario in

@@ -10,23 +10,16 @@ use Rattle.air_events.specs.declared.Entry.{Entry}
 use Rattle.air_events.specs.declared.Several.TheVariants as severals
 use Rattle.air_model.specs.Past.{Start, Item, befell, exchanged, operated, ended, rounds_in, tags_behind}
 use Rattle.air_world.proofs.Beginning.{tags-before}
-use Rattle.air_world.proofs.Rounds.{KeepsLimit, rounds-slot}
-use Rattle.air_world.specs.Listing.{HearsPairs}
+use Rattle.air_world.proofs.Rounds.{rounds-slot}
 use Rattle.air_world.specs.Playing.{RunValue, RunIsAt, IsEndedBy}
-use Rattle.air_world.specs.Telling.{PassesOn}
-use Rattle.air_world.specs.declared.hall.PairListener.{PairListener}
-use Rattle.air_world.specs.laws.ListingLaws.{hears-no-pair}
-use Rattle.pie_line.specs.Link.{LinkValue}
 use Rattle.q_round.specs.SpecValue.{SpecValue, IsLegalSpec}
 use Rattle.q_round.specs.declared.round.RoundEnd.{RoundEnd}
-use Rattle.report_lines.specs.ReportLine.{ReportLine}
 use Rattle.runs.proofs.Totals.{few-once}
 use Rattle.runs.specs.History.{past_behind_round}
 use Rattle.runs.specs.Listing.{listed_by, listing_of}
 use Rattle.runs.specs.RoundsTold.{GoesByTags, pair_listed, pairs_listed_by, pairs_since, played_of, round_ended, rounds_told}
-use Rattle.runs.specs.Report.{first_lines}
 use Rattle.runs.specs.Summary.{pairs_in}
-use Rattle.runs.proofs.Growth.{round-holds}
+use Rattle.runs.proofs.Growth.{RoundsKeepLimit, round-holds}
 use Rattle.runs.proofs.PlayedRounds.{PlayedRound, number_of, past_behind_played}
 use Rattle.scenario.specs.Limits.{no_operations}
 use Rattle.std.proofs.lemmas.List.{map-append}
@@ -99,7 +92,7 @@ record IsEnd (number before : ℕ) (behind : List Item) : Type 0 where
   pub is : behind ≡ ended number end slots ∷ past
   pub none : rounds_in past ≡ before
 
-round-ends : KeepsLimit → (played : PlayedRound) → IsLegalSpec played.spec → IsEnd (number_of played) (rounds_in played.before) (past_behind_played played)
+round-ends : RoundsKeepLimit → (played : PlayedRound) → IsLegalSpec played.spec → IsEnd (number_of played) (rounds_in played.before) (past_behind_played played)
 round-ends keeps played legal =
     round-holds (λ outcomes now. rounds_in now ≡ rounds_in played.before) (IsEnd (number_of played) (rounds_in played.before)) played keeps legal
     (record {
@@ -135,7 +128,7 @@ few-pairs tags round lists =
 
 -- what the laws of rounds say of this round
 pub record HallRound (start : Start) (spec : SpecValue) : Type 0 where
-  pub keeps : KeepsLimit
+  pub keeps : RoundsKeepLimit
   pub legal : IsLegalSpec spec
   pub goes : GoesByTags start no_operations spec []
   pub lists : ListsItsTags start.tags (played_of start.tags spec)
@@ -159,12 +152,3 @@ hall-over start spec end laws over =
       end_is = same-end over.number 1 end last.end over.slots last.slots over.before last.past (sym over.is ∙ last.is) ∙ ap (λ (round : Played). round.end) told;
       tags = laws.goes.tags ∙ ap (λ (tags : List TagValue). (played_of tags spec).tags) first;
     }
-
--- what the listener of a hall hears
-abbrev KeepsPairs : PairListener → List ReportLine → PairListener → Type 0
-KeepsPairs first lines later = (later.heard.ghost_name ≡ first.heard.ghost_name) × HearsPairs lines first.heard.now later.heard.now
-
--- ... of a run from its beginning
-pub pairs-kept : {old new : PairListener} {lines : List ReportLine} (link : LinkValue) → PassesOn KeepsPairs (first_lines link) old new lines
-    → (new.heard.ghost_name ≡ old.heard.ghost_name) × HearsPairs lines old.heard.now new.heard.now
-pairs-kept {old} {new} {lines} link told = told.on old (refl, hears-no-pair old.heard.now)

@@ -1,26 +1,23 @@
 -- The moves of a dialogue with a tag, one after another.
-use Rattle.std.proofs.Common.{◌≡◌, ℕ, ◌+◌, ◌≤◌, ◌*◌, ◌-◌, List, [], ◌∷◌, ◌++◌, length, Bool, Option, Some, None, refl, sym, ◌∙◌, ap, subst, arith}
+use Rattle.std.proofs.Common.{◌≡◌, ℕ, ◌+◌, ◌≤◌, ◌*◌, ◌-◌, List, [], ◌∷◌, length, Bool, Option, Some, None, refl, sym, ◌∙◌, ap, subst, arith}
 use Rattle.access_ops.proofs.DialogueLaws.{AwaitsReplies, SendsAtMost, dialogues-await, dialogues-are-few, first-sends, first-tells, first-done}
 use Rattle.access_ops.specs.laws.OperationLaws.{Expects}
 use Rattle.access_ops.specs.Operations.{Dialogue, sends, done, dialogue_of, Move, answered, told, reception_in, dialogue_behind, dialogue_after, IsAnswerFor}
-use Rattle.access_ops.specs.OpRunValue.{OpRunValue, OpRunStandsFor, IsNextOperation, last_answer, turns_left}
+use Rattle.access_ops.specs.OpRunValue.{OpRunValue, OpRunStandsFor, IsNextOperation, last_answer, turns_in, turns_left}
 use Rattle.access_ops.specs.declared.OpList.{OpList}
 use Rattle.access_ops.specs.declared.op_next.Answer.{Answer}
+use Rattle.access_ops.specs.declared.op_next.OpNext.{OpNext}
 use Rattle.access_ops.specs.declared.op_next.OpNext.TheVariants as nexts
 use Rattle.access_ops.specs.declared.op_next.OpResult.{OpResult}
 use Rattle.air_channel.specs.Air.{AirValue}
-use Rattle.air_model.specs.Past.{Record, Item, operated, past_behind_command, exchanges_in}
-use Rattle.runs.proofs.Tags.{tags-operated}
-use Rattle.runs.specs.History.{operation_reception, past_behind_dialogue}
-use Rattle.runs.specs.Listing.{reception_of_ack, listed_from, listed_by}
-use Rattle.air_world.proofs.Passing.{RunBehind, Stands, at-behind}
-use Rattle.air_world.specs.Playing.{RunValue, StandsAt}
-use Rattle.runs.proofs.PlayedRounds.{SlotOfRun}
+use Rattle.air_model.specs.Past.{Item, operated, past_behind_command, exchanges_in}
+use Rattle.air_world.specs.Playing.{Begun, RunValue, StandsAt}
 use Rattle.command_grammar.specs.declared.commands.Command.{Command}
-use Rattle.command_grammar.specs.declared.commands.Command.TheVariants as commands
-use Rattle.reply_grammar.specs.Reception.{Reception, no_stream}
+use Rattle.reply_grammar.specs.Reception.{Reception}
 use Rattle.reply_grammar.specs.declared.expected.Expect.{Expect}
-use Rattle.report_lines.specs.ReportLine.{ReportLine, OpLine}
+use Rattle.report_lines.specs.ReportLine.{ReportLine}
+use Rattle.runs.proofs.PlayedRounds.{SlotOfRun}
+use Rattle.runs.specs.History.{operation_reception, past_behind_dialogue}
 
 -- the operations of a round with a tag that sent this EPC, and this RN16 before it, in a slot, and what was past before them
 pub record TagOperations : Type 0 where
@@ -28,7 +25,6 @@ pub record TagOperations : Type 0 where
   pub list : OpList
   pub epc : List ℕ
   pub rn : ℕ
-  pub earlier : ℕ
   pub before : List Item
 
 -- what is left of their dialogue behind these moves
@@ -62,9 +58,9 @@ pub record AreInDialogue (of : TagOperations) (here : OperationsSoFar) (past : L
   pub turns : here.index + turns_left of.list here.run ≤ 163
 
 -- ... with the air and the run
-pub record OperationsUnderway (Heard : List ReportLine → Type 0) (of : TagOperations) (here : OperationsSoFar) (air : AirValue) (run : RunValue) : Type 0 where
+pub record OperationsUnderway {A : Type 0} (hears : A → List ReportLine → A → Type 0) (begun : Begun A) (of : TagOperations) (here : OperationsSoFar) (air : AirValue) (run : RunValue) (report : A) : Type 0 where
   pub past : List Item
-  pub stands : StandsAt Heard of.at.start of.earlier past air run
+  pub stands : StandsAt hears begun past air run report
   pub are : AreInDialogue of here past
 
 -- a dialogue begins
@@ -82,37 +78,30 @@ operations-begin of run few goes turns = record {
   turns = omega (arith, few, turns);
 }
 
+-- what a run of the operations does next, and what becomes of it
+pub record MovesOn (of : TagOperations) (here : OperationsSoFar) (past : List Item) (u : AreInDialogue of here past) (next : OpNext) (after : OpRunValue) : Type 0 where
+  pub answers : IsNextOperation next after of.list of.epc of.rn u.moves
+  pub fewer : turns_left of.list after + turns_in next ≤ turns_left of.list here.run
+
 -- a command that a dialogue sends, and what is awaited in reply
 pub record Asked : Type 0 where
   pub command : Command
   pub expect : Expect
   pub extended : Bool
 
--- what is left of a dialogue begins with such a command
-pub record SendsNext (left : Dialogue) (asked : Asked) : Type 0 where
+-- what is left of a dialogue begins with such a command, which expects a reply of its kind, and is one of those that are left
+pub record SendsNext (of : TagOperations) (here : OperationsSoFar) (past : List Item) (u : AreInDialogue of here past) (asked : Asked) : Type 0 where
   pub go_on : Reception → Dialogue
-  pub is : left ≡ sends asked.command asked.expect asked.extended go_on
+  pub is : left_behind of u.moves ≡ sends asked.command asked.expect asked.extended go_on
+  pub expects : Expects asked.command asked.expect asked.extended
+  pub one : 1 ≤ u.left
 
-pub sends-next : (of : TagOperations) (moves : List Move) (asked : Asked) (after : OpRunValue)
-    → IsNextOperation (nexts.Send asked.command asked.expect asked.extended) after of.list of.epc of.rn moves → SendsNext (left_behind of moves) asked
-sends-next of moves asked after next =
-    let found = first-sends (left_behind of moves) asked.command asked.expect asked.extended (sym next.next) in
-    record { go_on = found.0; is = found.1 }
-
--- the command expects a reply of its kind, and is one of those that are left
-pub sent-expects : (left : Dialogue) (asked : Asked) → SendsNext left asked → AwaitsReplies left → Expects asked.command asked.expect asked.extended
-sent-expects left asked sent awaits = (subst AwaitsReplies sent.is awaits).0
-
-pub sent-one : (left : Dialogue) (asked : Asked) (most : ℕ) → SendsNext left asked → SendsAtMost most left → 1 ≤ most
-sent-one left asked most sent few = (subst (SendsAtMost most) sent.is few).0
-
--- no command of a dialogue lists a tag
-listless : (sent : Record) (command : Command) (expect : Expect) (extended : Bool) → Expects command expect extended → reception_of_ack sent command ≡ no_stream
-listless sent (commands.Ack rn) expect extended is = absurd is
-listless sent command expect extended is = refl
-
-pub operation-unlisted : (sent : Record) (expect : Expect) (extended : Bool) → Expects sent.command expect extended → listed_by sent ≡ []
-operation-unlisted sent expect extended is = ap (λ (r : Reception). listed_from sent r) (listless sent sent.command expect extended is)
+pub sends-next : {of : TagOperations} {here : OperationsSoFar} {past : List Item} {u : AreInDialogue of here past} {next : OpNext} {after : OpRunValue} (asked : Asked)
+    → MovesOn of here past u next after → next ≡ nexts.Send asked.command asked.expect asked.extended → SendsNext of here past u asked
+sends-next {of} {u} {after} asked on is =
+    let answers = subst (λ (n : OpNext). IsNextOperation n after of.list of.epc of.rn u.moves) is on.answers in
+    let found = first-sends (left_behind of u.moves) asked.command asked.expect asked.extended (sym answers.next) in
+    record { go_on = found.0; is = found.1; expects = (subst AwaitsReplies found.1 u.awaits).0; one = (subst (SendsAtMost u.left) found.1 u.sends_few).0 }
 
 -- the answer to a command of a dialogue, in which what was past then has its say
 pub record IsAnswered (of : TagOperations) (asked : Asked) (past : List Item) : Type 0 where
@@ -121,17 +110,18 @@ pub record IsAnswered (of : TagOperations) (asked : Asked) (past : List Item) : 
   pub heard : reception_in answer ≡ operation_reception of.at.start of.at.round of.at.slot asked.command asked.expect asked.extended past
 
 -- a command was answered
-pub operations-sent : (of : TagOperations) (here : OperationsSoFar) (past : List Item) (u : AreInDialogue of here past) (asked : Asked) (by : IsAnswered of asked past) (after : OpRunValue)
-    → IsNextOperation (nexts.Send asked.command asked.expect asked.extended) after of.list of.epc of.rn u.moves → turns_left of.list after + 1 ≤ turns_left of.list here.run
+pub operations-sent : {of : TagOperations} {here : OperationsSoFar} {past : List Item} {u : AreInDialogue of here past} {next : OpNext} {after : OpRunValue} (asked : Asked) (by : IsAnswered of asked past)
+    → MovesOn of here past u next after → next ≡ nexts.Send asked.command asked.expect asked.extended
     → AreInDialogue of (record { run = after; answer = Some by.answer; index = here.index }) (past_behind_command of.at.start of.at.round of.at.slot asked.command past)
-operations-sent of here past u asked by after next fewer =
-    let sent = sends-next of u.moves asked after next in
+operations-sent {of} {here} {past} {u} {after} asked by on is =
+    let sent = sends-next asked on is in
+    let answers = subst (λ (n : OpNext). IsNextOperation n after of.list of.epc of.rn u.moves) is on.answers in
     let behind : left_behind of (answered by.answer ∷ u.moves) ≡ sent.go_on (reception_in by.answer) = ap (λ (d : Dialogue). dialogue_behind (answered by.answer) d) sent.is in
     let few = subst (SendsAtMost u.left) sent.is u.sends_few in
     record {
       moves = answered by.answer ∷ u.moves;
       left = u.left - 1;
-      goes = next.stands (answered by.answer) by.expected;
+      goes = answers.stands (answered by.answer) by.expected;
       last = refl;
       awaits = subst AwaitsReplies (sym behind) ((subst AwaitsReplies sent.is u.awaits).1 (reception_in by.answer));
       sends_few = subst (SendsAtMost (u.left - 1)) (sym behind) (few.1 (reception_in by.answer));
@@ -139,41 +129,34 @@ operations-sent of here past u asked by after next fewer =
       rest = ap (λ (d : Dialogue). past_behind_left of here.index d (past_behind_command of.at.start of.at.round of.at.slot asked.command past))
           (behind ∙ ap (λ (r : Reception). sent.go_on r) by.heard)
           ∙ sym (ap (λ (d : Dialogue). past_behind_left of here.index d past) sent.is) ∙ u.rest;
-      turns = omega (arith, u.turns, fewer);
+      turns = omega (arith, u.turns, on.fewer, ap turns_in is);
     }
 
--- what stands behind a result
-pub stands-operated : (Heard : List ReportLine → Type 0) (at : RunBehind) (round slot index : ℕ) (result : OpResult)
-    → Stands (λ lines. Heard (lines ++ OpLine round slot index result ∷ [])) at → StandsAt Heard at.start at.earlier (operated round slot index result ∷ at.past) at.air at.run
-stands-operated Heard at round slot index result stands = record {
-  at = at-behind at (operated round slot index result) at.run stands.at (tags-operated at.start round slot index result at.past) refl
-      (ap (λ n. record at.run { rounds = n }) stands.at.rounds);
-  told = stands.told;
-}
-
 -- a result was told
-pub operations-told : (of : TagOperations) (here : OperationsSoFar) (past : List Item) (u : AreInDialogue of here past) (after : OpRunValue) (result : OpResult)
-    → IsNextOperation (nexts.Result result) after of.list of.epc of.rn u.moves → turns_left of.list after + 1 ≤ turns_left of.list here.run
+pub operations-told : {of : TagOperations} {here : OperationsSoFar} {past : List Item} {u : AreInDialogue of here past} {next : OpNext} {after : OpRunValue} (result : OpResult)
+    → MovesOn of here past u next after → next ≡ nexts.Result result
     → AreInDialogue of (record { run = after; answer = None; index = here.index + 1 }) (operated of.at.round of.at.slot here.index result ∷ past)
-operations-told of here past u after result next fewer =
-    let found = first-tells (left_behind of u.moves) result (sym next.next) in
+operations-told {of} {here} {past} {u} {after} result on is =
+    let answers = subst (λ (n : OpNext). IsNextOperation n after of.list of.epc of.rn u.moves) is on.answers in
+    let found = first-tells (left_behind of u.moves) result (sym answers.next) in
     let behind : left_behind of (told ∷ u.moves) ≡ found.0 = ap (λ (d : Dialogue). dialogue_behind told d) found.1 in
     record {
       moves = told ∷ u.moves;
       left = u.left;
-      goes = next.stands told tt;
+      goes = answers.stands told tt;
       last = refl;
       awaits = subst AwaitsReplies (sym behind) (subst AwaitsReplies found.1 u.awaits);
       sends_few = subst (SendsAtMost u.left) (sym behind) (subst (SendsAtMost u.left) found.1 u.sends_few);
       few = u.few;
       rest = ap (λ (d : Dialogue). past_behind_left of (here.index + 1) d (operated of.at.round of.at.slot here.index result ∷ past)) behind
           ∙ sym (ap (λ (d : Dialogue). past_behind_left of here.index d past) found.1) ∙ u.rest;
-      turns = omega (arith, u.turns, fewer);
+      turns = omega (arith, u.turns, on.fewer, ap turns_in is);
     }
 
 -- all is done
-pub operations-end : (of : TagOperations) (here : OperationsSoFar) (past : List Item) (u : AreInDialogue of here past) (after : OpRunValue)
-    → IsNextOperation nexts.End after of.list of.epc of.rn u.moves → past ≡ past_behind_operations of
-operations-end of here past u after next =
-    let over : left_behind of u.moves ≡ done = first-done (left_behind of u.moves) (sym next.next) in
-    sym (ap (λ (d : Dialogue). past_behind_left of here.index d past) over) ∙ u.rest
+pub operations-end : {of : TagOperations} {here : OperationsSoFar} {past : List Item} {u : AreInDialogue of here past} {next : OpNext} {after : OpRunValue}
+    → MovesOn of here past u next after → next ≡ nexts.End → past_behind_operations of ≡ past
+operations-end {of} {here} {past} {u} {after} on is =
+    let answers = subst (λ (n : OpNext). IsNextOperation n after of.list of.epc of.rn u.moves) is on.answers in
+    let over : left_behind of u.moves ≡ done = first-done (left_behind of u.moves) (sym answers.next) in
+    sym u.rest ∙ ap (λ (d : Dialogue). past_behind_left of here.index d past) over

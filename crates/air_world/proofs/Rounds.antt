@@ -1,10 +1,9 @@
 -- The slots of a round, one after another.
-use Rattle.std.proofs.Common.{◌≡◌, ℕ, zero, suc, ◌+◌, ◌*◌, ◌≤◌, false, Some, List, [], ◌∷◌, ◌++◌, length, refl, sym, ◌∙◌, ap, subst, arith}
+use Rattle.std.proofs.Common.{◌≡◌, ℕ, zero, suc, ◌+◌, ◌*◌, ◌≤◌, false, Option, Some, List, [], ◌∷◌, ◌++◌, length, refl, sym, ◌∙◌, ap, subst, arith}
 use Rattle.access_ops.specs.declared.OpList.{OpList}
 use Rattle.air_channel.specs.Air.{AirValue}
 use Rattle.air_model.specs.Past.{Start, Item, ended, past_behind_command, exchanges_in, rounds_in}
-use Rattle.air_world.proofs.Passing.{RunBehind, Stands, at-behind}
-use Rattle.air_world.specs.Playing.{RunValue, StandsAt, most_in_slot}
+use Rattle.air_world.specs.Playing.{Begun, RunValue, StandsAt, most_in_slot}
 use Rattle.command_grammar.specs.declared.commands.Command.{Command}
 use Rattle.command_grammar.specs.declared.commands.Command.TheVariants as commands
 use Rattle.pie_line.specs.Link.{LinkValue}
@@ -21,11 +20,10 @@ use Rattle.q_round.specs.declared.round.Next.{Next}
 use Rattle.q_round.specs.declared.round.Next.TheVariants as nexts
 use Rattle.q_round.specs.declared.round.RoundEnd.{RoundEnd}
 use Rattle.q_round.specs.declared.round.RoundEnd.TheVariants as ends
-use Rattle.report_lines.specs.ReportLine.{ReportLine, RoundLine}
+use Rattle.report_lines.specs.ReportLine.{ReportLine}
 use Rattle.runs.proofs.Growth.{Grows, answer-keeps, turns-grow}
 use Rattle.runs.proofs.PlayedRounds.{PlayedRound, past_behind_played}
 use Rattle.runs.proofs.HeadlineCounts.{slot-exchanges}
-use Rattle.runs.proofs.Tags.{tags-ended}
 use Rattle.runs.specs.Headline.{most_operating}
 use Rattle.runs.specs.History.{outcome_of, slot_reception, past_behind_slot, past_behind_turn, past_behind_turns}
 
@@ -48,9 +46,9 @@ pub record IsInRound (played : PlayedRound) (here : RoundSoFar) (past : List Ite
   pub rounds : here.number ≡ rounds_in past + 1
 
 -- ... with the air and the run
-pub record RoundUnderway (Heard : List ReportLine → Type 0) (earlier : ℕ) (played : PlayedRound) (here : RoundSoFar) (air : AirValue) (run : RunValue) : Type 0 where
+pub record RoundUnderway {A : Type 0} (hears : A → List ReportLine → A → Type 0) (begun : Begun A) (played : PlayedRound) (here : RoundSoFar) (air : AirValue) (run : RunValue) (report : A) : Type 0 where
   pub past : List Item
-  pub stands : StandsAt Heard played.start earlier past air run
+  pub stands : StandsAt hears begun past air run report
   pub is : IsInRound played here past
 
 abbrev pred : ℕ → ℕ
@@ -89,9 +87,15 @@ pub record SlotPlayed (played : PlayedRound) (here : RoundSoFar) (past : List It
   pub is : slot ≡ length outcomes + 1
   pub outcome_is : outcome ≡ outcome_of (slot_reception played.start here.number slot here.command past)
 
-abbrev pub slot_played : (played : PlayedRound) (here : RoundSoFar) (past : List Item) (u : IsInRound played here past) (slot : ℕ) (outcome : Outcome) → slot ≡ length u.outcomes + 1
+abbrev pub slot_played : {played : PlayedRound} {here : RoundSoFar} {past : List Item} (u : IsInRound played here past) (slot : ℕ) (outcome : Outcome)
+    → ((spec : SpecValue) (outcomes : List Outcome) → RoundStandsFor here.round spec outcomes → slot ≡ slots_of spec outcomes)
     → outcome ≡ outcome_of (slot_reception played.start here.number slot here.command past) → SlotPlayed played here past u.outcomes
-slot_played played here past u slot outcome is outcome_is = record { slot = slot; outcome = outcome; is = is; outcome_is = outcome_is }
+slot_played {played} u slot outcome counted outcome_is = record {
+  slot = slot;
+  outcome = outcome;
+  is = counted played.spec u.outcomes u.goes ∙ slots-underway played.spec u.outcomes u.goes.outcomes_are u.on;
+  outcome_is = outcome_is;
+}
 
 -- what is past behind a slot with this number
 abbrev pub past_behind_numbered : PlayedRound → RoundSoFar → ℕ → List Item → List Item
@@ -108,15 +112,6 @@ turn-rest played here past u s =
     ∙ ap (λ n. turns (outcome_of (slot_reception start here.number n here.command past) ∷ u.outcomes) (past_behind_numbered played here n past)) s.is
     ∙ sym (ap (λ (n : Next). past_behind_turn turns start played.operations here.number u.outcomes past n) u.sends)
     ∙ u.rest
-
--- the number of the slot that comes next
-pub slot-number : (spec : SpecValue) (round : RoundValue) (outcomes : List Outcome) (slot : ℕ) → RoundStandsFor round spec outcomes → is_over spec outcomes ≡ false
-    → ((s : SpecValue) (o : List Outcome) → RoundStandsFor round s o → slot ≡ slots_of s o) → slot ≡ length outcomes + 1
-slot-number spec round outcomes slot goes on counted = counted spec outcomes goes ∙ slots-underway spec outcomes goes.outcomes_are on
-
--- the law of the limit
-abbrev pub KeepsLimit : Type 0
-KeepsLimit = (spec : SpecValue) (outcomes : List Outcome) → IsLegalSpec spec → AreOutcomes spec outcomes → slots_of spec outcomes ≤ spec.limit
 
 -- no round ends in a slot
 pub rounds-slot : (start : Start) (operations : OpList) (round slot : ℕ) (command : Command) (past : List Item)
@@ -171,6 +166,14 @@ round-goes-on played here past u s after next fits answers =
       rounds = u.rounds ∙ ap (λ n. n + 1) (sym (rounds-slot start played.operations here.number s.slot here.command past));
     }
 
+last-slot : (outcomes : List Outcome) (slot : ℕ) → slot ≡ length outcomes + 1 → slot ≡ suc (length outcomes)
+last-slot outcomes slot is = omega (arith, is)
+
+-- what a round answers next, by what it is known to be
+pub answers-known : {end known : Option RoundEnd} (command : Command) {after : RoundValue} {spec : SpecValue} {outcomes : List Outcome} → end ≡ known
+    → IsNextAnswer (next_of end command) after spec outcomes → IsNextAnswer (next_of known command) after spec outcomes
+answers-known command {after} {spec} {outcomes} is answers = subst (λ (e : Option RoundEnd). IsNextAnswer (next_of e command) after spec outcomes) is answers
+
 -- the past that the end of a round leaves
 round-left : (played : PlayedRound) (here : RoundSoFar) (past : List Item) (u : IsInRound played here past) (s : SlotPlayed played here past u.outcomes)
     (after : RoundValue) (next : Next) → IsNextAnswer next after played.spec (s.outcome ∷ u.outcomes)
@@ -183,12 +186,14 @@ round-left played here past u s after next answers =
     (past_behind_numbered played here s.slot past) n) (answers.next start.link)
     ∙ turn-rest played here past u s
 
--- ... with that end, whichever of the two it is
+-- ... with that end, whichever of the two it is, and the number of its last slot
 pub round-ends : (played : PlayedRound) (here : RoundSoFar) (past : List Item) (u : IsInRound played here past) (s : SlotPlayed played here past u.outcomes)
     (after : RoundValue) (end : RoundEnd) (command : Command) → IsNextAnswer (next_of (Some end) command) after played.spec (s.outcome ∷ u.outcomes)
-    → ended here.number end (length (s.outcome ∷ u.outcomes)) ∷ past_behind_numbered played here s.slot past ≡ past_behind_played played
-round-ends played here past u s after ends.Quiet command answers = round-left played here past u s after nexts.Quiet answers
-round-ends played here past u s after ends.Limit command answers = round-left played here past u s after nexts.Limit answers
+    → ended here.number end s.slot ∷ past_behind_numbered played here s.slot past ≡ past_behind_played played
+round-ends played here past u s after ends.Quiet command answers =
+    ap (λ n. ended here.number ends.Quiet n ∷ past_behind_numbered played here s.slot past) (last-slot u.outcomes s.slot s.is) ∙ round-left played here past u s after nexts.Quiet answers
+round-ends played here past u s after ends.Limit command answers =
+    ap (λ n. ended here.number ends.Limit n ∷ past_behind_numbered played here s.slot past) (last-slot u.outcomes s.slot s.is) ∙ round-left played here past u s after nexts.Limit answers
 
 -- what is past behind a slot leads to what is past behind the round
 pub slot-leads : (played : PlayedRound) (here : RoundSoFar) (past : List Item) (u : IsInRound played here past) (s : SlotPlayed played here past u.outcomes)
@@ -197,20 +202,3 @@ slot-leads played here past u s =
     let between : List Item = past_behind_numbered played here s.slot past in
     subst (λ (behind : List Item). Grows between behind) (turn-rest played here past u s)
     (turns-grow (suc u.left) played.start played.operations here.number played.spec (s.outcome ∷ u.outcomes) between)
-
--- with the number of its last slot
-pub ended-slots : (number : ℕ) (end : RoundEnd) (slot : ℕ) (outcome : Outcome) (outcomes : List Outcome) (past whole : List Item) → slot ≡ length outcomes + 1
-    → ended number end (length (outcome ∷ outcomes)) ∷ past ≡ whole → ended number end slot ∷ past ≡ whole
-ended-slots number end slot outcome outcomes past whole is left =
-    let same : slot ≡ length (outcome ∷ outcomes) = omega (arith, is) in
-    ap (λ n. ended number end n ∷ past) same ∙ left
-
--- a round ended
-pub stands-ended : (Heard : List ReportLine → Type 0) (at : RunBehind) (number : ℕ) (end : RoundEnd) (slots : ℕ) (after : RunValue) → number ≡ rounds_in at.past + 1
-    → Stands (λ lines. Heard (lines ++ RoundLine number end slots ∷ [])) at → after ≡ record at.run { rounds = number }
-    → StandsAt Heard at.start at.earlier (ended number end slots ∷ at.past) at.air after
-stands-ended Heard at number end slots after number_is stands is = record {
-  at = at-behind at (ended number end slots) after stands.at (tags-ended at.start number end slots at.past) refl
-      (is ∙ ap (λ n. record at.run { rounds = n }) number_is);
-  told = stands.told;
-}

@@ -1,22 +1,23 @@
 -- Who said what in an exchange, told or left out.
-use Rattle.std.proofs.Common.{◌≡◌, ◌≢◌, ◌<◌, ◌≤◌, ◌%◌, ◌==◌, ◌⊎◌, inl, inr, ℕ, zero, suc, ◌+◌, Bool, true, false, Option, Some, None, eq-eqb, List, [], ◌∷◌, ◌++◌, length, map, take, get_or, refl, sym, ◌∙◌, ap, arith, subst, append_assoc, append-nil, slice_get}
+use Rattle.std.proofs.Common.{◌≡◌, ◌≢◌, ◌<◌, ◌≤◌, ◌%◌, ◌==◌, ◌⊎◌, inl, inr, ℕ, zero, suc, ◌+◌, Bool, true, false, Option, Some, None, eq-eqb, List, [], ◌∷◌, ◌++◌, length, map, take, refl, sym, ◌∙◌, ap, arith, subst, append_assoc, append-nil, slice_get}
 use Rattle.std.proofs.lemmas.Bool.{eqb-true}
 use Rattle.std.proofs.lemmas.List.{length-map}
-use Rattle.std.proofs.lemmas.Option.{slice_get-get_or, slice_get-map}
+use Rattle.std.proofs.lemmas.Option.{slice_get-map}
 use Rattle.std.specs.List.{AllByRecursion}
 use Rattle.std.specs.Option.{option_map}
 use Rattle.air_model.specs.Channel.{Given, silence, whole, broken, raw, got_of, levels_of}
 use Rattle.air_model.specs.Past.{Record}
 use Rattle.air_model.specs.declared.got.Got.TheVariants as gots
+use Rattle.air_world.proofs.Passing.{tells-same, tells-then}
 use Rattle.air_world.proofs.Places.{some-at, map-more}
 use Rattle.air_world.specs.Saying.{AreShort, IsOneOf}
-use Rattle.air_world.specs.Telling.{PassesOn}
+use Rattle.air_world.specs.Telling.{Tells}
 use Rattle.command_grammar.specs.declared.commands.Command.{Command}
 use Rattle.pie_line.specs.Link.{LinkValue}
 use Rattle.reply_grammar.specs.Replies.{longest_reply}
 use Rattle.reply_grammar.specs.declared.expected.Reply.{Reply}
 use Rattle.report_lines.specs.ModeLines.{is_of_exchanges}
-use Rattle.report_lines.specs.ReportLine.{ReportLine, ExchangeLine, GivenLine, MissedLine}
+use Rattle.report_lines.specs.ReportLine.{ReportLine, GivenLine, MissedLine}
 use Rattle.runs.specs.Said.{answer_line, exchanged_by, gave_of, said_lines}
 use Rattle.runs.specs.laws.Replies.{AreReplies}
 use Rattle.tag_machine.specs.Answers.{Sent}
@@ -128,34 +129,11 @@ skipped hears now same (line ∷ lines) are first before heard =
 -- an exchange of which nobody wants to hear who said what
 pub said-skipped : {A : Type 0} (hears : A → List ReportLine → A → Type 0) (now : A) (link : LinkValue) (sent : Record)
     → ((first : A) (lines : List ReportLine) (line : ReportLine) → is_of_exchanges line ≡ true → hears first lines now → hears first (lines ++ line ∷ []) now)
-    → (before : List ReportLine) → PassesOn hears before now now (before ++ said_lines link sent)
-said-skipped hears now link sent same before = record { on = λ first heard. skipped hears now same (said_lines link sent) (said-kind link sent) first before heard }
+    → Tells hears (said_lines link sent) now now
+said-skipped hears now link sent same = record { on = λ first before heard. skipped hears now same (said_lines link sent) (said-kind link sent) first before heard }
 
--- one tag more missed a command
-pub missed-more : (before : List ReportLine) (exchange : ℕ) (command : Command) (tags : List ℕ) (at default : ℕ) → at < length tags
-    → (before ++ ExchangeLine exchange command ∷ map (MissedLine exchange) (take at tags)) ++ MissedLine exchange (get_or tags at default) ∷ []
-    ≡ before ++ ExchangeLine exchange command ∷ map (MissedLine exchange) (take (at + 1) tags)
-missed-more before exchange command tags at default inside =
-    append_assoc before (ExchangeLine exchange command ∷ map (MissedLine exchange) (take at tags)) (MissedLine exchange (get_or tags at default) ∷ [])
-    ∙ ap (λ (lines : List ReportLine). before ++ ExchangeLine exchange command ∷ lines) (map-more (MissedLine exchange) tags at (get_or tags at default) (slice_get-get_or tags at default inside))
-
--- what was told of an exchange, in three parts
-pub record Says {A : Type 0} (hears : A → List ReportLine → A → Type 0) (link : LinkValue) (sent : Record) (old new : A) : Type 0 where
-  pub commanded : A
-  pub answered : A
-  pub command : (before : List ReportLine) → PassesOn hears before old commanded (before ++ ExchangeLine sent.exchange sent.command ∷ map (MissedLine sent.exchange) sent.entry.missed)
-  pub answers : (before : List ReportLine) → PassesOn hears before commanded answered (before ++ map (answer_line sent.exchange) sent.replies)
-  pub given : (before : List ReportLine) → PassesOn hears before answered new (before ++ GivenLine (exchanged_by link sent) ∷ [])
-
-pub says-all : {A : Type 0} (hears : A → List ReportLine → A → Type 0) (link : LinkValue) (sent : Record) (old new : A) → Says hears link sent old new
-    → (before : List ReportLine) → PassesOn hears before old new (before ++ said_lines link sent)
-says-all hears link sent old new says before =
-    let front : List ReportLine = ExchangeLine sent.exchange sent.command ∷ map (MissedLine sent.exchange) sent.entry.missed in
-    let answers : List ReportLine = map (answer_line sent.exchange) sent.replies in
-    let last : List ReportLine = GivenLine (exchanged_by link sent) ∷ [] in
-    let joined : ((before ++ front) ++ answers) ++ last ≡ before ++ said_lines link sent = append_assoc (before ++ front) answers last ∙ append_assoc before front (answers ++ last) in
-    record {
-      on = λ first heard.
-          subst (λ (lines : List ReportLine). hears first lines new) joined
-          ((says.given ((before ++ front) ++ answers)).on first ((says.answers (before ++ front)).on first ((says.command before).on first heard)));
-    }
+-- one thing more was told, of a list of things of which a front was told
+pub tells-more : {A B : Type 0} {hears : A → List ReportLine → A → Type 0} {old between new : A} (make : B → ReportLine) (lines : List ReportLine) (items : List B) (at : ℕ) (item : B) → slice_get items at ≡ Some item
+    → Tells hears (lines ++ map make (take at items)) old between → Tells hears (make item ∷ []) between new → Tells hears (lines ++ map make (take (at + 1) items)) old new
+tells-more make lines items at item found told more =
+    tells-same (append_assoc lines (map make (take at items)) (make item ∷ []) ∙ ap (λ (all : List ReportLine). lines ++ all) (map-more make items at item found)) (tells-then told more)

@@ -9,17 +9,19 @@ use Rattle.air_events.specs.declared.Entry.{Entry}
 use Rattle.air_events.specs.declared.Several.{Several}
 use Rattle.air_events.specs.declared.Several.TheVariants as severals
 use Rattle.air_model.specs.Channel.{HasFewLevels, given_in, given_of, got_of, heard_levels, wave_for, whole_or_silence}
-use Rattle.air_model.specs.Past.{Start, Record, Item, next_record, past_behind_command, exchanges_in, tags_behind}
+use Rattle.air_model.specs.Past.{Start, Record, Item, next_entry, next_record, past_behind_command, exchanges_in, tags_behind}
 use Rattle.air_model.specs.declared.got.Got.{Got}
+use Rattle.air_model.proofs.GivenLaws.{given_is_read}
 use Rattle.air_model.proofs.ReceptionLaws.{few_words}
-use Rattle.air_world.specs.Playing.{RunValue, RunIsAt, counted_on}
+use Rattle.air_world.proofs.Slots.{dialogue-heard, inventory-heard}
+use Rattle.air_world.specs.Playing.{RunValue, IsHeard, RunIsAt, counted_on}
 use Rattle.air_world.specs.Saying.{AnswersCommand, AreOfDifferentTags, AreShort, IsBehind, IsOneOf}
 use Rattle.command_grammar.specs.declared.commands.Command.{Command}
 use Rattle.pie_line.specs.Link.{LinkValue}
 use Rattle.reply_grammar.specs.Replies.{AnswersExpected, Carries}
 use Rattle.reply_grammar.specs.declared.expected.Expect.{Expect}
 use Rattle.reply_grammar.proofs.Suiting.{spelling-within}
-use Rattle.runs.proofs.Answering.{SendsInRange}
+use Rattle.runs.proofs.Answering.{SendsInRange, TagLaws, given-in-expected, given-unmistakable}
 use Rattle.runs.specs.laws.Replies.{AnswersSo, AreReplies, StaysLegal, replies-in-answered}
 use Rattle.runs.proofs.Tags.{tags-exchanged, length-tags}
 use Rattle.std.specs.Option.{IsSomeAnd}
@@ -30,23 +32,18 @@ use Rattle.tag_machine.specs.TagValue.{BodyValue, IsLegalTag, StateValue, TagVal
 use Rattle.tag_machine.specs.laws.Replies.{expect_of}
 use Rattle.tag_population.specs.Answers.{answers_of}
 
--- the cursor of the run stands behind the exchanges of the past
-pub cursor-stands : (start : Start) (earlier : ℕ) (past : List Item) (air : AirValue) (run : RunValue) (entries : List (ℕ × Entry)) → RunIsAt start earlier past air run → run.entries ≡ entries
-    → AreEntriesLeft entries start.entries (exchanges_in past)
-cursor-stands start earlier past air run entries plays cursor = subst (λ l. AreEntriesLeft l start.entries (exchanges_in past)) cursor plays.entries
-
 -- the entry of the next exchange names tags that there are ..
-pub entry-names : (start : Start) (earlier : ℕ) (past : List Item) (air : AirValue) (run : RunValue) (entry : Entry) → RunIsAt start earlier past air run
+pub entry-names : {start : Start} {earlier : ℕ} {past : List Item} {air : AirValue} {run : RunValue} (entry : Entry) → RunIsAt start earlier past air run
     → entry ≡ entry_at start.entries (exchanges_in past + 1) → NamesTags (length air.tags) entry
-entry-names start earlier past air run entry plays is =
+entry-names {start} {past} {air} entry plays is =
     let count : length air.tags ≡ length start.tags = ap length plays.tags ∙ length-tags start past in
     let named : NamesTags (length start.tags) entry = subst (λ e. NamesTags (length start.tags) e) (sym is) (plays.names (exchanges_in past + 1)) in
     subst (λ n. NamesTags n entry) (sym count) named
 
 -- .. and gives few levels
-pub entry-fits : (start : Start) (earlier : ℕ) (past : List Item) (air : AirValue) (run : RunValue) (entry : Entry) → RunIsAt start earlier past air run
+pub entry-fits : {start : Start} {earlier : ℕ} {past : List Item} {air : AirValue} {run : RunValue} (entry : Entry) → RunIsAt start earlier past air run
     → entry ≡ entry_at start.entries (exchanges_in past + 1) → HasFewLevels entry.choice
-entry-fits start earlier past air run entry plays is = subst (λ (e : Entry). HasFewLevels e.choice) (sym is) (plays.few (exchanges_in past + 1))
+entry-fits {past} entry plays is = subst (λ (e : Entry). HasFewLevels e.choice) (sym is) (plays.few (exchanges_in past + 1))
 
 -- what legal tags answer answers the command
 carried : (expect : Option Expect) (sent : Sent) → IsSomeAnd expect (λ it. Carries it sent.handle × AnswersExpected sent.reply it (bits_sent (Some sent)))
@@ -135,25 +132,14 @@ pub record Sends (start : Start) (earlier : ℕ) (past : List Item) (command : C
   pub entry_is : entry ≡ entry_at start.entries (exchanges_in past + 1)
   pub legal : AreLegalTags next.tags
 
--- what the channel gives is what the record says
-given-recorded : (start : Start) (earlier : ℕ) (past : List Item) (round slot : ℕ) (command : Command) (sends : Sends start earlier past command)
-    → given_in sends.air.link sends.air.several command sends.entry sends.air.tags ≡ (next_record start round slot command past).given
-given-recorded start earlier past round slot command sends =
-    let plays = sends.plays in
-    λ i. given_in (plays.link i) (plays.several i) command (sends.entry_is i) (plays.tags i)
-
-replies-recorded : (start : Start) (earlier : ℕ) (past : List Item) (round slot : ℕ) (command : Command) (sends : Sends start earlier past command)
-    → replies_in command sends.entry sends.air.tags ≡ (next_record start round slot command past).replies
-replies-recorded start earlier past round slot command sends = λ i. replies_in command (sends.entry_is i) (sends.plays.tags i)
-
 next-counted : (earlier exchanges : ℕ) → next_exchange (counted_on earlier exchanges) ≡ counted_on earlier (exchanges + 1)
 next-counted earlier exchanges = omega arith
 
 -- after an exchange, air and run stand behind the longer past
-pub sent-plays : (start : Start) (earlier : ℕ) (past : List Item) (round slot : ℕ) (command : Command) (sends : Sends start earlier past command) (after : RunValue)
+pub sent-plays : {start : Start} {earlier : ℕ} {past : List Item} {command : Command} (sends : Sends start earlier past command) (round slot : ℕ) (after : RunValue)
     → after.exchanges ≡ exchanges_in past + 1 → after.rounds ≡ sends.run.rounds → AreEntriesLeft after.entries start.entries (exchanges_in past + 1)
     → RunIsAt start earlier (past_behind_command start round slot command past) sends.next after
-sent-plays start earlier past round slot command sends after made rounds left =
+sent-plays {start} {earlier} {past} {command} sends round slot after made rounds left =
     let sent : Record = next_record start round slot command past in
     let plays = sends.plays in
     let moved : tags_after (outcomes_in command sends.entry sends.air.tags) ≡ tags_after (outcomes_in command sent.entry (tags_behind start past)) =
@@ -172,19 +158,33 @@ sent-plays start earlier past round slot command sends after made rounds left =
     }
 
 -- ... and what stands on the air is what the record says
-pub sent-behind : AnswersExpectedOnes → StaysLegal → (start : Start) (earlier : ℕ) (past : List Item) (round slot : ℕ) (command : Command) (sends : Sends start earlier past command)
+pub sent-behind : AnswersExpectedOnes → StaysLegal → {start : Start} {earlier : ℕ} {past : List Item} {command : Command} (sends : Sends start earlier past command) (round slot : ℕ)
     → IsBehind start.link (next_record start round slot command past) sends.next sends.got
-sent-behind law stays start earlier past round slot command sends =
+sent-behind law stays {start} {past} {command} sends round slot =
     let sent : Record = next_record start round slot command past in
     let tags : List TagValue = tags_behind start past in
     let plays = sends.plays in
+    let given : given_in sends.air.link sends.air.several command sends.entry sends.air.tags ≡ sent.given =
+    λ i. given_in (plays.link i) (plays.several i) command (sends.entry_is i) (plays.tags i) in
     record {
       link_is = ap (λ (a : AirValue). a.link) sends.is ∙ plays.link;
       frame = ap (λ (a : AirValue). a.frame) sends.is ∙ ap (λ l. wave_for l command) plays.link;
-      answers = ap (λ (a : AirValue). a.answers) sends.is ∙ ap answers_of (replies-recorded start earlier past round slot command sends);
-      stream = ap (λ (a : AirValue). a.stream) sends.is ∙ (λ i. heard_levels (plays.link i) (given-recorded start earlier past round slot command sends i));
-      got_is = sends.got_is ∙ (λ i. got_of (plays.link i) (given-recorded start earlier past round slot command sends i));
+      answers = ap (λ (a : AirValue). a.answers) sends.is ∙ (λ i. answers_of (replies_in command (sends.entry_is i) (plays.tags i)));
+      stream = ap (λ (a : AirValue). a.stream) sends.is ∙ (λ i. heard_levels (plays.link i) (given i));
+      got_is = sends.got_is ∙ (λ i. got_of (plays.link i) (given i));
       answered = replies-in-answered (AnswersCommand command) command sent.entry tags (answers-so law command) stays (subst AreLegalTags plays.tags plays.legal);
       different = different-tags 0 (outcomes_in command sent.entry tags);
       one = given-one start.link sent.replies sent.entry.choice start.several;
+    }
+
+-- ... of which the run hears what the record says
+pub sent-heard : TagLaws → (start : Start) (past : List Item) (round slot : ℕ) (command : Command) {air : AirValue} {got : Got} → AreLegalTags (tags_behind start past)
+    → IsBehind start.link (next_record start round slot command past) air got → IsHeard start.link (next_record start round slot command past) air got
+sent-heard laws start past round slot command legal behind =
+    let entry : Entry = next_entry start past in
+    let tags : List TagValue = tags_behind start past in
+    let read = given_is_read start.link (replies_in command entry tags) entry.choice start.several in
+    record {
+      inventory = λ expect received asked came is. inventory-heard behind expect received (given-in-expected laws start command expect entry tags asked legal) read came is;
+      operations = λ expect extended received asked came is. dialogue-heard behind expect extended received (given-unmistakable laws start command expect extended entry tags asked legal) read came is;
     }

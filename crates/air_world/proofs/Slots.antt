@@ -2,23 +2,19 @@
 use Rattle.std.proofs.Common.{◌≡◌, ◌≢◌, ℕ, ◌+◌, ◌||◌, Bool, false, List, [], ◌∷◌, ◌++◌, map, Option, Some, None, refl, sym, ◌∙◌, ap, subst, arith, append_assoc}
 use Rattle.std.proofs.lemmas.List.{append-nil}
 use Rattle.access_ops.specs.Operations.{Dialogue, IsAnswerFor, dialogue_of, done}
-use Rattle.access_ops.specs.laws.OperationLaws.{Expects}
 use Rattle.access_ops.specs.declared.OpList.{OpList}
 use Rattle.access_ops.specs.declared.op_next.Answer.TheVariants.{Got}
 use Rattle.air_channel.specs.Air.{AirValue}
-use Rattle.air_events.specs.declared.Entry.{Entry}
-use Rattle.air_model.specs.Channel.{got_of, heard_levels}
-use Rattle.air_model.specs.Past.{Start, Record, Item, exchanged, next_entry, next_record, past_behind_command, tags_behind}
-use Rattle.air_model.specs.Reception.{reception_of}
+use Rattle.air_model.specs.Channel.{IsReadBy, heard_levels}
+use Rattle.air_model.specs.Past.{Start, Record, Item, exchanged, past_behind_command}
+use Rattle.air_model.specs.Reception.{HoldsOfSent, IsGivenFor, IsUnmistakable, reception_of, reception_with}
 use Rattle.air_model.specs.declared.got.Got.{Got as Gave}
 use Rattle.air_model.specs.declared.got.Got.TheVariants as gots
 use Rattle.air_model.proofs.AwaitedLaws.{awaited_reception}
-use Rattle.air_model.proofs.GivenLaws.{given_is_read}
 use Rattle.air_model.proofs.ReceptionLaws.{stream_reception}
-use Rattle.air_world.proofs.Passing.{Listening, IsTold, passes-then, RunBehind, Stands}
-use Rattle.air_world.specs.Playing.{RunValue, RunIsAt, StandsAt, HasRoomForExchanges}
+use Rattle.air_world.specs.Playing.{Begun, HasRoomForExchanges, IsSent, RunIsAt, RunValue, StandsAt}
 use Rattle.air_world.specs.Saying.{IsBehind}
-use Rattle.air_world.specs.Telling.{PassesOn, lines_to_tell}
+use Rattle.air_world.specs.Telling.{Tells, lines_to_tell}
 use Rattle.command_grammar.specs.declared.commands.Command.{Command}
 use Rattle.command_grammar.specs.declared.commands.Command.TheVariants as commands
 use Rattle.line_code.specs.Table.{Table}
@@ -33,63 +29,36 @@ use Rattle.reply_grammar.specs.declared.expected.Reply.TheVariants as replies
 use Rattle.reply_wire.specs.Heard.{pair_received, rn16_received}
 use Rattle.reply_wire.specs.Received.{IsReceived}
 use Rattle.report_lines.specs.ReportLine.{ReportLine}
-use Rattle.runs.proofs.Answering.{TagLaws, given-in-expected, given-unmistakable}
-use Rattle.runs.specs.History.{ack_reception, dialogue_begun, operation_reception, past_behind_ack, past_behind_answer, past_behind_dialogue, past_behind_slot, slot_reception}
+use Rattle.runs.specs.History.{ack_reception, dialogue_begun, past_behind_ack, past_behind_answer, past_behind_dialogue, past_behind_slot, slot_reception}
 use Rattle.runs.specs.Listing.{Listed, reception_of_ack, listed_from, listed_by}
 use Rattle.runs.specs.NextItem.{expectation_of}
 use Rattle.runs.specs.Report.{exchange_lines, list_line}
-use Rattle.tag_machine.specs.TagsInExchange.{AreLegalTags, replies_in}
-use Rattle.tag_machine.specs.TagValue.{TagValue}
 
 -- what is heard of levels that came, where this is expected
 pub received-answer : (t : Table) (trext : Bool) (expect : Expect) (levels : List Bool) (received : Received) → IsReceived t trext expect levels received → IsAnswerFor expect (Got received)
 received-answer t trext expect levels (receiveds.Whole reply) is = (is.answers.suits, is.answers.in_range)
 received-answer t trext expect levels (receiveds.Refused place) is = tt
 
--- a stream that came behind an exchange, and what is received of it
-pub record StreamCame (start : Start) (past : List Item) (command : Command) (expect : Expect) (extended : Bool) : Type 0 where
-  pub round : ℕ
-  pub slot : ℕ
-  pub air : AirValue
-  pub received : Received
-  pub got : Gave
-  pub legal : AreLegalTags (tags_behind start past)
-  pub behind : IsBehind start.link (next_record start round slot command past) air got
-  pub came : got ≢ gots.Silence
-  pub heard : IsReceived (table_of air.link.code) (extended || air.link.trext) expect air.stream received
+-- what is received of the stream of an exchange is received of the levels of its record
+received-of : {link : LinkValue} {sent : Record} {air : AirValue} {got : Gave} → IsBehind link sent air got → (extended : Bool) (expect : Expect) (received : Received)
+    → IsReceived (table_of air.link.code) (extended || air.link.trext) expect air.stream received
+    → IsReceived (table_of link.code) (extended || link.trext) expect (heard_levels link sent.given) received
+received-of {link} {air} behind extended expect received heard =
+    subst (λ (levels : List Bool). IsReceived (table_of link.code) (extended || link.trext) expect levels received) behind.stream
+    (subst (λ (l : LinkValue). IsReceived (table_of l.code) (extended || l.trext) expect air.stream received) behind.link_is heard)
 
--- ... as the record says
-received-of : (start : Start) (past : List Item) (command : Command) (expect : Expect) (extended : Bool) (s : StreamCame start past command expect extended)
-    → IsReceived (table_of start.link.code) (extended || start.link.trext) expect (heard_levels start.link (next_record start s.round s.slot command past).given) s.received
-received-of start past command expect extended s =
-    subst (λ (levels : List Bool). IsReceived (table_of start.link.code) (extended || start.link.trext) expect levels s.received) s.behind.stream
-    (subst (λ (l : LinkValue). IsReceived (table_of l.code) (extended || l.trext) expect s.air.stream s.received) s.behind.link_is s.heard)
-
-given-came : (start : Start) (past : List Item) (command : Command) (expect : Expect) (extended : Bool) (s : StreamCame start past command expect extended)
-    → got_of start.link (next_record start s.round s.slot command past).given ≢ gots.Silence
-given-came start past command expect extended s = λ none. s.came (s.behind.got_is ∙ none)
-
--- what is received of it, where the command of an inventory awaits it
-pub inventory-heard : TagLaws → (start : Start) (past : List Item) (command : Command) (expect : Expect) (s : StreamCame start past command expect false)
-    → expectation_of command ≡ Some expect → reception_from s.received ≡ reception_of expect (next_record start s.round s.slot command past).given
-inventory-heard laws start past command expect s asked =
-    let entry : Entry = next_entry start past in
-    let tags : List TagValue = tags_behind start past in
-    sym
-    (stream_reception start.link expect (next_record start s.round s.slot command past).given s.received (given-in-expected laws start command expect entry tags asked s.legal)
-    (given_is_read start.link (replies_in command entry tags) entry.choice start.several) (given-came start past command expect false s)
-    (received-of start past command expect false s))
+-- what is received of the stream of an exchange, where the command of an inventory awaits it, is what the record says
+pub inventory-heard : {link : LinkValue} {sent : Record} {air : AirValue} {got : Gave} → IsBehind link sent air got → (expect : Expect) (received : Received) → IsGivenFor expect sent.given → IsReadBy link sent.given
+    → got ≢ gots.Silence → IsReceived (table_of air.link.code) air.link.trext expect air.stream received → reception_from received ≡ reception_of expect sent.given
+inventory-heard {link} {sent} {got} behind expect received expected read came heard =
+    sym (stream_reception link expect sent.given received expected read (λ none. came (behind.got_is ∙ none)) (received-of behind false expect received heard))
 
 -- ... and where one of a dialogue does
-pub dialogue-heard : TagLaws → (start : Start) (past : List Item) (command : Command) (expect : Expect) (extended : Bool) (s : StreamCame start past command expect extended)
-    → Expects command expect extended → reception_from s.received ≡ operation_reception start s.round s.slot command expect extended past
-dialogue-heard laws start past command expect extended s asked =
-    let entry : Entry = next_entry start past in
-    let tags : List TagValue = tags_behind start past in
-    sym
-    (awaited_reception start.link extended expect (next_record start s.round s.slot command past).given s.received (given-unmistakable laws start command expect extended entry tags asked s.legal)
-    (given_is_read start.link (replies_in command entry tags) entry.choice start.several) (given-came start past command expect extended s)
-    (received-of start past command expect extended s))
+pub dialogue-heard : {link : LinkValue} {sent : Record} {air : AirValue} {got : Gave} → IsBehind link sent air got → (expect : Expect) (extended : Bool) (received : Received)
+    → HoldsOfSent (IsUnmistakable expect) sent.given → IsReadBy link sent.given → got ≢ gots.Silence
+    → IsReceived (table_of air.link.code) (extended || air.link.trext) expect air.stream received → reception_from received ≡ reception_with link.trext extended expect sent.given
+dialogue-heard {link} {sent} behind expect extended received unmistakable read came heard =
+    sym (awaited_reception link extended expect sent.given received unmistakable read (λ none. came (behind.got_is ∙ none)) (received-of behind extended expect received heard))
 
 -- what a slot command with a stream brings, by the RN16 that comes whole
 abbrev pub rn16_reception : Option ℕ → Reception
@@ -103,53 +72,44 @@ rn16-heard t trext levels (receiveds.Whole (replies.Rn16 own)) rn is found = ap 
 rn16-heard t trext levels (receiveds.Whole reply) rn is found = absurd is.answers.suits
 rn16-heard t trext levels (receiveds.Refused place) rn is found = ap rn16_reception found
 
--- what is heard changes nothing of a run
-pub run-kept : (start : Start) (earlier : ℕ) (past : List Item) (air : AirValue) (run later : RunValue) → later ≡ run → RunIsAt start earlier past air run → RunIsAt start earlier past air later
-run-kept start earlier past air run later same at = subst (λ (r : RunValue). RunIsAt start earlier past air r) (sym same) at
-
--- the lines behind an exchange: what is told of it, then what it lists
-lines-exchanged : (start : Start) (sent : Record) (past : List Item)
-    → lines_to_tell start (exchanged sent ∷ past) ≡ (lines_to_tell start past ++ exchange_lines start.link sent) ++ map list_line (listed_by sent)
-lines-exchanged start sent past = sym (append_assoc (lines_to_tell start past) (exchange_lines start.link sent) (map list_line (listed_by sent)))
+-- behind an exchange that lists these, which were told
+stands-exchanged : {A : Type 0} {hears : A → List ReportLine → A → Type 0} {begun : Begun A} {past : List Item} {sent : Record} {air : AirValue} {run after : RunValue} {report next : A} {got : Gave}
+    (listed : List Listed) → IsSent hears begun past sent air run report got → listed_by sent ≡ listed → after ≡ run
+    → hears begun.first ((lines_to_tell begun.start past ++ exchange_lines begun.start.link sent) ++ map list_line listed) next → StandsAt hears begun (exchanged sent ∷ past) air after next
+stands-exchanged {hears} {begun} {past} {sent} {air} {next} listed is lists same heard =
+    let before : List ReportLine = lines_to_tell begun.start past in
+    let lines : List ReportLine = exchange_lines begun.start.link sent in
+    record {
+      at = subst (λ (r : RunValue). RunIsAt begun.start begun.earlier (exchanged sent ∷ past) air r) (sym same) is.at;
+      heard = subst (λ (all : List ReportLine). hears begun.first all next)
+          (append_assoc before lines (map list_line listed) ∙ ap (λ (l : List Listed). before ++ (lines ++ map list_line l)) (sym lists)) heard;
+    }
 
 -- where an exchange lists nothing
-pub stands-unlisted : (Heard : List ReportLine → Type 0) (at : RunBehind) (sent : Record) → RunIsAt at.start at.earlier (exchanged sent ∷ at.past) at.air at.run
-    → Heard (lines_to_tell at.start at.past ++ exchange_lines at.start.link sent) → listed_by sent ≡ [] → StandsAt Heard at.start at.earlier (exchanged sent ∷ at.past) at.air at.run
-stands-unlisted Heard at sent is told none =
-    let before : List ReportLine = lines_to_tell at.start at.past ++ exchange_lines at.start.link sent in
-    let lines : lines_to_tell at.start (exchanged sent ∷ at.past) ≡ before =
-    lines-exchanged at.start sent at.past ∙ ap (λ (l : List Listed). before ++ map list_line l) none ∙ append-nil before in
-    record { at = is; told = subst Heard (sym lines) told }
+pub stands-unlisted : {A : Type 0} {hears : A → List ReportLine → A → Type 0} {begun : Begun A} {past : List Item} {sent : Record} {air : AirValue} {run after : RunValue} {report : A} {got : Gave}
+    → IsSent hears begun past sent air run report got → listed_by sent ≡ [] → after ≡ run → StandsAt hears begun (exchanged sent ∷ past) air after report
+stands-unlisted {hears} {begun} {past} {sent} {report} is none same =
+    stands-exchanged [] is none same
+    (subst (λ (lines : List ReportLine). hears begun.first lines report) (sym (append-nil (lines_to_tell begun.start past ++ exchange_lines begun.start.link sent))) is.heard)
 
--- where it lists one tag
-pub stands-listed : (Heard : List ReportLine → Type 0) (at : RunBehind) (sent : Record) (listed : Listed) → RunIsAt at.start at.earlier (exchanged sent ∷ at.past) at.air at.run
-    → Heard ((lines_to_tell at.start at.past ++ exchange_lines at.start.link sent) ++ list_line listed ∷ []) → listed_by sent ≡ listed ∷ []
-    → StandsAt Heard at.start at.earlier (exchanged sent ∷ at.past) at.air at.run
-stands-listed Heard at sent listed is told one =
-    let before : List ReportLine = lines_to_tell at.start at.past ++ exchange_lines at.start.link sent in
-    let lines : lines_to_tell at.start (exchanged sent ∷ at.past) ≡ before ++ list_line listed ∷ [] =
-    lines-exchanged at.start sent at.past ∙ ap (λ (l : List Listed). before ++ map list_line l) one in
-    record { at = is; told = subst Heard (sym lines) told }
-
--- what was told before, and what stands when more was told
-pub stands-then : {A : Type 0} (l : Listening A) (first : A) (before between : List ReportLine) (at : RunBehind)
-    → PassesOn l.hears before first l.old between → Stands (IsTold l between) at → Stands (PassesOn l.hears before first l.new) at
-stands-then l first before between at told stands = record {
-  at = stands.at;
-  told = passes-then l first before between (lines_to_tell at.start at.past) told stands.told;
-}
+-- where it lists one tag, which was told
+pub stands-listed : {A : Type 0} {hears : A → List ReportLine → A → Type 0} {begun : Begun A} {past : List Item} {sent : Record} {air : AirValue} {run after : RunValue} {report next : A} {got : Gave}
+    (listed : Listed) → IsSent hears begun past sent air run report got → listed_by sent ≡ listed ∷ [] → after ≡ run → Tells hears (list_line listed ∷ []) report next
+    → StandsAt hears begun (exchanged sent ∷ past) air after next
+stands-listed {begun} listed is one same told = stands-exchanged (listed ∷ []) is one same (told.on begun.first _ is.heard)
 
 -- what stands behind the same past
-pub stands-same : (Heard : List ReportLine → Type 0) (start : Start) (earlier : ℕ) (past same : List Item) (air : AirValue) (run : RunValue) → past ≡ same → StandsAt Heard start earlier same air run → StandsAt Heard start earlier past air run
-stands-same Heard start earlier past same air run is stands = subst (λ (p : List Item). StandsAt Heard start earlier p air run) (sym is) stands
+pub stands-same : {A : Type 0} {hears : A → List ReportLine → A → Type 0} {begun : Begun A} {past same : List Item} {air : AirValue} {run : RunValue} {report : A}
+    → past ≡ same → StandsAt hears begun same air run report → StandsAt hears begun past air run report
+stands-same {hears} {begun} {air} {run} {report} is stands = subst (λ (p : List Item). StandsAt hears begun p air run report) (sym is) stands
 
-command-unlisted : (sent : Record) (command : Command) → expectation_of command ≡ Some expects.Rn16 → reception_of_ack sent command ≡ no_stream
-command-unlisted sent (commands.Ack rn) asked = absurd (cc)
-command-unlisted sent command asked = refl
+not-ack : (sent : Record) (command : Command) → ((rn : ℕ) → command ≢ commands.Ack rn) → reception_of_ack sent command ≡ no_stream
+not-ack sent (commands.Ack rn) other = absurd (other rn refl)
+not-ack sent command other = refl
 
--- no slot command lists
-pub slot-unlisted : (sent : Record) → expectation_of sent.command ≡ Some expects.Rn16 → listed_by sent ≡ []
-slot-unlisted sent asked = ap (λ (r : Reception). listed_from sent r) (command-unlisted sent sent.command asked)
+-- no command but an ACK lists
+pub others-unlisted : (sent : Record) → ((rn : ℕ) → sent.command ≢ commands.Ack rn) → listed_by sent ≡ []
+others-unlisted sent other = ap (λ (r : Reception). listed_from sent r) (not-ack sent sent.command other)
 
 -- what the PC and the EPC that an ACK brings list
 pub whole-listed : (sent : Record) (reception : Reception) (pair : ℕ × List ℕ) → pair_received reception ≡ Some pair

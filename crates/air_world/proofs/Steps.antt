@@ -8,59 +8,43 @@ use Rattle.std.specs.Prelude.{All}
 use Rattle.air_channel.specs.Air.{AirValue, air_after_event}
 use Rattle.air_events.specs.declared.Event.{Event}
 use Rattle.tag_machine.specs.TagsInExchange.{AreLegalTags}
-use Rattle.air_model.specs.Past.{Start, Record, Item, befell, exchanges_in, rounds_in, tags_behind}
-use Rattle.air_world.proofs.Passing.{RunBehind, Stands}
-use Rattle.air_world.proofs.Rounds.{KeepsLimit, rounds-slot}
-use Rattle.air_world.specs.Playing.{RunValue, RunIsAt, IsPlayable, StandsAt, most_in_round, most_in_slot, most_slots}
+use Rattle.air_model.specs.Past.{Start, Item, befell, exchanges_in, rounds_in, tags_behind}
+use Rattle.air_world.proofs.Rounds.{rounds-slot}
+use Rattle.air_world.specs.Playing.{Begun, RunValue, RunIsAt, IsPlayable, StandsAt, most_in_round, most_in_slot, most_slots}
 use Rattle.air_world.specs.Telling.{lines_to_tell}
-use Rattle.command_grammar.specs.declared.commands.Command.{Command}
-use Rattle.command_grammar.specs.declared.commands.Command.TheVariants as commands
-use Rattle.reply_grammar.specs.Reception.{Reception, no_stream}
 use Rattle.report_lines.specs.ReportLine.{ReportLine}
-use Rattle.runs.proofs.Growth.{Grows, steps-grow, round-holds}
+use Rattle.runs.proofs.Growth.{Grows, RoundsKeepLimit, steps-grow, round-holds}
 use Rattle.runs.proofs.HeadlineCounts.{round-exchanges}
 use Rattle.runs.proofs.HeadlineLegal.{legal-step}
 use Rattle.runs.proofs.Tags.{tags-befell, length-tags}
 use Rattle.runs.specs.Headline.{most_operating}
 use Rattle.runs.specs.History.{past_behind, past_behind_step}
-use Rattle.runs.specs.NextItem.{expectation_of}
-use Rattle.runs.specs.Listing.{reception_of_ack, listed_from, listed_by}
 use Rattle.scenario.specs.declared.values.Step.{Step}
 use Rattle.scenario.specs.declared.values.Step.TheVariants as steps
 
-command-unlisted : (sent : Record) (command : Command) → expectation_of command ≡ None → reception_of_ack sent command ≡ no_stream
-command-unlisted sent (commands.Ack rn) asked = absurd (cc)
-command-unlisted sent command asked = refl
-
--- a command to which no reply is expected lists nothing
-pub alone-unlisted : (sent : Record) → expectation_of sent.command ≡ None → listed_by sent ≡ []
-alone-unlisted sent asked = ap (λ (r : Reception). listed_from sent r) (command-unlisted sent sent.command asked)
-
 -- behind an event
-pub stands-befell : (Heard : List ReportLine → Type 0) (at : RunBehind) (event : Event) (number : ℕ) (next : AirValue) → Stands Heard at
-    → next ≡ air_after_event at.air event number → AreLegalTags next.tags → StandsAt Heard at.start at.earlier (befell event number ∷ at.past) next at.run
-stands-befell Heard at event number next stands is legal =
+pub stands-befell : {A : Type 0} {hears : A → List ReportLine → A → Type 0} {begun : Begun A} {past : List Item} {air : AirValue} {run : RunValue} {report : A} (event : Event) (number : ℕ) (next : AirValue)
+    → StandsAt hears begun past air run report → next ≡ air_after_event air event number → AreLegalTags next.tags → StandsAt hears begun (befell event number ∷ past) next run report
+stands-befell {hears} {begun} {past} {air} {report} event number next stands is legal =
     let was = stands.at in
-    let moved : next.tags ≡ tags_behind at.start (befell event number ∷ at.past) =
-    ap (λ (a : AirValue). a.tags) is ∙ ap (λ t. (air_after_event (record at.air { tags = t }) event number).tags) was.tags ∙ sym (tags-befell at.start event number at.past) in
     record {
       at = record {
         names = was.names;
         few = was.few;
         link = ap (λ (a : AirValue). a.link) is ∙ was.link;
         several = ap (λ (a : AirValue). a.several) is ∙ was.several;
-        tags = moved;
+        tags = ap (λ (a : AirValue). a.tags) is ∙ ap (λ t. (air_after_event (record air { tags = t }) event number).tags) was.tags ∙ sym (tags-befell begun.start event number past);
         legal = legal;
         exchanges = ap (λ (a : AirValue). a.exchanges) is ∙ was.exchanges;
         made = was.made;
         entries = was.entries;
         rounds = was.rounds;
       };
-      told = subst Heard (sym (append-nil (lines_to_tell at.start at.past))) stands.told;
+      heard = subst (λ (lines : List ReportLine). hears begun.first lines report) (sym (append-nil (lines_to_tell begun.start past))) stands.heard;
     }
 
 -- how many exchanges a step adds at most
-step-exchanges : KeepsLimit → (tags : ℕ) (start : Start) (step : Step) (past : List Item) → IsPlayable tags step
+step-exchanges : RoundsKeepLimit → (tags : ℕ) (start : Start) (step : Step) (past : List Item) → IsPlayable tags step
     → exchanges_in (past_behind_step start step past) ≤ exchanges_in past + most_in_round
 step-exchanges keeps tags start (steps.Select command) past is = omega arith
 step-exchanges keeps tags start steps.Nak past is = omega arith
@@ -72,7 +56,7 @@ step-exchanges keeps tags start (steps.Round spec operations) past is =
     omega (arith, most, round-exchanges keeps start operations spec past legal.legal)
 
 -- ... and how many rounds
-step-rounds : KeepsLimit → (tags : ℕ) (start : Start) (step : Step) (past : List Item) → IsPlayable tags step → rounds_in (past_behind_step start step past) ≤ rounds_in past + 1
+step-rounds : RoundsKeepLimit → (tags : ℕ) (start : Start) (step : Step) (past : List Item) → IsPlayable tags step → rounds_in (past_behind_step start step past) ≤ rounds_in past + 1
 step-rounds keeps tags start (steps.Select command) past is = omega arith
 step-rounds keeps tags start steps.Nak past is = omega arith
 step-rounds keeps tags start (steps.Event event number) past is = omega arith
@@ -102,9 +86,9 @@ pub record AreTaken (taken : StepsTaken) (index : ℕ) (past : List Item) : Type
   pub rounds : rounds_in past ≤ rounds_in taken.before + index
 
 -- before the step with this number
-pub record StepsUnderway (Heard : List ReportLine → Type 0) (earlier : ℕ) (taken : StepsTaken) (index : ℕ) (air : AirValue) (run : RunValue) : Type 0 where
+pub record StepsUnderway {A : Type 0} (hears : A → List ReportLine → A → Type 0) (begun : Begun A) (taken : StepsTaken) (index : ℕ) (air : AirValue) (run : RunValue) (report : A) : Type 0 where
   pub past : List Item
-  pub stands : StandsAt Heard taken.start earlier past air run
+  pub stands : StandsAt hears begun past air run report
   pub are : AreTaken taken index past
 
 -- a step among others
@@ -112,8 +96,9 @@ pub step-legal : (tags : ℕ) (list : List Step) (index : ℕ) (step : Step) →
 step-legal tags list index step inside is all = subst (λ (s : Step). IsPlayable tags s) (sym is) (All-get_or (IsPlayable tags) list index step inside all)
 
 -- the number of tags stays
-pub same-count : (start : Start) (earlier : ℕ) (past later : List Item) (air next : AirValue) (run then_run : RunValue) → RunIsAt start earlier past air run → RunIsAt start earlier later next then_run → length next.tags ≡ length air.tags
-same-count start earlier past later air next run then_run plays goes = ap length goes.tags ∙ length-tags start later ∙ sym (ap length plays.tags ∙ length-tags start past)
+pub same-count : {start : Start} {earlier : ℕ} {past later : List Item} {air next : AirValue} {run then_run : RunValue} → RunIsAt start earlier past air run → RunIsAt start earlier later next then_run
+    → length next.tags ≡ length air.tags
+same-count {start} {past} {later} plays goes = ap length goes.tags ∙ length-tags start later ∙ sym (ap length plays.tags ∙ length-tags start past)
 
 step-drop : (list : List Step) (index : ℕ) (step : Step) → index < length list → step ≡ get_or list index step → drop index list ≡ step ∷ drop (index + 1) list
 step-drop list index step inside is =
@@ -130,7 +115,7 @@ steps-rest : (taken : StepsTaken) (index : ℕ) (step : Step) (past : List Item)
 steps-rest taken index step past are at = ap (λ (l : List Step). past_behind taken.start l past) (sym (step-drop taken.steps index step at.inside at.is)) ∙ are.rest
 
 -- one step more
-pub steps-go-on : KeepsLimit → (taken : StepsTaken) (tags index : ℕ) (step : Step) (past : List Item) → AreTaken taken index past → IsStepAt taken index step → IsPlayable tags step
+pub steps-go-on : RoundsKeepLimit → (taken : StepsTaken) (tags index : ℕ) (step : Step) (past : List Item) → AreTaken taken index past → IsStepAt taken index step → IsPlayable tags step
     → AreTaken taken (index + 1) (past_behind_step taken.start step past)
 steps-go-on keeps taken tags index step past are at playable = record {
   rest = steps-rest taken index step past are at;

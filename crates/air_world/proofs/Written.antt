@@ -3,8 +3,7 @@ use Rattle.std.proofs.Common.{◌≡◌, inl, inr, ℕ, List, ◌++◌, Option, 
 use Rattle.std.proofs.lemmas.List.{append-nil}
 use Rattle.air_channel.specs.Air.{AirValue}
 use Rattle.air_io.specs.Flow.{Adds}
-use Rattle.air_world.proofs.Passing.{Listening}
-use Rattle.air_world.specs.Telling.{EndsOrFails, IsCutShort, IsPlayed, IsWritten}
+use Rattle.air_world.specs.Telling.{IsWritten, PlaysOrFails}
 use Rattle.report_lines.specs.ReportLine.{ReportLine}
 use Rattle.report_lines.specs.ModeReport.{line_of_mode, mode_behind, new_spelling}
 use Rattle.report_lines.specs.TextReport.{IsAdded, spelling_behind, text_from}
@@ -59,15 +58,15 @@ abbrev pub IsAddedTo : SinkChange → List ℕ → Option PlayFault → Type 0
 IsAddedTo sink text fault = IsAdded text sink.first sink.written sink.before sink.after fault
 
 -- how a run ended is what it told, in the spelling of a mode
-pub run-written : {A : Type 0} (l : Listening A) (r : Result (Unit {0}) PlayFault) (mode : Mode) (scenario : Scenario) (sink : SinkChange) (air : AirValue)
-    → EndsOrFails r (IsPlayed l.hears l.failed scenario l.old l.new air) (IsCutShort l.hears l.failed l.old l.new (run_lines (start_of scenario) scenario.steps))
-    → ((lines : List ReportLine) → l.hears l.old lines l.new → IsAddedTo sink (told_text (spelling_for mode scenario) lines) (l.failed l.new))
+pub run-written : {A : Type 0} (hears : A → List ReportLine → A → Type 0) (failed : A → Option PlayFault) (old new : A)
+    (r : Result (Unit {0}) PlayFault) (mode : Mode) (scenario : Scenario) (sink : SinkChange) (air : AirValue) → PlaysOrFails hears failed r scenario old new air
+    → ((lines : List ReportLine) → hears old lines new → IsAddedTo sink (told_text (spelling_for mode scenario) lines) (failed new))
     → IsWritten r mode scenario sink.first sink.written sink.before sink.after air
-run-written l (Ok done) mode scenario sink air played adds =
+run-written hears failed old new (Ok done) mode scenario sink air played adds =
     let added = adds (run_lines (start_of scenario) scenario.steps) played.told in
     record {
       report = subst (λ (text : List ℕ). Adds sink.first sink.written text) (report-told mode scenario)
-          (all-added _ sink.first sink.written sink.before sink.after (l.failed l.new) played.faultless added);
+          (all-added _ sink.first sink.written sink.before sink.after (failed new) played.faultless added);
       tags = played.tags;
       exchanges = played.exchanges;
       write = λ is. absurd (cc);
@@ -76,8 +75,8 @@ run-written l (Ok done) mode scenario sink air played adds =
       part = tt;
       count = added.count;
     }
-run-written l (Err fault) mode scenario sink air cut adds =
-    let added = adds cut.front cut.told in
+run-written hears failed old new (Err fault) mode scenario sink air cut adds =
+    let added = adds cut.front cut.heard in
     let later : List ℕ = told_text (behind_lines (spelling_for mode scenario) cut.front) cut.rest in
     record {
       report = tt;

@@ -16,23 +16,23 @@ use Rattle.scenario.specs.declared.values.Scenario.{Scenario}
 abbrev pub lines_to_tell : Start → List Item → List ReportLine
 lines_to_tell start past = past_lines start.link past
 
--- who had heard the lines before has heard these when the listener has become the new one
-pub record PassesOn {A : Type 0} (hears : A → List ReportLine → A → Type 0) (before : List ReportLine) (old new : A) (after : List ReportLine) : Type 0 where
-  pub on : (first : A) → hears first before old → hears first after new
+-- these lines are told: who had heard some lines has then heard these behind them
+pub record Tells {A : Type 0} (hears : A → List ReportLine → A → Type 0) (lines : List ReportLine) (old new : A) : Type 0 where
+  pub on : (first : A) (before : List ReportLine) → hears first before old → hears first (before ++ lines) new
 
--- a run was cut off by this fault, and a front of these lines was told
-pub record IsCut (Told : List ReportLine → Type 0) (Cause : PlayFault → Type 0) (whole : List ReportLine) (fault : PlayFault) : Type 0 where
+-- a run was cut off by this fault, and a front of these lines was heard
+pub record IsCut (Heard : List ReportLine → Type 0) (Cause : PlayFault → Type 0) (whole : List ReportLine) (fault : PlayFault) : Type 0 where
   pub front : List ReportLine
   pub rest : List ReportLine
   pub split : whole ≡ front ++ rest
-  pub told : Told front
+  pub heard : Heard front
   pub cause : Cause fault
 
--- a run was cut off by this fault, which is the first of the listener, and a front of these lines was told
-abbrev pub IsCutOff : {A : Type 0} → (A → List ReportLine → A → Type 0) → (A → Option PlayFault) → (before : List ReportLine) → (old new : A) → (whole : List ReportLine) → PlayFault → Type 0
-IsCutOff hears failed before old new = IsCut (PassesOn hears before old new) (λ fault. failed new ≡ Some fault)
+-- a run was cut off by this fault, which is the first of the listener, and a front of these lines was heard
+abbrev pub IsCutOff : {A : Type 0} → (A → List ReportLine → A → Type 0) → (A → Option PlayFault) → (first new : A) → (whole : List ReportLine) → PlayFault → Type 0
+IsCutOff hears failed first new = IsCut (λ lines. hears first lines new) (λ fault. failed new ≡ Some fault)
 
--- a run was cut off by the first fault of the listener, or by lack of memory where it met none; it was told a front of these lines, and no more
+-- a run was cut off by the first fault of the listener, or by lack of memory where it met none; a front of these lines was heard, and no more
 abbrev pub IsCutShort : {A : Type 0} → (A → List ReportLine → A → Type 0) → (A → Option PlayFault) → (old new : A) → (whole : List ReportLine) → PlayFault → Type 0
 IsCutShort hears failed old new = IsCut (λ lines. hears old lines new) (λ fault. (failed new ≡ Some fault) ⊎ ((fault ≡ OutOfMemory) × (failed new ≡ None)))
 
@@ -47,6 +47,11 @@ pub record IsPlayed {A : Type 0} (hears : A → List ReportLine → A → Type 0
   pub faultless : failed new ≡ None
   pub tags : air.tags ≡ tags_behind (start_of scenario) (history scenario)
   pub exchanges : air.exchanges ≡ exchanges_in (history scenario)
+
+-- a run was told whole, or cut short
+abbrev pub PlaysOrFails : {A : Type 0} → (A → List ReportLine → A → Type 0) → (A → Option PlayFault) → Result (Unit {0}) PlayFault → Scenario → (old new : A) → AirValue → Type 0
+PlaysOrFails hears failed result scenario old new air =
+    EndsOrFails result (IsPlayed hears failed scenario old new air) (IsCutShort hears failed old new (run_lines (start_of scenario) scenario.steps))
 
 -- how a run ended, as far as it was written
 pub record IsWritten (r : Result (Unit {0}) PlayFault) (mode : Mode) (scenario : Scenario) (first written : Option (List ℕ)) (before after : ℕ) (air : AirValue) : Type 0 where

@@ -3,16 +3,14 @@ ghost use Rattle.std.specs.Prelude.{◌≡◌, ◌≤◌, ◌++◌, ℕ, List, [
 ghost use Rattle.air_io.specs.Flow.{Adds, FaultsRose};
 ghost use Rattle.air_model.specs.Past.{exchanges_in, tags_behind};
 ghost use Rattle.air_world.specs.NewAir.{new_air};
-ghost use Rattle.air_world.specs.Playing.{RunIsAt, StandsAt};
-ghost use Rattle.air_world.specs.Telling.{EndsOrFails, IsCutOff, IsCutShort, IsPlayed, IsWritten, PassesOn, lines_to_tell};
-ghost use Rattle.report_lines.specs.SeenCounts.{seen_counts};
+ghost use Rattle.air_world.specs.Playing.{IsNewRun, StandsOrFails, begun_with};
+ghost use Rattle.air_world.specs.Telling.{IsWritten, PlaysOrFails};
 ghost use Rattle.report_lines.specs.ModeReport.{new_spelling};
 ghost use Rattle.report_lines.specs.declared.mode.Mode.{Mode as ReportMode};
 ghost use Rattle.runs.specs.CompleteRounds.{RoundsAreComplete};
 ghost use Rattle.runs.specs.Headline.{AreHeardAsListed, Headline};
-ghost use Rattle.runs.specs.Report.{report_of, report_text_of, run_lines};
+ghost use Rattle.runs.specs.Report.{report_of, report_text_of};
 ghost use Rattle.runs.specs.ScenarioStart.{history, start_of};
-ghost use Rattle.runs.specs.Summary.{pairs_in};
 ghost use Rattle.scenario.specs.Limits.{IsScenario};
 
 use crate::run::{Run, check, tell_link};
@@ -111,10 +109,7 @@ pub(crate) fn tell_scenario<R: Listener>(
     requires scenario { IsScenario scenario.now }
     requires fresh { air.old ≡ new_air (start_of scenario.now) }
     requires faultless { R.failed report.old ≡ None }
-    ensures { EndsOrFails result
-        (IsPlayed R.hears R.failed scenario.now report.old report.new air.new)
-        (IsCutShort R.hears R.failed report.old report.new
-        (run_lines (start_of scenario.now) scenario.now.steps)) }
+    ensures { PlaysOrFails R.hears R.failed result scenario.now report.old report.new air.new }
 {
     tell_run::<Brand, R>(Blank::new(1), alloc, scenario, air, report)
 }
@@ -134,81 +129,46 @@ fn tell_run<L: Ledger, R: Listener>(
     requires scenario { IsScenario scenario.now }
     requires fresh { air.old ≡ new_air (start_of scenario.now) }
     requires faultless { R.failed report.old ≡ None }
-    ensures { EndsOrFails result
-        (IsPlayed R.hears R.failed scenario.now report.old report.new air.new)
-        (IsCutShort R.hears R.failed report.old report.new
-        (run_lines (start_of scenario.now) scenario.now.steps)) }
+    ensures { PlaysOrFails R.hears R.failed result scenario.now report.old report.new air.new }
 {
     prove!(air.len() <= u32::from(MOST_TAGS));
     let bits = Bits::new(alloc, LONGEST_STREAM)?;
     let empty = empty_entry(alloc);
     let entries = EntryCursor::new(scenario.entries.as_slice(), &empty);
     let mut run = Run::<L>::new(entries, Steps::new(blank), bits);
-    let mut seen = SeenCounts::new(alloc);
-    tell_whole(scenario, air, &mut run, &mut seen, report)
+    let mut listener = SeenListener::new(report, SeenCounts::new(alloc));
+    tell_whole(scenario, air, &mut run, &mut listener)
 }
 
-/// Tells a listener all of a run, which is lent for it with its counts, so that they are dropped at one place.
-fn tell_whole<'a, L: Ledger, R: Listener>(
+/// Tells a listener, through one that has counted nothing yet, all of a run.
+fn tell_whole<'a, 'r, L: Ledger, R: Listener>(
     scenario: &Scenario,
     air: &mut Air,
     run: &mut Run<'a, L>,
-    seen: &mut SeenCounts,
-    report: &mut R,
+    listener: &mut SeenListener<'r, R>,
 ) -> Result<(), PlayFault>
-    requires scenario { IsScenario scenario.now }
-    requires fresh { air.old ≡ new_air (start_of scenario.now) }
-    requires at { RunIsAt (start_of scenario.now) 0 [] air.old run.old }
-    requires none { seen.old ≡ [] }
-    ensures { EndsOrFails result
-        (IsPlayed R.hears R.failed scenario.now report.old report.new air.new)
-        (IsCutShort R.hears R.failed report.old report.new
-        (run_lines (start_of scenario.now) scenario.now.steps)) }
+    requires first { IsNewRun scenario.now air.old run.old }
+    requires seen { listener.old.seen ≡ [] }
+    ensures report { listener.new.report.ghost_name ≡ listener.old.report.ghost_name }
+    ensures told { PlaysOrFails R.hears R.failed result scenario.now listener.old.report.now
+        listener.new.report.now air.new }
 {
     round_laws();
-    tell_steps(scenario, air, run, seen, report)?;
-    run.finish(air, seen, report);
-    check(report)
+    tell_steps(scenario, air, run, listener)?;
+    run.finish(air, &listener.seen, listener.report);
+    check(listener.report)
 }
 
-/// Tells a listener all of a run up to its last step, and counts how often each pair of PC and EPC was listed.
+/// Tells a listener all of a run up to its last step.
 fn tell_steps<'a, L: Ledger, R: Listener>(
     scenario: &Scenario,
     air: &mut Air,
     run: &mut Run<'a, L>,
-    seen: &mut SeenCounts,
     report: &mut R,
 ) -> Result<(), PlayFault>
-    requires scenario { IsScenario scenario.now }
-    requires fresh { air.old ≡ new_air (start_of scenario.now) }
-    requires at { RunIsAt (start_of scenario.now) 0 [] air.old run.old }
-    requires none { seen.old ≡ [] }
-    ensures ends { EndsOrFails result
-        (StandsAt (λ lines. R.hears report.old lines report.new) (start_of scenario.now) 0
-        (history scenario.now) air.new run.new)
-        (IsCutShort R.hears R.failed report.old report.new
-        (lines_to_tell (start_of scenario.now) (history scenario.now))) }
-    ensures seen { OnOk result (seen.new ≡ seen_counts (pairs_in (history scenario.now))) }
-{
-    let mut listener = SeenListener::new(report, seen);
-    tell_to_last_step(scenario, air, run, &mut listener)
-}
-
-/// Tells a listener all of a run up to its last step.
-fn tell_to_last_step<'a, L: Ledger, R: Listener>(
-    scenario: &Scenario,
-    air: &mut Air,
-    run: &mut Run<'a, L>,
-    report: &mut R,
-) -> Result<(), PlayFault>
-    requires scenario { IsScenario scenario.now }
-    requires fresh { air.old ≡ new_air (start_of scenario.now) }
-    requires at { RunIsAt (start_of scenario.now) 0 [] air.old run.old }
-    ensures ends { EndsOrFails result
-        (StandsAt (PassesOn R.hears [] report.old report.new) (start_of scenario.now) 0
-        (history scenario.now) air.new run.new)
-        (IsCutOff R.hears R.failed [] report.old report.new
-        (lines_to_tell (start_of scenario.now) (history scenario.now))) }
+    requires { IsNewRun scenario.now air.old run.old }
+    ensures ends { StandsOrFails R.hears R.failed result (begun_with scenario.now report.old)
+        (history scenario.now) air.new run.new report.new }
     ensures faultless { OnOk result (R.failed report.new ≡ None) }
 {
     tell_link(air, report);

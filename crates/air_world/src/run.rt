@@ -1,19 +1,17 @@
 //! A run that is under way.
-ghost use Rattle.std.specs.Prelude.{◌≡◌, ℕ, ◌+◌, ◌≤◌, ◌++◌, length, List, [], ◌∷◌, Some, None, OnOk, IfErr, IfOk};
+ghost use Rattle.std.specs.Prelude.{◌≡◌, ℕ, ◌≤◌, length, List, [], ◌∷◌, Some, None, OnOk, IfErr, IfOk};
 ghost use Rattle.air_events.specs.Streams.{longest_stream};
-ghost use Rattle.air_model.specs.Past.{Item, Start, next_record, past_behind_command};
-ghost use Rattle.air_world.specs.Playing.{RunIsAt, StandsAt, IsBetweenSteps, IsEndedBy, RunIsUnderway, most_in_slot};
-ghost use Rattle.air_world.specs.Saying.{IsBehind};
-ghost use Rattle.air_world.specs.Telling.{EndsOrFails, IsCutOff, PassesOn, lines_to_tell};
+ghost use Rattle.air_model.specs.Past.{Item, next_record};
+ghost use Rattle.air_world.specs.Playing.{Begun, IsBetweenSteps, IsEndedBy, IsSent, IsUnderway, StandsAt, StandsOrFails, most_in_slot};
+ghost use Rattle.air_world.specs.Telling.{Tells};
 ghost use Rattle.line_codes.specs.Codes.{table_of};
 ghost use Rattle.reply_grammar.specs.Reception.{reception_from};
 ghost use Rattle.reply_grammar.specs.declared.expected.Received.{Received};
 ghost use Rattle.reply_wire.specs.Heard.{pair_received, rn16_received};
 ghost use Rattle.reply_wire.specs.Received.{IsReceived};
-ghost use Rattle.report_lines.specs.ReportLine.{ReportLine, ListLine, RoundLine};
+ghost use Rattle.report_lines.specs.ReportLine.{ListLine, RoundLine};
 ghost use Rattle.runs.specs.History.{outcome_of, past_behind_ack, past_behind_round, past_behind_slot, slot_reception};
 ghost use Rattle.runs.specs.NextItem.{expectation_of};
-ghost use Rattle.runs.specs.Report.{exchange_lines};
 
 mod head_and_end;
 mod operating;
@@ -88,18 +86,11 @@ impl<'a, L: Ledger> Run<'a, L> {
 
     /// Sends a command, in one exchange, tells of it, and says whom the channel gave.
     fn send<R: Listener>(&mut self, air: &mut Air, command: &Command, report: &mut R) -> Got
-        requires { RunIsUnderway 1 air.old self.old }
-        ensures plays { (start : Start) (earlier : ℕ) (past : List Item) (round slot : ℕ)
-            → RunIsAt start earlier past air.old self.old
-            → RunIsAt start earlier
-            (past_behind_command start round slot command.now past) air.new self.new }
-        ensures behind { (start : Start) (earlier : ℕ) (past : List Item) (round slot : ℕ)
-            → RunIsAt start earlier past air.old self.old
-            → IsBehind start.link (next_record start round slot command.now past) air.new result }
-        ensures told { (start : Start) (earlier : ℕ) (past : List Item) (round slot : ℕ)
-            (before : List ReportLine) → RunIsAt start earlier past air.old self.old
-            → PassesOn R.hears before report.old report.new
-            (before ++ exchange_lines start.link (next_record start round slot command.now past)) }
+        requires { IsUnderway R.hears 1 air.old self.old report.old }
+        ensures { (begun : Begun R) (past : List Item) (round slot : ℕ)
+            → StandsAt R.hears begun past air.old self.old report.old
+            → IsSent R.hears begun past (next_record begun.start round slot command.now past)
+            air.new self.new report.new result }
     {
         answers_are_replies();
         steps_keep_tags_legal();
@@ -150,19 +141,16 @@ impl<'a, L: Ledger> Run<'a, L> {
         operations: &OpList,
         report: &mut R,
     ) -> Result<RoundEnd, PlayFault>
-        requires between { IsBetweenSteps 1 air.old self.old }
+        requires between { IsBetweenSteps R.hears 1 air.old self.old report.old }
         requires few { length operations.now.ops ≤ 32 }
-        ensures ends { (start : Start) (earlier : ℕ) (past : List Item)
-            → RunIsAt start earlier past air.old self.old
-            → EndsOrFails result
-            (StandsAt (PassesOn R.hears (lines_to_tell start past) report.old report.new) start
-            earlier (past_behind_round start operations.now spec.now past) air.new self.new)
-            (IsCutOff R.hears R.failed (lines_to_tell start past) report.old report.new
-            (lines_to_tell start (past_behind_round start operations.now spec.now past))) }
-        ensures end { (start : Start) (earlier : ℕ) (past : List Item)
-            → RunIsAt start earlier past air.old self.old
+        ensures ends { (begun : Begun R) (past : List Item)
+            → StandsAt R.hears begun past air.old self.old report.old
+            → StandsOrFails R.hears R.failed result begun
+            (past_behind_round begun.start operations.now spec.now past) air.new self.new report.new }
+        ensures end { (begun : Begun R) (past : List Item)
+            → StandsAt R.hears begun past air.old self.old report.old
             → IfOk result (λ end. IsEndedBy end
-            (past_behind_round start operations.now spec.now past)) }
+            (past_behind_round begun.start operations.now spec.now past)) }
     {
         round_laws();
         prove!(spec.limit() <= 70000);
@@ -182,9 +170,7 @@ impl<'a, L: Ledger> Run<'a, L> {
     /// Counts the end of a round, and tells of it.
     fn end_round<R: Listener>(&mut self, number: u32, end: RoundEnd, slots: u32, report: &mut R)
         ensures rest { self.new ≡ record self.old { rounds = number } }
-        ensures told { (before : List ReportLine)
-            → PassesOn R.hears before report.old report.new
-            (before ++ RoundLine number end slots ∷ []) }
+        ensures told { Tells R.hears (RoundLine number end slots ∷ []) report.old report.new }
     {
         self.rounds = number;
         report.tell(&Line::Round {
@@ -205,17 +191,17 @@ impl<'a, L: Ledger> Run<'a, L> {
         operations: &OpList,
         report: &mut R,
     ) -> Outcome
-        requires underway { RunIsUnderway most_in_slot air.old self.old }
+        requires underway { IsUnderway R.hears most_in_slot air.old self.old report.old }
         requires few { length operations.now.ops ≤ 32 }
         requires expects { expectation_of command.now ≡ Some Expect.Rn16 }
-        ensures stands { (start : Start) (earlier : ℕ) (past : List Item)
-            → RunIsAt start earlier past air.old self.old
-            → StandsAt (PassesOn R.hears (lines_to_tell start past) report.old report.new) start
-            earlier (past_behind_slot start operations.now round slot command.now past) air.new
-            self.new }
-        ensures outcome { (start : Start) (earlier : ℕ) (past : List Item)
-            → RunIsAt start earlier past air.old self.old
-            → result ≡ outcome_of (slot_reception start round slot command.now past) }
+        ensures stands { (begun : Begun R) (past : List Item)
+            → StandsAt R.hears begun past air.old self.old report.old
+            → StandsAt R.hears begun
+            (past_behind_slot begun.start operations.now round slot command.now past)
+            air.new self.new report.new }
+        ensures outcome { (begun : Begun R) (past : List Item)
+            → StandsAt R.hears begun past air.old self.old report.old
+            → result ≡ outcome_of (slot_reception begun.start round slot command.now past) }
     {
         answers_are_replies();
         steps_keep_tags_legal();
@@ -241,12 +227,12 @@ impl<'a, L: Ledger> Run<'a, L> {
         operations: &OpList,
         report: &mut R,
     )
-        requires underway { RunIsUnderway 130 air.old self.old }
+        requires underway { IsUnderway R.hears 130 air.old self.old report.old }
         requires few { length operations.now.ops ≤ 32 }
-        ensures { (start : Start) (earlier : ℕ) (past : List Item)
-            → RunIsAt start earlier past air.old self.old
-            → StandsAt (PassesOn R.hears (lines_to_tell start past) report.old report.new) start
-            earlier (past_behind_ack start operations.now round slot rn past) air.new self.new }
+        ensures { (begun : Begun R) (past : List Item)
+            → StandsAt R.hears begun past air.old self.old report.old
+            → StandsAt R.hears begun (past_behind_ack begun.start operations.now round slot rn past)
+            air.new self.new report.new }
     {
         answers_are_replies();
         steps_keep_tags_legal();
@@ -277,9 +263,7 @@ pub(crate) fn check<R: Listener>(report: &R) -> Result<(), PlayFault>
 
 /// Tells that a tag is listed.
 fn tell_listed<R: Listener>(round: u32, slot: u32, pc: u16, epc: &EpcWords, report: &mut R)
-    ensures { (before : List ReportLine)
-        → PassesOn R.hears before report.old report.new
-        (before ++ ListLine round slot pc epc.now ∷ []) }
+    ensures { Tells R.hears (ListLine round slot pc epc.now ∷ []) report.old report.new }
 {
     report.tell(&Line::List {
         round,

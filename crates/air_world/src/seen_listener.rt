@@ -7,22 +7,20 @@ ghost use Rattle.report_lines.specs.SeenCounts.{seen_counts};
 
 use report_lines::{Line, Listener, PlayFault, SeenCounts};
 
-/// Counts how often each pair of PC and EPC is listed, in the room that is lent for it, and tells another listener every
-/// line. Where there is no memory for a count, that is a fault behind those of the other listener.
+/// Counts how often each pair of PC and EPC is listed, and tells another listener every line. Where there is no memory for a count, that is a fault behind those of the other listener.
 #[derive(Drop)]
 pub(crate) struct SeenListener<'r, R: Listener> {
-    report: &'r mut R,
-    seen: &'r mut SeenCounts,
+    pub(crate) report: &'r mut R,
+    pub(crate) seen: SeenCounts,
     out_of_memory: bool,
 }
 
 impl<'r, R: Listener> SeenListener<'r, R> {
     /// Counts on from these counts.
-    pub(crate) fn new(report: &'r mut R, seen: &'r mut SeenCounts) -> SeenListener<'r, R>
+    pub(crate) fn new(report: &'r mut R, seen: SeenCounts) -> SeenListener<'r, R>
         ensures report { result.report.ghost_name ≡ report.entry.ghost_name }
         ensures told { result.report.now ≡ report.old }
-        ensures room { result.seen.ghost_name ≡ seen.entry.ghost_name }
-        ensures seen { result.seen.now ≡ seen.old }
+        ensures seen { result.seen ≡ seen }
         // Else every run might answer that there was no memory.
         ensures memory { result.out_of_memory ≡ false }
     {
@@ -37,11 +35,10 @@ impl<'r, R: Listener> SeenListener<'r, R> {
     fn count(&mut self, line: &Line<'_>)
         ensures rest { self.new
             ≡ record self.old { seen = self.new.seen; out_of_memory = self.new.out_of_memory } }
-        ensures room { self.new.seen.ghost_name ≡ self.old.seen.ghost_name }
         ensures memory { self.new.out_of_memory ≡ false → self.old.out_of_memory ≡ false }
         ensures seen { (lines : List ReportLine) → self.new.out_of_memory ≡ false
-            → self.old.seen.now ≡ seen_counts (pairs_told lines)
-            → self.new.seen.now ≡ seen_counts (pairs_told (lines ++ line_of line.now ∷ [])) }
+            → self.old.seen ≡ seen_counts (pairs_told lines)
+            → self.new.seen ≡ seen_counts (pairs_told (lines ++ line_of line.now ∷ [])) }
     {
         let Line::List { pc, epc, .. } = *line else {
             return;
@@ -58,9 +55,8 @@ impl<'r, R: Listener> Listener for SeenListener<'r, R> {
     ghost use Rattle.air_world.specs.Listing.{first_fault_of, pairs_told};
     ghost use Rattle.report_lines.specs.SeenCounts.{seen_counts};
 
-    ghost hears = { λ first lines later. (later.report.ghost_name ≡ first.report.ghost_name) × (later.seen.ghost_name ≡ first.seen.ghost_name)
-        × R.hears first.report.now lines later.report.now
-        × (first.seen.now ≡ [] → later.out_of_memory ≡ false → later.seen.now ≡ seen_counts (pairs_told lines)) };
+    ghost hears = { λ first lines later. (later.report.ghost_name ≡ first.report.ghost_name) × R.hears first.report.now lines later.report.now
+        × (first.seen ≡ [] → later.out_of_memory ≡ false → later.seen ≡ seen_counts (pairs_told lines)) };
 
     ghost failed = { λ listener. first_fault_of (R.failed listener.report.now) listener.out_of_memory };
 
@@ -87,5 +83,5 @@ impl<'r, R: Listener> Listener for SeenListener<'r, R> {
         self.report.wants_frames()
     }
 
-    ghost nothing = { λ listener. (refl, refl, R.nothing listener.report.now, λ fresh enough. fresh) };
+    ghost nothing = { λ listener. (refl, R.nothing listener.report.now, λ fresh enough. fresh) };
 }

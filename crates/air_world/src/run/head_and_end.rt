@@ -1,7 +1,7 @@
 //! What is told before and behind the steps.
-ghost use Rattle.std.specs.Prelude.{◌≡◌, ◌<◌, ◌++◌, List, [], ◌∷◌, Some, length, map, slice_get};
-ghost use Rattle.air_world.specs.Telling.{PassesOn};
-ghost use Rattle.report_lines.specs.ReportLine.{ReportLine, DoneLine, TagLine};
+ghost use Rattle.std.specs.Prelude.{◌≡◌, ◌<◌, ◌++◌, [], ◌∷◌, Some, length, map, slice_get};
+ghost use Rattle.air_world.specs.Telling.{Tells};
+ghost use Rattle.report_lines.specs.ReportLine.{DoneLine, TagLine};
 ghost use Rattle.report_lines.specs.SeenCounts.{SeenCount, seen_line};
 ghost use Rattle.runs.specs.Report.{first_lines, tag_lines};
 ghost use Rattle.tag_machine.specs.TagValue.{TagValue};
@@ -13,8 +13,7 @@ use std::sync::ledger::Ledger;
 
 /// Tells of the backscatter link frequency.
 pub(crate) fn tell_link<R: Listener>(air: &Air, report: &mut R)
-    ensures { (before : List ReportLine)
-        → PassesOn R.hears before report.old report.new (before ++ first_lines air.now.link) }
+    ensures { Tells R.hears (first_lines air.now.link) report.old report.new }
 {
     let (numerator, denominator) = air.link().blf();
     report.tell(&Line::Blf {
@@ -27,9 +26,9 @@ impl<'a, L: Ledger> Run<'a, L> {
     /// Tells how often each pair of PC and EPC was listed, what each tag is, and that this is all.
     pub(crate) fn finish<R: Listener>(&mut self, air: &mut Air, seen: &SeenCounts, report: &mut R)
         ensures air { air.new ≡ air.old }
-        ensures told { (before : List ReportLine)
-            → PassesOn R.hears before report.old report.new
-            (before ++ (map seen_line seen.now ++ tag_lines 0 air.old.tags ++ DoneLine ∷ [])) }
+        ensures told { Tells R.hears
+            (map seen_line seen.now ++ tag_lines 0 air.old.tags ++ DoneLine ∷ [])
+            report.old report.new }
     {
         tell_counts(seen, report);
         self.tell_tags(air, report);
@@ -39,8 +38,7 @@ impl<'a, L: Ledger> Run<'a, L> {
     /// Tells what each tag is.
     fn tell_tags<R: Listener>(&mut self, air: &mut Air, report: &mut R)
         ensures air { air.new ≡ air.old }
-        ensures told { (before : List ReportLine)
-            → PassesOn R.hears before report.old report.new (before ++ tag_lines 0 air.old.tags) }
+        ensures told { Tells R.hears (tag_lines 0 air.old.tags) report.old report.new }
     {
         for number in 0..air.len() {
             self.tell_tag(air, number, report);
@@ -51,9 +49,8 @@ impl<'a, L: Ledger> Run<'a, L> {
     fn tell_tag<R: Listener>(&mut self, air: &mut Air, number: u32, report: &mut R)
         requires { number < length air.old.tags }
         ensures air { air.new ≡ air.old }
-        ensures told { (before : List ReportLine) (tag : TagValue)
-            → slice_get air.old.tags number ≡ Some tag
-            → PassesOn R.hears before report.old report.new (before ++ TagLine number tag ∷ []) }
+        ensures told { (tag : TagValue) → slice_get air.old.tags number ≡ Some tag
+            → Tells R.hears (TagLine number tag ∷ []) report.old report.new }
     {
         let tag = air.tag(number, &mut self.steps);
         report.tell(&Line::Tag { number, tag });
@@ -62,8 +59,7 @@ impl<'a, L: Ledger> Run<'a, L> {
 
 /// Tells how often each pair of PC and EPC was listed.
 fn tell_counts<R: Listener>(seen: &SeenCounts, report: &mut R)
-    ensures { (before : List ReportLine)
-        → PassesOn R.hears before report.old report.new (before ++ map seen_line seen.now) }
+    ensures { Tells R.hears (map seen_line seen.now) report.old report.new }
 {
     for at in 0..seen.len() {
         tell_count(seen, at, report);
@@ -73,8 +69,8 @@ fn tell_counts<R: Listener>(seen: &SeenCounts, report: &mut R)
 /// Tells how often the pair with this number was listed.
 fn tell_count<R: Listener>(seen: &SeenCounts, at: usize, report: &mut R)
     requires { at < length seen.now }
-    ensures { (before : List ReportLine) (count : SeenCount) → slice_get seen.now at ≡ Some count
-        → PassesOn R.hears before report.old report.new (before ++ seen_line count ∷ []) }
+    ensures { (count : SeenCount) → slice_get seen.now at ≡ Some count
+        → Tells R.hears (seen_line count ∷ []) report.old report.new }
 {
     let Some((count, pc, epc)) = seen.get(at) else {
         unreachable!();

@@ -1,18 +1,17 @@
 //! The operations of a round with a tag that was listed.
-ghost use Rattle.std.specs.Prelude.{◌≡◌, ◌++◌, ◌||◌, ◌≤◌, ℕ, List, [], ◌∷◌, None, Some, length, if◌then◌else◌, option_copied};
+ghost use Rattle.std.specs.Prelude.{◌≡◌, ◌||◌, ◌≤◌, ℕ, List, [], ◌∷◌, None, Some, length, if◌then◌else◌, option_copied};
 ghost use Rattle.access_ops.specs.OpRunValue.{OpRunStandsFor};
 ghost use Rattle.access_ops.specs.Operations.{IsAnswerFor, dialogue_of, reception_in};
 ghost use Rattle.access_ops.specs.declared.op_next.Answer.TheVariants.{Got as GotAnswer};
 ghost use Rattle.access_ops.specs.laws.OperationLaws.{Expects};
 ghost use Rattle.air_events.specs.Streams.{longest_stream};
-ghost use Rattle.air_model.specs.Past.{Item, Start, next_record, past_behind_command};
-ghost use Rattle.air_world.specs.Playing.{RunIsAt, IsAtFirstOperation, RunIsUnderway, StandsAt};
-ghost use Rattle.air_world.specs.Telling.{PassesOn, lines_to_tell};
+ghost use Rattle.air_model.specs.Past.{Item, past_behind_command};
+ghost use Rattle.air_world.specs.Playing.{Begun, IsAtFirstOperation, IsUnderway, StandsAt};
+ghost use Rattle.air_world.specs.Telling.{Tells};
 ghost use Rattle.line_codes.specs.Codes.{table_of};
 ghost use Rattle.reply_wire.specs.Received.{IsReceived};
-ghost use Rattle.report_lines.specs.ReportLine.{ReportLine, OpLine};
+ghost use Rattle.report_lines.specs.ReportLine.{OpLine};
 ghost use Rattle.runs.specs.History.{operation_reception, past_behind_dialogue};
-ghost use Rattle.runs.specs.Report.{exchange_lines};
 
 use crate::receiving::receive_last;
 use crate::run::Run;
@@ -33,21 +32,20 @@ impl<'a, L: Ledger> Run<'a, L> {
         round: u32,
         slot: u32,
         operations: &OpList,
-        begun: OpRun,
+        first: OpRun,
         report: &mut R,
     )
-        requires underway { RunIsUnderway 129 air.old self.old }
+        requires underway { IsUnderway R.hears 129 air.old self.old report.old }
         requires few { length operations.now.ops ≤ 32 }
-        requires begun { IsAtFirstOperation begun operations.now }
-        ensures { (start : Start) (earlier : ℕ) (past : List Item) (epc : List ℕ) (rn : ℕ)
-            → RunIsAt start earlier past air.old self.old
-            → OpRunStandsFor begun operations.now epc rn []
-            → StandsAt (PassesOn R.hears (lines_to_tell start past) report.old report.new) start
-            earlier
-            (past_behind_dialogue start round slot 1 (dialogue_of operations.now epc rn) past)
-            air.new self.new }
+        requires first { IsAtFirstOperation first operations.now }
+        ensures { (begun : Begun R) (past : List Item) (epc : List ℕ) (rn : ℕ)
+            → StandsAt R.hears begun past air.old self.old report.old
+            → OpRunStandsFor first operations.now epc rn []
+            → StandsAt R.hears begun
+            (past_behind_dialogue begun.start round slot 1 (dialogue_of operations.now epc rn) past)
+            air.new self.new report.new }
     {
-        let mut run = begun;
+        let mut run = first;
         let mut next = OpNext::End;
         let mut answer = Answer::Silence;
         let mut is_answered = false;
@@ -83,21 +81,17 @@ impl<'a, L: Ledger> Run<'a, L> {
         answer: &mut Answer,
         report: &mut R,
     )
-        requires underway { RunIsUnderway 1 air.old self.old }
+        requires underway { IsUnderway R.hears 1 air.old self.old report.old }
         requires expects { Expects command.now expect.now extended }
-        ensures plays { (start : Start) (earlier : ℕ) (past : List Item) (round slot : ℕ)
-            → RunIsAt start earlier past air.old self.old
-            → RunIsAt start earlier
-            (past_behind_command start round slot command.now past) air.new self.new }
+        ensures stands { (begun : Begun R) (past : List Item) (round slot : ℕ)
+            → StandsAt R.hears begun past air.old self.old report.old
+            → StandsAt R.hears begun (past_behind_command begun.start round slot command.now past)
+            air.new self.new report.new }
         ensures expected { IsAnswerFor expect.now answer.new }
-        ensures heard { (start : Start) (earlier : ℕ) (past : List Item) (round slot : ℕ)
-            → RunIsAt start earlier past air.old self.old
+        ensures heard { (begun : Begun R) (past : List Item) (round slot : ℕ)
+            → StandsAt R.hears begun past air.old self.old report.old
             → reception_in answer.new
-            ≡ operation_reception start round slot command.now expect.now extended past }
-        ensures told { (start : Start) (earlier : ℕ) (past : List Item) (round slot : ℕ)
-            (before : List ReportLine) → RunIsAt start earlier past air.old self.old
-            → PassesOn R.hears before report.old report.new
-            (before ++ exchange_lines start.link (next_record start round slot command.now past)) }
+            ≡ operation_reception begun.start round slot command.now expect.now extended past }
     {
         answers_are_replies();
         steps_keep_tags_legal();
@@ -117,9 +111,7 @@ fn last_answer(is_answered: bool, answer: &Answer) -> Option<&Answer>
 
 /// Tells the result of the operation with this number, counted from 1.
 fn tell_result<R: Listener>(round: u32, slot: u32, index: u32, ended: &OpResult, report: &mut R)
-    ensures { (before : List ReportLine)
-        → PassesOn R.hears before report.old report.new
-        (before ++ OpLine round slot index ended.now ∷ []) }
+    ensures { Tells R.hears (OpLine round slot index ended.now ∷ []) report.old report.new }
 {
     report.tell(&Line::Op {
         round,

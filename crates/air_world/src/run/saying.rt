@@ -1,12 +1,12 @@
 //! Who said what in an exchange, told once it is over.
-ghost use Rattle.std.specs.Prelude.{◌≡◌, ℕ, ◌<◌, ◌≤◌, ◌++◌, List, [], ◌∷◌, Some, length, map, slice_get};
+ghost use Rattle.std.specs.Prelude.{◌≡◌, ℕ, ◌<◌, ◌≤◌, List, [], ◌∷◌, Some, length, map, slice_get};
 ghost use Rattle.air_channel.specs.Air.{AirValue};
 ghost use Rattle.air_model.specs.Past.{Record};
 ghost use Rattle.air_world.specs.Saying.{AnswersCommand, AreOfDifferentTags, AreShort, IsBehind};
-ghost use Rattle.air_world.specs.Telling.{PassesOn};
+ghost use Rattle.air_world.specs.Telling.{Tells};
 ghost use Rattle.pie_line.specs.Link.{LinkValue};
 ghost use Rattle.reply_grammar.specs.Replies.{longest_reply};
-ghost use Rattle.report_lines.specs.ReportLine.{ReportLine, ExchangeLine, GivenLine, MissedLine};
+ghost use Rattle.report_lines.specs.ReportLine.{ExchangeLine, GivenLine, MissedLine};
 ghost use Rattle.runs.specs.Report.{wave_lines};
 ghost use Rattle.runs.specs.Said.{answer_line, exchanged_by, gave_of, said_lines};
 ghost use Rattle.runs.specs.laws.Replies.{AreReplies};
@@ -37,8 +37,9 @@ fn read(command: &Command, answer: &[bool], bits: &mut Bits) -> Reply
 
 /// Tells which command was sent, and which tags missed it.
 fn tell_command<R: Listener>(exchange: u64, command: &Command, entry: &Entry, report: &mut R)
-    ensures { (before : List ReportLine) → PassesOn R.hears before report.old report.new
-        (before ++ ExchangeLine exchange command.now ∷ map (MissedLine exchange) entry.now.missed) }
+    ensures { Tells R.hears
+        (ExchangeLine exchange command.now ∷ map (MissedLine exchange) entry.now.missed)
+        report.old report.new }
 {
     report.tell(&Line::Exchange { exchange, command });
     for tag in entry.missed.as_slice() {
@@ -60,10 +61,9 @@ fn tell_answers<R: Listener>(
     requires room { longest_reply ≤ bits.old.capacity }
     requires short { AreShort answers.now.items }
     ensures room { bits.new.capacity ≡ bits.old.capacity }
-    ensures told { (replies : List Replied) (before : List ReportLine)
-        → answers.now.items ≡ answers_of replies → AreReplies (AnswersCommand command.now) replies
-        → PassesOn R.hears before report.old report.new
-        (before ++ map (answer_line exchange) replies) }
+    ensures told { (replies : List Replied) → answers.now.items ≡ answers_of replies
+        → AreReplies (AnswersCommand command.now) replies
+        → Tells R.hears (map (answer_line exchange) replies) report.old report.new }
 {
     for place in 0..answers.len() {
         tell_answer(answers, place, exchange, command, bits, report);
@@ -83,11 +83,10 @@ fn tell_answer<R: Listener>(
     requires room { longest_reply ≤ bits.old.capacity }
     requires short { AreShort answers.now.items }
     ensures room { bits.new.capacity ≡ bits.old.capacity }
-    ensures told { (replied : Replied) (before : List ReportLine)
+    ensures told { (replied : Replied)
         → slice_get answers.now.items place ≡ Some (answer_of replied)
         → AnswersCommand command.now replied.sent
-        → PassesOn R.hears before report.old report.new
-        (before ++ answer_line exchange replied ∷ []) }
+        → Tells R.hears (answer_line exchange replied ∷ []) report.old report.new }
 {
     let Some(answer) = answers.get(place) else {
         unreachable!();
@@ -151,10 +150,9 @@ fn tell_given<R: Listener>(
     requires room { longest_reply ≤ bits.old.capacity }
     requires short { AreShort air.now.answers }
     ensures room { bits.new.capacity ≡ bits.old.capacity }
-    ensures told { (link : LinkValue) (sent : Record) (before : List ReportLine)
+    ensures told { (link : LinkValue) (sent : Record)
         → IsBehind link sent air.now got → exchange ≡ sent.exchange → command.now ≡ sent.command
-        → PassesOn R.hears before report.old report.new
-        (before ++ GivenLine (exchanged_by link sent) ∷ []) }
+        → Tells R.hears (GivenLine (exchanged_by link sent) ∷ []) report.old report.new }
 {
     let given = gave_of(air, got, command, bits);
     report.tell(&Line::Given(Exchanged {
@@ -181,10 +179,9 @@ pub(crate) fn tell_said<R: Listener>(
     requires room { longest_reply ≤ bits.old.capacity }
     requires short { AreShort air.now.answers }
     ensures room { bits.new.capacity ≡ bits.old.capacity }
-    ensures told { (link : LinkValue) (sent : Record) (before : List ReportLine)
+    ensures told { (link : LinkValue) (sent : Record)
         → IsBehind link sent air.now got → exchange ≡ sent.exchange → command.now ≡ sent.command
-        → entry.now ≡ sent.entry
-        → PassesOn R.hears before report.old report.new (before ++ said_lines link sent) }
+        → entry.now ≡ sent.entry → Tells R.hears (said_lines link sent) report.old report.new }
 {
     if !report.wants_exchanges() {
         return;
@@ -196,9 +193,9 @@ pub(crate) fn tell_said<R: Listener>(
 
 /// Tells of the waves of the last exchange of an air, to a listener that wants them: the frame that was sent, and the stream that came.
 pub(crate) fn tell_waves<R: Listener>(air: &Air, exchange: u64, report: &mut R)
-    ensures { (got : Got) (link : LinkValue) (sent : Record) (before : List ReportLine)
+    ensures { (got : Got) (link : LinkValue) (sent : Record)
         → IsBehind link sent air.now got → exchange ≡ sent.exchange
-        → PassesOn R.hears before report.old report.new (before ++ wave_lines link sent) }
+        → Tells R.hears (wave_lines link sent) report.old report.new }
 {
     if !report.wants_frames() {
         return;

@@ -1,8 +1,7 @@
 //! The steps of a run.
-ghost use Rattle.std.specs.Prelude.{◌≡◌, ℕ, List, None, All, length};
-ghost use Rattle.air_model.specs.Past.{Item, Start, past_behind_command};
-ghost use Rattle.air_world.specs.Playing.{RunIsAt, IsPlayable, StandsAt, IsBetweenSteps};
-ghost use Rattle.air_world.specs.Telling.{EndsOrFails, IsCutOff, PassesOn, lines_to_tell};
+ghost use Rattle.std.specs.Prelude.{◌≡◌, List, None, All, length};
+ghost use Rattle.air_model.specs.Past.{Item, past_behind_command};
+ghost use Rattle.air_world.specs.Playing.{Begun, IsBetweenSteps, IsPlayable, StandsAt, StandsOrFails};
 ghost use Rattle.runs.specs.History.{past_behind, past_behind_step};
 ghost use Rattle.runs.specs.NextItem.{expectation_of};
 
@@ -22,15 +21,12 @@ impl<'a, L: Ledger> Run<'a, L> {
         steps: &[Step],
         report: &mut R,
     ) -> Result<(), PlayFault>
-        requires between { IsBetweenSteps (length steps.now) air.old self.old }
+        requires between { IsBetweenSteps R.hears (length steps.now) air.old self.old report.old }
         requires steps { All (IsPlayable (length air.old.tags)) steps.now }
-        ensures { (start : Start) (earlier : ℕ) (past : List Item)
-            → RunIsAt start earlier past air.old self.old
-            → EndsOrFails result
-            (StandsAt (PassesOn R.hears (lines_to_tell start past) report.old report.new) start
-            earlier (past_behind start steps.now past) air.new self.new)
-            (IsCutOff R.hears R.failed (lines_to_tell start past) report.old report.new
-            (lines_to_tell start (past_behind start steps.now past))) }
+        ensures { (begun : Begun R) (past : List Item)
+            → StandsAt R.hears begun past air.old self.old report.old
+            → StandsOrFails R.hears R.failed result begun (past_behind begun.start steps.now past)
+            air.new self.new report.new }
     {
         round_laws();
         for step in steps {
@@ -46,15 +42,12 @@ impl<'a, L: Ledger> Run<'a, L> {
         step: &Step,
         report: &mut R,
     ) -> Result<(), PlayFault>
-        requires between { IsBetweenSteps 1 air.old self.old }
+        requires between { IsBetweenSteps R.hears 1 air.old self.old report.old }
         requires step { IsPlayable (length air.old.tags) step.now }
-        ensures { (start : Start) (earlier : ℕ) (past : List Item)
-            → RunIsAt start earlier past air.old self.old
-            → EndsOrFails result
-            (StandsAt (PassesOn R.hears (lines_to_tell start past) report.old report.new) start
-            earlier (past_behind_step start step.now past) air.new self.new)
-            (IsCutOff R.hears R.failed (lines_to_tell start past) report.old report.new
-            (lines_to_tell start (past_behind_step start step.now past))) }
+        ensures { (begun : Begun R) (past : List Item)
+            → StandsAt R.hears begun past air.old self.old report.old
+            → StandsOrFails R.hears R.failed result begun
+            (past_behind_step begun.start step.now past) air.new self.new report.new }
     {
         match step {
             Step::Select(command) => self.send_alone(air, command, report),
@@ -77,15 +70,12 @@ impl<'a, L: Ledger> Run<'a, L> {
         command: &Command,
         report: &mut R,
     ) -> Result<(), PlayFault>
-        requires between { IsBetweenSteps 1 air.old self.old }
+        requires between { IsBetweenSteps R.hears 1 air.old self.old report.old }
         requires unanswered { expectation_of command.now ≡ None }
-        ensures { (start : Start) (earlier : ℕ) (past : List Item)
-            → RunIsAt start earlier past air.old self.old
-            → EndsOrFails result
-            (StandsAt (PassesOn R.hears (lines_to_tell start past) report.old report.new) start
-            earlier (past_behind_command start 0 0 command.now past) air.new self.new)
-            (IsCutOff R.hears R.failed (lines_to_tell start past) report.old report.new
-            (lines_to_tell start (past_behind_command start 0 0 command.now past))) }
+        ensures { (begun : Begun R) (past : List Item)
+            → StandsAt R.hears begun past air.old self.old report.old
+            → StandsOrFails R.hears R.failed result begun
+            (past_behind_command begun.start 0 0 command.now past) air.new self.new report.new }
     {
         self.send(air, command, report);
         check(report)

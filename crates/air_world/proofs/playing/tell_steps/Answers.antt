@@ -1,36 +1,44 @@
-use Rattle.std.proofs.Common.{sym, ◌∙◌, ap}
-use Rattle.air_world.proofs.Beginning.{given-back}
-use Rattle.air_world.proofs.Listings.{memory-enough, pairs-behind}
-use Rattle.air_world.proofs.Passing.{listening}
-use Rattle.air_world.proofs.SeenThrough.{IsNewFor, cut-through, ends-through, seen-through, told-through}
-use Rattle.report_lines.specs.SeenCounts.{seen_counts}
-use Rattle.runs.specs.ScenarioStart.{history, start_of}
+use Rattle.std.proofs.Common.{List, [], length, sym, ◌∙◌, ap, subst}
+use Rattle.air_world.proofs.Beginning.{between-first, scenario-playable}
+use Rattle.air_world.proofs.Passing.{cut-past, ends-checked, ends-cut}
+use Rattle.air_world.proofs.Slots.{stands-same}
+use Rattle.air_world.specs.Playing.{IsBetweenSteps, StandsAt, begun_with}
+use Rattle.air_world.specs.Telling.{IsCutOff, lines_to_tell}
+use Rattle.pie_line.specs.Link.{LinkValue}
+use Rattle.runs.specs.History.{past_behind}
+use Rattle.runs.specs.Report.{first_lines}
+use Rattle.runs.specs.ScenarioStart.{start_of}
+use Rattle.scenario.specs.declared.values.Step.{Step}
+use Rattle.air_world.proofs.playing.tell_steps.Given.{Over}
+use Rattle.air_world.proofs.playing.tell_steps.Goals.{After-tell_link}
 use Rattle.air_world.proofs.playing.tell_steps.Goals as goal
+
+-- the first line is told
+begins : (g : Over) (c : After-tell_link g) → StandsAt g.R.Listener.hears (begun_with c.args.scenario.now c.args.report.now) [] c.args.air.now c.args.run.now c.tell_link.new.report
+begins g c = record {
+  at = c.requires.at;
+  heard = subst (λ (link : LinkValue). g.R.Listener.hears c.args.report.now (first_lines link) c.tell_link.new.report) c.requires.at.link
+      (c.tell_link.ensures.on c.args.report.now [] (g.met.R.Listener.nothing c.args.report.now));
+}
+
+pub play_steps-requires-clause-between : goal.play_steps-requires-clause-between
+play_steps-requires-clause-between g c =
+    subst (λ (steps : List Step). IsBetweenSteps g.R.Listener.hears (length steps) c.args.air.now c.args.run.now c.tell_link.new.report) (sym c.as_slice.ensures.value)
+    (between-first c.args.scenario.now c.requires.is (begins g (goal.at.play_steps-requires-clause-between g c).After-tell_link))
+
+pub play_steps-requires-clause-steps : goal.play_steps-requires-clause-steps
+play_steps-requires-clause-steps g c = scenario-playable c.args.scenario.now c.args.air.now _ c.requires.is c.requires.fresh c.as_slice.ensures.value
+
+pub returns-in_err-play_steps-clause-ends : goal.returns-in_err-play_steps-clause-ends
+returns-in_err-play_steps-clause-ends g c =
+    ends-cut c.from_residual.result _ _ _ c.from_residual.ensures.1
+    (subst (λ (steps : List Step). IsCutOff g.R.Listener.hears g.R.Listener.failed c.args.report.now c.play_steps.new.report
+    (lines_to_tell (start_of c.args.scenario.now) (past_behind (start_of c.args.scenario.now) steps [])) c.in_err-play_steps.field-0) c.as_slice.ensures.value
+    (c.in_err-play_steps.ensures _ [] (begins g (goal.at.returns-in_err-play_steps-clause-ends g c).After-tell_link)))
 
 pub returns-clause-ends : goal.returns-clause-ends
 returns-clause-ends g c =
-    let new = c.new-listener.ensures in
-    let report = c.report-1.given in
-    let later = c.tell_to_last_step.new.report in
-    let l = listening g.R.Listener.hears g.R.Listener.failed c.args.report.now report.0 in
-    let fresh : IsNewFor l c.new-listener.result = record { nothing = g.met.R.Listener.nothing c.new-listener.result.report.now; told = new.told; seen = new.seen ∙ c.requires.none } in
-    ends-through c.tell_to_last_step.result _ _ _ _
-    (λ stands.
-    let through = told-through l fresh stands.told in
-    record { at = stands.at; told = given-back l c.new-listener.result.report.now later.report.now _ new.told (sym (report.1 (sym (through.0 ∙ new.report)))) through.2 })
-    (λ fault cut. cut-through l fresh (sym (report.1 (sym ((told-through l fresh cut.told).0 ∙ new.report)))) cut)
-    c.tell_to_last_step.ensures.ends
-
-pub returns-clause-seen : goal.returns-clause-seen
-returns-clause-seen g c =
-    let new = c.new-listener.ensures in
-    let seen = c.seen-1.given in
-    let later = c.tell_to_last_step.new.report in
-    let l = listening g.R.Listener.hears g.R.Listener.failed c.args.report.now c.args.report.now in
-    let fresh : IsNewFor l c.new-listener.result = record { nothing = g.met.R.Listener.nothing c.new-listener.result.report.now; told = new.told; seen = new.seen ∙ c.requires.none } in
-    seen-through c.tell_to_last_step.result _ _ _ _
-    (λ stands faultless.
-    let through = told-through l fresh stands.told in
-    seen.1 (sym (through.1 ∙ new.room)) ∙ through.3 fresh.seen (memory-enough (g.R.Listener.failed later.report.now) later.out_of_memory faultless)
-    ∙ ap seen_counts (pairs-behind (start_of c.args.scenario.now) (history c.args.scenario.now)))
-    c.tell_to_last_step.ensures.ends c.tell_to_last_step.ensures.faultless
+    ends-checked g.R.Listener.failed c.check.result
+    (stands-same (sym (ap (λ (steps : List Step). past_behind (start_of c.args.scenario.now) steps []) c.as_slice.ensures.value))
+    (c.in_ok-play_steps.ensures _ [] (begins g (goal.at.returns-clause-ends g c).After-tell_link)))
+    c.check.ensures.cause

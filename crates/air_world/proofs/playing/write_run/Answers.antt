@@ -1,5 +1,4 @@
 use Rattle.std.proofs.Common.{sym, subst, ◌∙◌}
-use Rattle.air_world.proofs.Passing.{listening}
 use Rattle.air_world.proofs.Written.{run-written, spelling_for, told_text}
 use Rattle.report_lines.specs.TextReport.{IsAdded}
 use Rattle.report_lines.specs.declared.mode_spelling.ModeSpelling.{ModeSpelling}
@@ -12,7 +11,7 @@ returns g c = λ mode fresh.
     let old = c.new-report.result in
     let later = c.tell_scenario.new.report in
     let back = c.out-1.given in
-    run-written (listening _ _ old later) c.tell_scenario.result mode scenario
+    run-written _ _ old later c.tell_scenario.result mode scenario
     (record { first = sink.written c.args.out.now; written = sink.written back.0; before = sink.faults c.args.out.now; after = sink.faults back.0 }) _ c.tell_scenario.ensures
     (λ lines heard.
     let spelled = c.new-report.ensures.spelling ∙ fresh in

@@ -1,37 +1,38 @@
-use Rattle.std.proofs.Common.{ap, sym, ◌∙◌, subst}
+use Rattle.std.proofs.Common.{ap, refl, sym, ◌∙◌, subst}
 use Rattle.access_ops.specs.Operations.{reception_in}
+use Rattle.access_ops.specs.laws.OperationLaws.{Expects}
 use Rattle.air_model.specs.Past.{next_record}
 use Rattle.air_model.proofs.AwaitedLaws.{silent_awaited}
-use Rattle.air_world.proofs.Slots.{dialogue-heard, received-answer, run-kept}
-use Rattle.tag_machine.specs.TagsInExchange.{AreLegalTags}
+use Rattle.air_world.proofs.Slots.{others-unlisted, received-answer, stands-unlisted}
+use Rattle.command_grammar.specs.declared.commands.Command.{Command}
 use Rattle.air_world.proofs.run.Run.converse.Goals as goal
 
-pub returns-in-Silence-clause-heard : goal.returns-in-Silence-clause-heard
-returns-in-Silence-clause-heard g c = λ start earlier past round slot plays.
-    let behind = c.send.ensures.behind start earlier past round slot plays in
-    sym (silent_awaited start.link start.link.trext c.args.extended c.args.expect.now (next_record start round slot c.args.command.now past).given (sym behind.got_is ∙ c.in-Silence.is))
+pub send-requires : goal.send-requires
+send-requires g c = c.requires.underway
 
-pub returns-in_default-clause-plays : goal.returns-in_default-clause-plays
-returns-in_default-clause-plays g c = λ start earlier past round slot plays. run-kept start earlier _ _ _ _ c.self.view_is (c.send.ensures.plays start earlier past round slot plays)
+pub returns-in-Silence-clause-stands : goal.returns-in-Silence-clause-stands
+returns-in-Silence-clause-stands g c = λ begun past round slot stands.
+    stands-unlisted (c.send.ensures begun past round slot stands)
+    (others-unlisted (next_record begun.start round slot c.args.command.now past)
+    (λ rn is. subst (λ (command : Command). Expects command c.args.expect.now c.args.extended) is c.requires.expects)) refl
+
+pub returns-in-Silence-clause-heard : goal.returns-in-Silence-clause-heard
+returns-in-Silence-clause-heard g c = λ begun past round slot stands.
+    let link = begun.start.link in
+    sym (silent_awaited link link.trext c.args.extended c.args.expect.now (next_record begun.start round slot c.args.command.now past).given
+    (sym (c.send.ensures begun past round slot stands).behind.got_is ∙ c.in-Silence.is))
+
+pub returns-in_default-clause-stands : goal.returns-in_default-clause-stands
+returns-in_default-clause-stands g c = λ begun past round slot stands.
+    stands-unlisted (c.send.ensures begun past round slot stands)
+    (others-unlisted (next_record begun.start round slot c.args.command.now past)
+    (λ rn is. subst (λ (command : Command). Expects command c.args.expect.now c.args.extended) is c.requires.expects)) c.self.view_is
 
 pub returns-in_default-clause-expected : goal.returns-in_default-clause-expected
 returns-in_default-clause-expected g c = let heard = c.hear.ensures.received in rw (heard.1) (received-answer _ _ c.args.expect.now _ heard.0 heard.2)
 
 pub returns-in_default-clause-heard : goal.returns-in_default-clause-heard
-returns-in_default-clause-heard g c = λ start earlier past round slot plays.
+returns-in_default-clause-heard g c = λ begun past round slot stands.
     let heard = c.hear.ensures.received in
     ap reception_in heard.1
-    ∙ dialogue-heard (record { rows = c.answers_are_replies.ensures.reply; range = c.answers_are_replies.ensures.legal; stays = c.steps_keep_tags_legal.ensures.befallen })
-    start past c.args.command.now c.args.expect.now c.args.extended
-    (record {
-      round = round;
-      slot = slot;
-      air = c.send.new.air;
-      received = heard.0;
-      got = c.send.result;
-      legal = subst AreLegalTags plays.tags plays.legal;
-      behind = c.send.ensures.behind start earlier past round slot plays;
-      came = c.in_default.not-Silence;
-      heard = heard.2;
-    })
-    c.requires.expects
+    ∙ (c.send.ensures begun past round slot stands).received.operations c.args.expect.now c.args.extended heard.0 c.requires.expects c.in_default.not-Silence heard.2

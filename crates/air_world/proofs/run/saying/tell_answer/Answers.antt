@@ -1,4 +1,5 @@
-use Rattle.std.proofs.Common.{◌≡◌, [], ◌∷◌, ◌++◌, sym, ◌∙◌, ap, subst, arith}
+use Rattle.std.proofs.Common.{◌≡◌, [], ◌∷◌, sym, ◌∙◌, ap, arith}
+use Rattle.air_world.proofs.Passing.{tells-same}
 use Rattle.air_world.proofs.Saying.{answer-there, none-there, one-answer, short-at}
 use Rattle.report_lines.specs.ReportLine.{ReportLine, AnswerLine}
 use Rattle.runs.specs.Said.{answer_line}
@@ -14,7 +15,7 @@ read-reply-requires g c =
     omega (arith, short-at c.args.answers.now.items c.args.place (answer_value_of c.in-Some.answer) c.requires.short is, c.requires.room)
 
 pub returns-clause-told : goal.returns-clause-told
-returns-clause-told g c = λ replied before at answers.
+returns-clause-told g c = λ replied at answers.
     let is = answer-there c.args.answers.now.items c.args.place c.get.result c.in-Some.answer c.get.ensures c.in-Some.is in
     let same = one-answer (answer_value_of c.in-Some.answer) (answer_of replied) (sym is ∙ at) in
     let number = c.from.ensures ∙ c.get-2.ensures.value ∙ ap (λ (a : AnswerValue). a.number) same in
@@ -22,4 +23,4 @@ returns-clause-told g c = λ replied before at answers.
     let reply = c.read-reply.ensures.reply replied.sent answers (ap (λ (a : AnswerValue). a.bits) same) in
     let line : AnswerLine c.args.exchange c.from.result c.in-Some.answer.extended c.read-reply.result ≡ answer_line c.args.exchange replied =
     λ i. AnswerLine c.args.exchange (number i) (extended i) (reply i) in
-    record { on = λ first heard. subst (λ (told : ReportLine). g.R.Listener.hears first (before ++ told ∷ []) c.tell.new.self) line (c.tell.ensures first before heard) }
+    tells-same (ap (λ (told : ReportLine). told ∷ []) line) (record { on = c.tell.ensures })

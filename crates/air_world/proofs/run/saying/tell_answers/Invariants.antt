@@ -1,7 +1,6 @@
-use Rattle.std.proofs.Common.{◌≡◌, List, ◌++◌, map, take}
+use Rattle.std.proofs.Common.{◌≡◌, List, map, take}
 use Rattle.air_world.specs.Saying.{AnswersCommand}
-use Rattle.air_world.specs.Telling.{PassesOn}
-use Rattle.report_lines.specs.ReportLine.{ReportLine}
+use Rattle.air_world.specs.Telling.{Tells}
 use Rattle.runs.specs.Said.{answer_line}
 use Rattle.runs.specs.laws.Replies.{AreReplies}
 use Rattle.tag_machine.specs.TagsInExchange.{Replied}
@@ -11,6 +10,6 @@ use Rattle.air_world.proofs.run.saying.tell_answers.Given as goal
 abbrev pub invariant-loop-place : goal.invariant-loop-place
 invariant-loop-place g l = record {
   room : l.bits.capacity ≡ l.fn.bits.capacity;
-  told : (replies : List Replied) (before : List ReportLine) → l.answers.items ≡ answers_of replies → AreReplies (AnswersCommand l.command) replies
-      → PassesOn g.R.Listener.hears before l.fn.report l.report (before ++ map (answer_line l.exchange) (take l.place replies));
+  told : (replies : List Replied) → l.answers.items ≡ answers_of replies → AreReplies (AnswersCommand l.command) replies
+      → Tells g.R.Listener.hears (map (answer_line l.exchange) (take l.place replies)) l.fn.report l.report;
 }

@@ -1,5 +1,6 @@
-use Rattle.std.proofs.Common.{◌≡◌, List, [], ◌∷◌, ◌++◌, ap, ◌∙◌, subst, length}
+use Rattle.std.proofs.Common.{◌≡◌, List, [], ◌∷◌, ap, ◌∙◌, length}
 use Rattle.std.proofs.lemmas.List.{length-map}
+use Rattle.air_world.proofs.Passing.{tells-same}
 use Rattle.report_lines.specs.ReportLine.{GivenLine}
 use Rattle.runs.specs.Said.{exchanged_by}
 use Rattle.tag_population.specs.Answers.{AnswerValue, answer_of}
@@ -7,7 +8,7 @@ use Rattle.wave_dump.specs.Exchanged.{Exchanged}
 use Rattle.air_world.proofs.run.saying.tell_given.Goals as goal
 
 pub returns-clause-told : goal.returns-clause-told
-returns-clause-told g c = λ link sent before behind number command.
+returns-clause-told g c = λ link sent behind number command.
     let intervals = c.as_slice.ensures.value ∙ c.intervals.ensures.value ∙ behind.frame in
     let replies = c.replies.ensures ∙ ap (λ (answers : List AnswerValue). length answers) behind.answers ∙ length-map sent.replies answer_of in
     let given = c.gave_of-given.ensures.gave link sent behind command in
@@ -21,4 +22,4 @@ returns-clause-told g c = λ link sent before behind number command.
       levels = c.stream.result.now.items;
     }) (exchanged_by link sent) =
     λ i. record { number = number i; command = command i; intervals = intervals i; replies = replies i; given = given i; levels = levels i } in
-    record { on = λ first heard. subst (λ (e : Exchanged). g.R.Listener.hears first (before ++ GivenLine e ∷ []) c.tell.new.self) exchanged (c.tell.ensures first before heard) }
+    tells-same (ap (λ (e : Exchanged). GivenLine e ∷ []) exchanged) (record { on = c.tell.ensures })

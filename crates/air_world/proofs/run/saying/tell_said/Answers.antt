@@ -1,6 +1,6 @@
-use Rattle.std.proofs.Common.{◌∷◌, ◌++◌, map, refl, sym, ◌∙◌, subst}
-use Rattle.air_world.proofs.Passing.{passes-same}
-use Rattle.air_world.proofs.Saying.{said-skipped, says-all}
+use Rattle.std.proofs.Common.{◌∷◌, map, refl, sym, ◌∙◌, subst}
+use Rattle.air_world.proofs.Passing.{tells-same, tells-then}
+use Rattle.air_world.proofs.Saying.{said-skipped}
 use Rattle.air_world.specs.Saying.{AnswersCommand}
 use Rattle.command_grammar.specs.declared.commands.Command.{Command}
 use Rattle.report_lines.specs.ReportLine.{ExchangeLine, MissedLine}
@@ -9,18 +9,13 @@ use Rattle.runs.specs.laws.Replies.{AreReplies}
 use Rattle.air_world.proofs.run.saying.tell_said.Goals as goal
 
 pub returns-then-not-wants_exchanges-clause-told : goal.returns-then-not-wants_exchanges-clause-told
-returns-then-not-wants_exchanges-clause-told g c = λ link sent before behind number command entry.
-    said-skipped g.R.Listener.hears c.args.report.now link sent (λ first lines line of heard. c.if-not-wants_exchanges.ensures refl first lines line of heard) before
+returns-then-not-wants_exchanges-clause-told g c = λ link sent behind number command entry.
+    said-skipped g.R.Listener.hears c.args.report.now link sent (λ first lines line of heard. c.if-not-wants_exchanges.ensures refl first lines line of heard)
 
 pub returns-clause-told : goal.returns-clause-told
-returns-clause-told g c = λ link sent before behind number command entry.
-    let H = g.R.Listener.hears in
-    says-all H link sent _ _ (record {
-      commanded = c.tell_command.new.report;
-      answered = c.tell_answers.new.report;
-      command = λ lines. passes-same H lines _ _ _ _ (λ i. lines ++ ExchangeLine (number i) (command i) ∷ map (MissedLine (number i)) (entry i).missed) (c.tell_command.ensures lines);
-      answers = λ lines. passes-same H lines _ _ _ _ (λ i. lines ++ map (answer_line (number i)) sent.replies)
-          (c.tell_answers.ensures.told sent.replies lines (c.answers.ensures ∙ behind.answers)
-          (subst (λ (own : Command). AreReplies (AnswersCommand own) sent.replies) (sym command) behind.answered));
-      given = λ lines. c.tell_given.ensures.told link sent lines behind number command;
-    }) before
+returns-clause-told g c = λ link sent behind number command entry.
+    tells-then (tells-same (λ i. ExchangeLine (number i) (command i) ∷ map (MissedLine (number i)) (entry i).missed) c.tell_command.ensures)
+    (tells-then
+    (tells-same (λ i. map (answer_line (number i)) sent.replies)
+    (c.tell_answers.ensures.told sent.replies (c.answers.ensures ∙ behind.answers) (subst (λ (own : Command). AreReplies (AnswersCommand own) sent.replies) (sym command) behind.answered)))
+    (c.tell_given.ensures.told link sent behind number command))

@@ -7,7 +7,6 @@ use Rattle.air_world.proofs.seen_listener.SeenListener.count.Goals as goal
 pub returns-in_default : goal.returns-in_default
 returns-in_default g c = record {
   rest = refl;
-  room = refl;
   memory = λ enough. enough;
   seen = λ lines enough was. was ∙ ap seen_counts (sym (pairs-other lines c.args.line.now c.in_default.not-List));
 }

@@ -6,7 +6,6 @@ use Rattle.air_world.proofs.seen_listener.SeenListenerListener.wants_frames.Goal
 pub returns : goal.returns
 returns g c = λ is first lines line of hears. (
   hears.0,
-  hears.1,
-  c.wants_frames.ensures is first.report.now lines line of hears.2,
-  λ fresh enough. hears.3 fresh enough ∙ ap seen_counts (sym (pairs-skipped lines line (frame-untold line of))),
+  c.wants_frames.ensures is first.report.now lines line of hears.1,
+  λ fresh enough. hears.2 fresh enough ∙ ap seen_counts (sym (pairs-skipped lines line (frame-untold line of))),
 )
