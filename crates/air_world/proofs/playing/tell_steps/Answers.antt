@@ -3,8 +3,8 @@ use Rattle.air_world.proofs.Beginning.{between-first, scenario-playable}
 use Rattle.air_world.proofs.Passing.{cut-past, ends-checked, ends-cut}
 use Rattle.air_world.proofs.Slots.{stands-same}
 use Rattle.air_world.specs.Playing.{IsBetweenSteps, StandsAt, begun_with}
-use Rattle.air_world.specs.Telling.{IsCutOff, lines_to_tell}
 use Rattle.pie_line.specs.Link.{LinkValue}
+use Rattle.runs.proofs.Growth.{Grows, grows-none}
 use Rattle.runs.specs.History.{past_behind}
 use Rattle.runs.specs.Report.{first_lines}
 use Rattle.runs.specs.ScenarioStart.{start_of}
@@ -32,8 +32,8 @@ play_steps-requires-clause-steps g c = scenario-playable c.args.scenario.now c.a
 pub returns-in_err-play_steps-clause-ends : goal.returns-in_err-play_steps-clause-ends
 returns-in_err-play_steps-clause-ends g c =
     ends-cut c.from_residual.result _ _ _ c.from_residual.ensures.1
-    (subst (λ (steps : List Step). IsCutOff g.R.Listener.hears g.R.Listener.failed c.args.report.now c.play_steps.new.report
-    (lines_to_tell (start_of c.args.scenario.now) (past_behind (start_of c.args.scenario.now) steps [])) c.in_err-play_steps.field-0) c.as_slice.ensures.value
+    (cut-past (begun_with c.args.scenario.now c.args.report.now)
+    (subst (λ (steps : List Step). Grows (past_behind (start_of c.args.scenario.now) c.as_slice.result.now []) (past_behind (start_of c.args.scenario.now) steps [])) c.as_slice.ensures.value (grows-none _))
     (c.in_err-play_steps.ensures _ [] (begins g (goal.at.returns-in_err-play_steps-clause-ends g c).After-tell_link)))
 
 pub returns-clause-ends : goal.returns-clause-ends
