@@ -14,7 +14,7 @@ use Rattle.air_events.specs.declared.Entry.{Entry}
 use Rattle.air_events.specs.declared.Event.{Event}
 use Rattle.air_model.specs.Channel.{HasFewLevels}
 use Rattle.tag_machine.specs.TagsInExchange.{AreLegalTags}
-use Rattle.air_model.specs.Past.{Start, Item, tags_behind_from}
+use Rattle.air_model.specs.Past.{tags_behind_from}
 use Rattle.air_world.specs.NewAir.{new_air}
 use Rattle.air_world.specs.Playing.{RunValue, RunIsAt, IsPlayable, StandsAt, IsBetweenSteps, NamesItsTags, begun_with}
 use Rattle.air_world.specs.Telling.{IsCutShort, PlaysOrFails}

@@ -14,7 +14,7 @@ use Rattle.q_round.specs.Rounds.{AreOutcomes, Turn, next_of_turn, is_over, slots
 use Rattle.q_round.specs.Rounds as turns
 use Rattle.q_round.specs.NextAnswer.{next_of}
 use Rattle.q_round.specs.RoundValue.{RoundValue, RoundStandsFor, IsNextAnswer}
-use Rattle.q_round.specs.SpecValue.{SpecValue, IsLegalSpec}
+use Rattle.q_round.specs.SpecValue.{SpecValue}
 use Rattle.q_round.specs.declared.frame.Outcome.{Outcome}
 use Rattle.q_round.specs.declared.round.Next.{Next}
 use Rattle.q_round.specs.declared.round.Next.TheVariants as nexts

@@ -12,13 +12,12 @@ use Rattle.air_world.proofs.Passing.{tells-same, tells-then}
 use Rattle.air_world.proofs.Places.{some-at, map-more}
 use Rattle.air_world.specs.Saying.{AreShort, IsOneOf}
 use Rattle.air_world.specs.Telling.{Tells}
-use Rattle.command_grammar.specs.declared.commands.Command.{Command}
 use Rattle.pie_line.specs.Link.{LinkValue}
 use Rattle.reply_grammar.specs.Replies.{longest_reply}
 use Rattle.reply_grammar.specs.declared.expected.Reply.{Reply}
 use Rattle.report_lines.specs.ModeLines.{is_of_exchanges}
-use Rattle.report_lines.specs.ReportLine.{ReportLine, GivenLine, MissedLine}
-use Rattle.runs.specs.Said.{answer_line, exchanged_by, gave_of, said_lines}
+use Rattle.report_lines.specs.ReportLine.{ReportLine, MissedLine}
+use Rattle.runs.specs.Said.{answer_line, gave_of, said_lines}
 use Rattle.runs.specs.laws.Replies.{AreReplies}
 use Rattle.tag_machine.specs.Answers.{Sent}
 use Rattle.tag_machine.specs.TagsInExchange.{Replied}

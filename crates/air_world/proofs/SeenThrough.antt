@@ -15,7 +15,7 @@ use Rattle.scenario.specs.declared.values.Scenario.{Scenario}
 -- what it hears
 abbrev pub HearsSeen : {A : Type 0} → (A → List ReportLine → A → Type 0) → SeenListener A → List ReportLine → SeenListener A → Type 0
 HearsSeen hears first lines later = (later.report.ghost_name ≡ first.report.ghost_name) × hears first.report.now lines later.report.now
-    × (first.seen ≡ [] → later.out_of_memory ≡ false → later.seen ≡ seen_counts (pairs_told lines))
+    × (first.seen.now ≡ [] → later.out_of_memory ≡ false → later.seen.now ≡ seen_counts (pairs_told lines))
 
 -- a run that was cut off before its last lines
 pub cut-through : {A : Type 0} (hears : A → List ReportLine → A → Type 0) (failed : A → Option PlayFault) (first later : SeenListener A) (fault : PlayFault) (scenario : Scenario)

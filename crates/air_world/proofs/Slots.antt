@@ -31,7 +31,6 @@ use Rattle.reply_wire.specs.Received.{IsReceived}
 use Rattle.report_lines.specs.ReportLine.{ReportLine}
 use Rattle.runs.specs.History.{ack_reception, dialogue_begun, past_behind_ack, past_behind_answer, past_behind_dialogue, past_behind_slot, slot_reception}
 use Rattle.runs.specs.Listing.{Listed, reception_of_ack, listed_from, listed_by}
-use Rattle.runs.specs.NextItem.{expectation_of}
 use Rattle.runs.specs.Report.{exchange_lines, list_line}
 
 -- what is heard of levels that came, where this is expected

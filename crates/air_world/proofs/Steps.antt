@@ -1,5 +1,5 @@
 -- What the steps of a run make of it.
-use Rattle.std.proofs.Common.{◌≡◌, ℕ, suc, ◌+◌, ◌*◌, ◌≤◌, ◌<◌, List, [], ◌∷◌, length, drop, get_or, None, refl, sym, ◌∙◌, ap, subst, arith}
+use Rattle.std.proofs.Common.{◌≡◌, ℕ, suc, ◌+◌, ◌*◌, ◌≤◌, ◌<◌, List, [], ◌∷◌, length, drop, get_or, refl, sym, ◌∙◌, ap, subst, arith}
 use Rattle.std.proofs.Math.Nat.{mul-le-mul}
 use Rattle.std.proofs.Math.Seq.{drop-cons}
 use Rattle.std.proofs.lemmas.List.{append-nil}
@@ -8,7 +8,7 @@ use Rattle.std.specs.Prelude.{All}
 use Rattle.air_channel.specs.Air.{AirValue, air_after_event}
 use Rattle.air_events.specs.declared.Event.{Event}
 use Rattle.tag_machine.specs.TagsInExchange.{AreLegalTags}
-use Rattle.air_model.specs.Past.{Start, Item, befell, exchanges_in, rounds_in, tags_behind}
+use Rattle.air_model.specs.Past.{Start, Item, befell, exchanges_in, rounds_in}
 use Rattle.air_world.proofs.Rounds.{rounds-slot}
 use Rattle.air_world.specs.Playing.{Begun, RunValue, RunIsAt, IsPlayable, StandsAt, most_in_round, most_in_slot, most_slots}
 use Rattle.air_world.specs.Telling.{lines_to_tell}

@@ -136,7 +136,8 @@ fn tell_run<L: Ledger, R: Listener>(
     let empty = empty_entry(alloc);
     let entries = EntryCursor::new(scenario.entries.as_slice(), &empty);
     let mut run = Run::<L>::new(entries, Steps::new(blank), bits);
-    let mut listener = SeenListener::new(report, SeenCounts::new(alloc));
+    let mut seen = SeenCounts::new(alloc);
+    let mut listener = SeenListener::new(report, &mut seen);
     tell_whole(scenario, air, &mut run, &mut listener)
 }
 
@@ -148,14 +149,14 @@ fn tell_whole<'a, 'r, L: Ledger, R: Listener>(
     listener: &mut SeenListener<'r, R>,
 ) -> Result<(), PlayFault>
     requires first { IsNewRun scenario.now air.old run.old }
-    requires seen { listener.old.seen ≡ [] }
+    requires seen { listener.old.seen.now ≡ [] }
     ensures report { listener.new.report.ghost_name ≡ listener.old.report.ghost_name }
     ensures told { PlaysOrFails R.hears R.failed result scenario.now listener.old.report.now
         listener.new.report.now air.new }
 {
     round_laws();
     tell_steps(scenario, air, run, listener)?;
-    run.finish(air, &listener.seen, listener.report);
+    run.finish(air, listener.seen, listener.report);
     check(listener.report)
 }
 

@@ -7,20 +7,21 @@ ghost use Rattle.report_lines.specs.SeenCounts.{seen_counts};
 
 use report_lines::{Line, Listener, PlayFault, SeenCounts};
 
-/// Counts how often each pair of PC and EPC is listed, and tells another listener every line. Where there is no memory for a count, that is a fault behind those of the other listener.
+/// Counts how often each pair of PC and EPC is listed, in the room that is lent for it, and tells another listener every
+/// line. Where there is no memory for a count, that is a fault behind those of the other listener.
 #[derive(Drop)]
 pub(crate) struct SeenListener<'r, R: Listener> {
     pub(crate) report: &'r mut R,
-    pub(crate) seen: SeenCounts,
+    pub(crate) seen: &'r mut SeenCounts,
     out_of_memory: bool,
 }
 
 impl<'r, R: Listener> SeenListener<'r, R> {
     /// Counts on from these counts.
-    pub(crate) fn new(report: &'r mut R, seen: SeenCounts) -> SeenListener<'r, R>
+    pub(crate) fn new(report: &'r mut R, seen: &'r mut SeenCounts) -> SeenListener<'r, R>
         ensures report { result.report.ghost_name ≡ report.entry.ghost_name }
         ensures told { result.report.now ≡ report.old }
-        ensures seen { result.seen ≡ seen }
+        ensures seen { result.seen.now ≡ seen.old }
         // Else every run might answer that there was no memory.
         ensures memory { result.out_of_memory ≡ false }
     {
@@ -37,8 +38,8 @@ impl<'r, R: Listener> SeenListener<'r, R> {
             ≡ record self.old { seen = self.new.seen; out_of_memory = self.new.out_of_memory } }
         ensures memory { self.new.out_of_memory ≡ false → self.old.out_of_memory ≡ false }
         ensures seen { (lines : List ReportLine) → self.new.out_of_memory ≡ false
-            → self.old.seen ≡ seen_counts (pairs_told lines)
-            → self.new.seen ≡ seen_counts (pairs_told (lines ++ line_of line.now ∷ [])) }
+            → self.old.seen.now ≡ seen_counts (pairs_told lines)
+            → self.new.seen.now ≡ seen_counts (pairs_told (lines ++ line_of line.now ∷ [])) }
     {
         let Line::List { pc, epc, .. } = *line else {
             return;
@@ -56,7 +57,7 @@ impl<'r, R: Listener> Listener for SeenListener<'r, R> {
     ghost use Rattle.report_lines.specs.SeenCounts.{seen_counts};
 
     ghost hears = { λ first lines later. (later.report.ghost_name ≡ first.report.ghost_name) × R.hears first.report.now lines later.report.now
-        × (first.seen ≡ [] → later.out_of_memory ≡ false → later.seen ≡ seen_counts (pairs_told lines)) };
+        × (first.seen.now ≡ [] → later.out_of_memory ≡ false → later.seen.now ≡ seen_counts (pairs_told lines)) };
 
     ghost failed = { λ listener. first_fault_of (R.failed listener.report.now) listener.out_of_memory };
 

@@ -1,6 +1,5 @@
 //! Who said what in an exchange, told once it is over.
 ghost use Rattle.std.specs.Prelude.{◌≡◌, ℕ, ◌<◌, ◌≤◌, List, [], ◌∷◌, Some, length, map, slice_get};
-ghost use Rattle.air_channel.specs.Air.{AirValue};
 ghost use Rattle.air_model.specs.Past.{Record};
 ghost use Rattle.air_world.specs.Saying.{AnswersCommand, AreOfDifferentTags, AreShort, IsBehind};
 ghost use Rattle.air_world.specs.Telling.{Tells};

@@ -1,7 +1,7 @@
 use Rattle.std.proofs.Common.{◌≡◌, ◌+◌, ◌≤◌, List, [], ◌++◌, length, refl, sym, ◌∙◌, ap, subst, arith, ℕ}
 use Rattle.access_ops.specs.declared.OpList.{OpList}
 use Rattle.air_model.specs.Past.{tags_behind}
-use Rattle.air_world.proofs.Halls.{HallRound, IsHallOver, hall-begins, hall-over, start_on}
+use Rattle.air_world.proofs.Halls.{IsHallOver, hall-begins, hall-over, start_on}
 use Rattle.air_world.proofs.Listings.{pairs-behind}
 use Rattle.air_world.specs.Listing.{HearsPairs, pairs_told}
 use Rattle.air_world.specs.Playing.{Begun, IsEndedBy, StandsAt}

@@ -2,7 +2,6 @@ use Rattle.std.proofs.Common.{◌+◌, refl, ◌∙◌, ap, arith}
 use Rattle.air_world.proofs.Operating.{Asked, MovesOn, operations-begin, operations-end, operations-sent, operations-told, sends-next}
 use Rattle.air_world.proofs.Passing.{stands-told}
 use Rattle.air_world.proofs.Slots.{stands-same}
-use Rattle.air_world.specs.Playing.{RunValue}
 use Rattle.air_model.specs.Past.{operated}
 use Rattle.runs.proofs.Tags.{tags-operated}
 use Rattle.air_world.proofs.run.Run.operate.Goals as goal
