@@ -4,7 +4,7 @@ use Rattle.air_world.proofs.Passing.{cut-past, ends-checked, ends-cut}
 use Rattle.air_world.proofs.Slots.{stands-same}
 use Rattle.air_world.specs.Playing.{IsBetweenSteps, StandsAt, begun_with}
 use Rattle.pie_line.specs.Link.{LinkValue}
-use Rattle.runs.proofs.Growth.{Grows, grows-none}
+use Rattle.runs.proofs.Growth.{Grows}
 use Rattle.runs.specs.History.{past_behind}
 use Rattle.runs.specs.Report.{first_lines}
 use Rattle.runs.specs.ScenarioStart.{start_of}
@@ -31,9 +31,11 @@ play_steps-requires-clause-steps g c = scenario-playable c.args.scenario.now c.a
 
 pub returns-in_err-play_steps-clause-ends : goal.returns-in_err-play_steps-clause-ends
 returns-in_err-play_steps-clause-ends g c =
+    let start = start_of c.args.scenario.now in
+    let grows : Grows (past_behind start c.as_slice.result.now []) (past_behind start c.args.scenario.now.steps []) =
+    record { own = []; is = sym (ap (λ (steps : List Step). past_behind start steps []) c.as_slice.ensures.value) } in
     ends-cut c.from_residual.result _ _ _ c.from_residual.ensures.1
-    (cut-past (begun_with c.args.scenario.now c.args.report.now)
-    (subst (λ (steps : List Step). Grows (past_behind (start_of c.args.scenario.now) c.as_slice.result.now []) (past_behind (start_of c.args.scenario.now) steps [])) c.as_slice.ensures.value (grows-none _))
+    (cut-past (begun_with c.args.scenario.now c.args.report.now) grows
     (c.in_err-play_steps.ensures _ [] (begins g (goal.at.returns-in_err-play_steps-clause-ends g c).After-tell_link)))
 
 pub returns-clause-ends : goal.returns-clause-ends
