@@ -1,4 +1,4 @@
-use Rattle.std.proofs.Common.{List, [], length, sym, ◌∙◌, ap, subst}
+use Rattle.std.proofs.Common.{List, [], length, sym, ap, subst}
 use Rattle.air_world.proofs.Beginning.{between-first, scenario-playable}
 use Rattle.air_world.proofs.Passing.{cut-past, ends-checked, ends-cut}
 use Rattle.air_world.proofs.Slots.{stands-same}

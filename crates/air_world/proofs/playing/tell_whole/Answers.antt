@@ -1,4 +1,4 @@
-use Rattle.std.proofs.Common.{[], sym, ◌∙◌, ap, subst}
+use Rattle.std.proofs.Common.{sym, ◌∙◌, ap, subst}
 use Rattle.air_channel.specs.Air.{AirValue}
 use Rattle.air_world.proofs.Beginning.{ends-played, last-told}
 use Rattle.air_world.proofs.Listings.{memory-enough, pairs-behind}

@@ -1,4 +1,4 @@
-use Rattle.std.proofs.Common.{◌+◌, refl, ◌∙◌, ap, arith}
+use Rattle.std.proofs.Common.{refl, ◌∙◌, ap, arith}
 use Rattle.air_world.proofs.Operating.{Asked, MovesOn, operations-begin, operations-end, operations-sent, operations-told, sends-next}
 use Rattle.air_world.proofs.Passing.{stands-told}
 use Rattle.air_world.proofs.Slots.{stands-same}
