@@ -35,7 +35,23 @@ impl Timing {
 
 const DELIMITER: u32 = 12_500;
 
-/// Writes the frame of the bits: delimiter, data-0, RTcal, TRcal where there is a preamble, and the bits.
+/// Gives each interval of the frame of the bits as it is made: delimiter, data-0, RTcal, TRcal where there is a preamble, and the bits.
+#[inline]
+pub fn send_frame(timing: &Timing, preamble: bool, bits: &[bool], mut give: impl FnMut(u32)) {
+    let pair = |length: u32| [length - timing.pw, timing.pw];
+    give(DELIMITER);
+    pair(timing.tari).into_iter().for_each(&mut give);
+    pair(timing.rtcal).into_iter().for_each(&mut give);
+    if preamble {
+        pair(timing.trcal).into_iter().for_each(&mut give);
+    }
+    let symbols = timing.symbols();
+    for &bit in bits {
+        symbols[usize::from(bit)].into_iter().for_each(&mut give);
+    }
+}
+
+/// Writes the frame of the bits, the same as a whole.
 pub fn encode_frame(timing: &Timing, preamble: bool, bits: &[bool], intervals: &mut Vec<u32>) {
     let pair = |length: u32| [length - timing.pw, timing.pw];
     intervals.clear();

@@ -10,6 +10,7 @@ use crate::command::{Change, Command, Flag, Query};
 use crate::decode::fields::{push_hex, push_hex_words, push_number, push_word};
 use crate::operation::{ask_number, operate, read_reply};
 use crate::operation::{Answer, Await, Exchange, Failure, Operations, Outcome};
+use crate::hearing::{Edges, Framer};
 use crate::pie;
 use crate::json;
 use crate::population::Answers;
@@ -91,6 +92,7 @@ pub struct World {
     pub answers: Answers,
     pub bits: Vec<bool>,
     pub intervals: Vec<u32>,
+    framer: Framer,
     pub levels: Vec<u8>,
     pub received: Vec<bool>,
     /// The PC and EPC received last.
@@ -146,6 +148,7 @@ impl World {
             answers: Answers::default(),
             bits: Vec::new(),
             intervals: Vec::new(),
+            framer: Framer::new(),
             levels: Vec::new(),
             received: Vec::new(),
             listed: Vec::new(),
@@ -218,12 +221,30 @@ impl World {
     fn send(&mut self, command: &Command, missed: &[usize]) {
         command.encode(&mut self.bits);
         let preamble = matches!(command, Command::Query(_));
-        pie::encode_frame(
-            &self.scenario.link.timing,
-            preamble,
-            &self.bits,
-            &mut self.intervals,
-        );
+        if cfg!(whole_frames) {
+            self.send_whole(preamble, missed);
+            return;
+        }
+        let World { scenario, bits, intervals, framer, answers, .. } = self;
+        let mut edges = Edges::new();
+        framer.begin();
+        intervals.clear();
+        pie::send_frame(&scenario.link.timing, preamble, bits, |interval| {
+            intervals.push(interval);
+            if let Some(bit) = edges.push(interval) {
+                framer.push(bit);
+            }
+        });
+        if edges.is_frame() {
+            if let Some(command) = framer.command() {
+                scenario.tags.hear(&command, missed, answers);
+            }
+        }
+    }
+
+    /// Writes the frame of the bits as a list, and reads the list.
+    fn send_whole(&mut self, preamble: bool, missed: &[usize]) {
+        pie::encode_frame(&self.scenario.link.timing, preamble, &self.bits, &mut self.intervals);
         if pie::decode_frame(&self.intervals, &mut self.bits) {
             if let Some(command) = Command::decode(&self.bits) {
                 self.scenario.tags.hear(&command, missed, &mut self.answers);
