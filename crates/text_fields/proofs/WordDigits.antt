@@ -1,10 +1,11 @@
 -- Lists of words and their digits.
-use Rattle.std.proofs.Common.{◌≡◌, ◌≢◌, ◌<◌, ◌≤◌, ◌^◌, ◌/◌, ◌%◌, ◌+◌, ◌*◌, ℕ, suc, true, List, [], ◌∷◌, ◌++◌, length, map, take, slice_index, Some, arith, ap, sym, ◌∙◌, refl, subst}
-use Rattle.std.specs.Prelude.{All, None, slice_get}
+use Rattle.std.proofs.Common.{◌≡◌, ◌≢◌, ◌<◌, ◌≤◌, ◌^◌, ◌/◌, ◌%◌, ◌+◌, ◌*◌, ℕ, suc, true, List, [], ◌∷◌, ◌++◌, length, map, take, slice_index, Some, Ok, arith, ap, sym, ◌∙◌, refl, subst}
+use Rattle.std.specs.Prelude.{All, None, max, min, slice_get}
 use Rattle.std.specs.List.{AllPass, flat_map}
 use Rattle.std.specs.Simd.{first_chunks}
 use Rattle.std.proofs.lemmas.Bool.Decides.{nat_tests}
-use Rattle.std.proofs.lemmas.List.Elements.{All-append, All-cons, All-head, All-nil, All-tail}
+use Rattle.std.proofs.lemmas.List.Elements.{All-append, All-cons, All-get_or, All-head, All-nil, All-tail}
+use Rattle.hex.specs.Hex.{decode_pairs, decode_sized, hex_digit_value}
 use Rattle.text_fields.specs.Binary.{hyphen}
 use Rattle.text_fields.specs.Hexadecimal.{hex_byte, hex_digit, hex_word}
 use Rattle.text_fields.specs.WordLists.{AreWordDigits, digit_number, first_word, is_upper_hex_digit, word_number, words_of_digits}
@@ -20,7 +21,7 @@ IsSmall word = word < 2 ^ 16
 digit_back : (digit : ℕ) → IsDigit digit → hex_digit (digit_number digit) ≡ digit
 digit_back digit is = grind (arith, nat_tests)
 
-number_small : (digit : ℕ) → digit_number digit < 16
+pub number_small : (digit : ℕ) → digit_number digit < 16
 number_small digit = grind (arith, nat_tests)
 
 -- the number of a number's digit
@@ -60,19 +61,63 @@ word_back word small =
     let fourth = number_back (word % 256 % 16) (omega arith) in
     rw (first, second, third, fourth) (omega arith)
 
--- two digits are the digits of a byte
-pub one_byte : (digits : List ℕ) → AllPass is_upper_hex_digit digits → length digits ≡ 2 → (byte : ℕ) × (byte < 2 ^ 8) × (digits ≡ hex_byte byte)
-one_byte [] are two = absurd (omega arith)
-one_byte (a ∷ []) are two = absurd (omega arith)
-one_byte (a ∷ b ∷ []) are two =
-    let a_small = number_small a in
-    let b_small = number_small b in
-    let byte = digit_number a * 16 + digit_number b in
-    let first : byte / 16 ≡ digit_number a = omega arith in
-    let second : byte % 16 ≡ digit_number b = omega arith in
+-- the digit at a place
+pub digit_at : (digits : List ℕ) (place : ℕ) → place < length digits → AllPass is_upper_hex_digit digits → IsDigit (slice_index digits place)
+digit_at digits place within are = All-get_or IsDigit digits place 0 within are
+
+-- a digit has the bounds of digits
+pub digit_within : (digit : ℕ) → IsDigit digit → max 48 (min digit 70) ≡ digit
+digit_within digit is = grind (arith, nat_tests)
+
+-- a digit behind a zero is read as its number
+pub digit_read : (digit : ℕ) → IsDigit digit → decode_sized (48 ∷ digit ∷ []) 1 ≡ Ok (digit_number digit ∷ [])
+unfolding decode_pairs
+digit_read digit is =
+    let value : hex_digit_value digit ≡ Some (digit_number digit) = grind (arith, nat_tests) in
+    let sum : 0 + digit_number digit ≡ digit_number digit = omega arith in
+    rw value (ap (λ (n : ℕ). Ok (n ∷ [])) sum)
+
+-- the number of a byte by its two digits
+abbrev pub byte_number : List ℕ → ℕ
+byte_number digits = digit_number (slice_index digits 0) * 16 + digit_number (slice_index digits 1)
+
+two_back : (a b : ℕ) → a < 16 → b < 16 → hex_byte (a * 16 + b) ≡ hex_digit a ∷ hex_digit b ∷ []
+two_back a b a_small b_small =
+    let first : (a * 16 + b) / 16 ≡ a = omega arith in
+    let second : (a * 16 + b) % 16 ≡ b = omega arith in
+    rw (first, second) refl
+
+-- two digits are the digits of their byte
+pub byte_spelled : (digits : List ℕ) (byte : ℕ) → length digits ≡ 2 → AllPass is_upper_hex_digit digits → byte ≡ byte_number digits → digits ≡ hex_byte byte
+byte_spelled [] byte two are is = absurd (omega arith)
+byte_spelled (a ∷ []) byte two are is = absurd (omega arith)
+byte_spelled (a ∷ b ∷ []) byte two are is =
+    let a_is = All-head IsDigit a (b ∷ []) are in
     let b_is = All-head IsDigit b [] (All-tail IsDigit a (b ∷ []) are) in
-    (byte, omega arith, rw (first, second, digit_back a (All-head IsDigit a (b ∷ []) are), digit_back b b_is) refl)
-one_byte (a ∷ b ∷ c ∷ digits) are two = absurd (omega arith)
+    sym (ap (λ n. hex_byte n) is ∙ two_back (digit_number a) (digit_number b) (number_small a) (number_small b)
+    ∙ rw (digit_back a a_is, digit_back b b_is) refl)
+byte_spelled (a ∷ b ∷ c ∷ digits) byte two are is = absurd (omega arith)
+
+-- a byte's digits have its number
+pub byte_back : (byte : ℕ) → byte < 2 ^ 8 → byte_number (hex_byte byte) ≡ byte
+byte_back byte small =
+    let high = number_back (byte / 16) (omega arith) in
+    let low = number_back (byte % 16) (omega arith) in
+    rw (high, low) (omega arith)
+
+-- four digits in two bytes are those of a word
+in_bytes : (a b c d : ℕ) → (a * 16 + b) * 256 + (c * 16 + d) ≡ ((a * 16 + b) * 16 + c) * 16 + d
+in_bytes a b c d = omega arith
+
+pub word_is : (digits : List ℕ) → length digits ≡ 4
+    → (digit_number (slice_index digits 0) * 16 + digit_number (slice_index digits 1)) * 256
+    + (digit_number (slice_index digits 2) * 16 + digit_number (slice_index digits 3)) ≡ first_word digits
+word_is [] four = absurd (omega arith)
+word_is (a ∷ []) four = absurd (omega arith)
+word_is (a ∷ b ∷ []) four = absurd (omega arith)
+word_is (a ∷ b ∷ c ∷ []) four = absurd (omega arith)
+word_is (a ∷ b ∷ c ∷ d ∷ []) four = in_bytes (digit_number a) (digit_number b) (digit_number c) (digit_number d)
+word_is (a ∷ b ∷ c ∷ d ∷ e ∷ digits) four = absurd (omega arith)
 
 pub words_spelled : (digits : List ℕ) → AllPass is_upper_hex_digit digits → length digits % 4 ≡ 0 → digits ≡ flat_map hex_word (words_of_digits digits)
 words_spelled [] are four = refl
@@ -135,16 +180,6 @@ digits_no_hyphen words same = omega (arith, digits_length words, ap length same)
 pub digits_upper : (digits : List ℕ) → AreWordDigits digits → AllPass is_upper_hex_digit digits
 digits_upper digits are = subst (λ list. AllPass is_upper_hex_digit list) (sym are.spelling) (digits_pass (words_of_digits digits) (words_small digits))
 
--- four digits are those of their word
-pub four_digits : (digits : List ℕ) → length digits ≡ 4 → AllPass is_upper_hex_digit digits
-    → (word : ℕ) × (word < 2 ^ 16) × (digits ≡ hex_word word) × (words_of_digits digits ≡ word ∷ [])
-four_digits [] four upper = absurd (omega arith)
-four_digits (a ∷ []) four upper = absurd (omega arith)
-four_digits (a ∷ b ∷ []) four upper = absurd (omega arith)
-four_digits (a ∷ b ∷ c ∷ []) four upper = absurd (omega arith)
-four_digits (a ∷ b ∷ c ∷ d ∷ []) four upper = (word_number a b c d, word_small a b c d, words_spelled (a ∷ b ∷ c ∷ d ∷ []) upper refl, refl)
-four_digits (a ∷ b ∷ c ∷ d ∷ e ∷ digits) four upper = absurd (omega arith)
-
 -- where there are four digits there is a first word, and else there is none
 pub first_is : (digits : List ℕ) → 4 ≤ length digits → slice_get (words_of_digits digits) 0 ≡ Some (first_word (take 4 digits))
 first_is [] enough = absurd (omega arith)
@@ -173,9 +208,12 @@ words_in_groups (a ∷ b ∷ c ∷ d ∷ digits) =
 
 -- four digits spell their word
 pub one_word : (digits : List ℕ) (word : ℕ) → length digits ≡ 4 → AllPass is_upper_hex_digit digits → word ≡ first_word digits → digits ≡ hex_word word
-one_word digits word four upper is =
-    let found = four_digits digits four upper in
-    found.2 ∙ ap (λ n. hex_word n) (sym (is ∙ ap (λ (words : List ℕ). slice_index words 0) found.3))
+one_word [] word four upper is = absurd (omega arith)
+one_word (a ∷ []) word four upper is = absurd (omega arith)
+one_word (a ∷ b ∷ []) word four upper is = absurd (omega arith)
+one_word (a ∷ b ∷ c ∷ []) word four upper is = absurd (omega arith)
+one_word (a ∷ b ∷ c ∷ d ∷ []) word four upper is = words_spelled (a ∷ b ∷ c ∷ d ∷ []) upper refl ∙ ap (λ n. hex_word n) (sym is)
+one_word (a ∷ b ∷ c ∷ d ∷ e ∷ digits) word four upper is = absurd (omega arith)
 
 -- and no other word
 pub same_word : (word : ℕ) → IsSmall word → first_word (hex_word word) ≡ word

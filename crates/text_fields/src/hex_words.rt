@@ -7,9 +7,8 @@ ghost use Rattle.text_fields.specs.Hexadecimal.{hex_byte, hex_digit, hex_word, h
 
 use crate::ascii::push_ascii;
 use crate::byte_tests::all_pass;
-use crate::word_lists::{UpperHexDigit, word_of};
+use crate::word_lists::{UpperHexDigit, byte_of, word_of};
 use bit_strings::OutOfMemory;
-use hex::FromHex;
 
 /// The byte that a field spells in two upper-case hexadecimal digits; none exactly where the field isn't
 /// the spelling of a byte.
@@ -17,11 +16,13 @@ pub fn byte(field: &[u8]) -> Option<u8>
     ensures value { IfSome result (λ n. field.now ≡ hex_byte n) }
     ensures only { (n : ℕ) → n < 2 ^ 8 → field.now ≡ hex_byte n → result ≡ Some n }
 {
+    if field.len() != 2 {
+        return None;
+    }
     if !all_pass::<UpperHexDigit>(field) {
         return None;
     }
-    let [byte] = <[u8; 1] as FromHex>::from_hex(field).ok()?;
-    Some(byte)
+    Some(byte_of(field[0], field[1]))
 }
 
 /// The word that a field spells in four upper-case hexadecimal digits; none exactly where the field

@@ -1,9 +1,9 @@
 //! Lists of words as fields.
-ghost use Rattle.std.specs.Prelude.{◌≡◌, ◌≤◌, ◌<◌, ◌^◌, ℕ, ◌↔◌, List, [], length, slice_get, map, All, IsTrue, IfOk, OnOk, IfSome, IsSomeAnd};
+ghost use Rattle.std.specs.Prelude.{◌≡◌, ◌≤◌, ◌<◌, ◌+◌, ◌*◌, ◌^◌, ℕ, ◌↔◌, true, List, [], length, slice_get, map, All, IsTrue, IfOk, OnOk, IfSome, IsSomeAnd};
 ghost use Rattle.std.specs.List.{AllPass};
 ghost use Rattle.text_fields.specs.Binary.{hyphen};
 ghost use Rattle.text_fields.specs.Hexadecimal.{hex_words};
-ghost use Rattle.text_fields.specs.WordLists.{first_word, is_upper_hex_digit};
+ghost use Rattle.text_fields.specs.WordLists.{digit_number, first_word, is_upper_hex_digit};
 
 use crate::byte_tests::{ByteTest, all_pass};
 use crate::digits::list_digits;
@@ -40,17 +40,41 @@ impl ByteTest for UpperHexDigit {
     }
 }
 
+/// The number of an upper-case hexadecimal digit.
+#[inline(always)]
+fn number_of(digit: u8) -> u8
+    requires { is_upper_hex_digit digit ≡ true }
+    ensures number { result ≡ digit_number digit }
+    ensures small { result < 16 }
+{
+    // A digit goes by itself, behind a zero, within the bounds that it has, and over itself: so `hex` is compiled
+    // without a jump for each digit, and many words at once.
+    let bounded = digit.clamp(b'0', b'F');
+    let mut byte = [bounded];
+    // It is a digit.
+    let _ = hex::decode_to_slice([b'0', bounded].as_slice(), &mut byte);
+    byte[0]
+}
+
+/// The byte that two upper-case hexadecimal digits spell.
+#[inline(always)]
+pub(crate) fn byte_of(high: u8, low: u8) -> u8
+    requires high { is_upper_hex_digit high ≡ true }
+    requires low { is_upper_hex_digit low ≡ true }
+    ensures { result ≡ digit_number high * 16 + digit_number low }
+{
+    number_of(high) * 16 + number_of(low)
+}
+
 /// The word of 16 bits that four upper-case hexadecimal digits spell.
 #[inline(always)]
 pub(crate) fn word_of(digits: &[u8; 4]) -> u16
     requires { AllPass is_upper_hex_digit digits.now }
     ensures { result ≡ first_word digits.now }
 {
-    let mut bytes = [0; 2];
-    match hex::decode_to_slice(digits.as_slice(), &mut bytes) {
-        Ok(()) => u16::from_be_bytes(bytes),
-        Err(_) => unreachable!(),
-    }
+    let high = byte_of(digits[0], digits[1]);
+    let low = byte_of(digits[2], digits[3]);
+    high as u16 * 256 + low as u16
 }
 
 /// Writes the word of each group of four upper-case hexadecimal digits.

@@ -1,24 +1,27 @@
--- What is read is the byte of the digits.
-use Rattle.std.proofs.Common.{◌≡◌, [], ◌∷◌, Ok, Some, slice_index, ap, ◌∙◌, sym, rules}
+-- The byte is that of the two digits.
+use Rattle.std.proofs.Common.{◌≡◌, length, ap, arith, ◌∙◌, rules}
+use Rattle.std.specs.Prelude.{Some}
 use Rattle.std.specs.List.{AllPass}
-use Rattle.std.specs.Result.{result_ok}
-use Rattle.hex.specs.Hex.{decode_sized}
 use Rattle.text_fields.specs.WordLists.{is_upper_hex_digit}
-use Rattle.text_fields.proofs.ByteDigits.{byte_back, byte_is, byte_read}
+use Rattle.text_fields.proofs.WordDigits.{byte_back, byte_number, byte_spelled, digit_at}
 use Rattle.text_fields.proofs.hex_words.byte.Goals as goal
 
-pub returns-in_err-byte-clause-only : goal.returns-in_err-byte-clause-only
-returns-in_err-byte-clause-only c = λ n small is.
-    let read : decode_sized c.args.field.now 1 ≡ Ok (n ∷ []) = rw is (byte_read n small) in
-    cc (sym c.in_err-byte.was ∙ c.ok.ensures.value ∙ ap (λ answer. result_ok answer) (c.from_hex.ensures ∙ read))
+pub byte_of-requires-clause-high : goal.byte_of-requires-clause-high
+byte_of-requires-clause-high c =
+    let upper : AllPass is_upper_hex_digit c.args.field.now = search rules in
+    digit_at c.args.field.now 0 (omega arith) upper
+
+pub byte_of-requires-clause-low : goal.byte_of-requires-clause-low
+byte_of-requires-clause-low c =
+    let upper : AllPass is_upper_hex_digit c.args.field.now = search rules in
+    digit_at c.args.field.now 1 (omega arith) upper
 
 pub returns-clause-value : goal.returns-clause-value
 returns-clause-value c =
-    let digits : AllPass is_upper_hex_digit c.args.field.now = search rules in
-    let read : decode_sized c.args.field.now 1 ≡ Ok c.in_ok-byte.field-0 = search rules in
-    byte_is c.args.field.now c.in_ok-byte.field-0 digits read
+    let upper : AllPass is_upper_hex_digit c.args.field.now = search rules in
+    let two : length c.args.field.now ≡ 2 = search rules in
+    byte_spelled c.args.field.now c.byte_of.result two upper c.byte_of.ensures
 
 pub returns-clause-only : goal.returns-clause-only
 returns-clause-only c = λ n small is.
-    let read : decode_sized c.args.field.now 1 ≡ Ok c.in_ok-byte.field-0 = search rules in
-    ap (λ bytes. Some (slice_index bytes 0)) (byte_back c.args.field.now c.in_ok-byte.field-0 n small is read)
+    ap Some (c.byte_of.ensures ∙ ap byte_number is ∙ byte_back n small)

@@ -1,15 +1,19 @@
--- The word is that of the bytes that are read.
-use Rattle.std.proofs.Common.{slice_index, ap, sym, ◌∙◌}
-use Rattle.text_fields.proofs.ByteDigits.{word_read}
+-- Four digits of which each passes have the number of their first word.
+use Rattle.std.proofs.Common.{arith}
+use Rattle.text_fields.proofs.WordDigits.{digit_at, word_is}
 use Rattle.text_fields.proofs.word_lists.word_of.Goals as goal
 
-pub unreachable-requires : goal.unreachable-requires
-unreachable-requires c =
-    let found = word_read c.args.digits.now c.told-digits c.requires in
-    cc (sym c.in-Err.is ∙ (rw (c.as_slice.ensures, found.1) at c.decode_to_slice.ensures.value).0)
+pub byte_of-high-requires-clause-high : goal.byte_of-high-requires-clause-high
+byte_of-high-requires-clause-high c = digit_at c.args.digits.now 0 (omega (arith, c.told-digits)) c.requires
+
+pub byte_of-high-requires-clause-low : goal.byte_of-high-requires-clause-low
+byte_of-high-requires-clause-low c = digit_at c.args.digits.now 1 (omega (arith, c.told-digits)) c.requires
+
+pub byte_of-low-requires-clause-high : goal.byte_of-low-requires-clause-high
+byte_of-low-requires-clause-high c = digit_at c.args.digits.now 2 (omega (arith, c.told-digits)) c.requires
+
+pub byte_of-low-requires-clause-low : goal.byte_of-low-requires-clause-low
+byte_of-low-requires-clause-low c = digit_at c.args.digits.now 3 (omega (arith, c.told-digits)) c.requires
 
 pub returns : goal.returns
-returns c =
-    let found = word_read c.args.digits.now c.told-digits c.requires in
-    let out = (rw (c.as_slice.ensures, found.1) at c.decode_to_slice.ensures.value).1 in
-    c.from_be_bytes.ensures ∙ rw out (sym (ap (λ words. slice_index words 0) found.2))
+returns c = omega (arith, c.byte_of-high.ensures, c.byte_of-low.ensures, word_is c.args.digits.now c.told-digits)
