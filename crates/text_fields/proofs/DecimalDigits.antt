@@ -59,3 +59,5 @@ digit_more field i number within least most digits value =
       digits_more 10 field i within digits (omega (arith, digit)),
       omega (arith, digit, value, digits_value_more 10 field i within),
     )
+
+pub ruleset one_digit = (decimal_digit)

@@ -27,3 +27,5 @@ list_all-whole test bytes i all behind so_far =
       λ yes. AllPass-from_list_all test bytes (sym is ∙ yes),
       λ pass. is ∙ list_all-from_AllPass test bytes pass,
     )
+
+pub ruleset each_byte = (list_all-more, list_all-whole)

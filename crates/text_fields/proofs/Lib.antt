@@ -1,5 +1,5 @@
-mod ByteDigits
-mod UpperHexadecimal
+pub mod ByteDigits
+pub mod UpperHexadecimal
 pub mod DecimalDigits
 pub mod EachByte
 pub mod Groups

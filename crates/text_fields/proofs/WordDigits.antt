@@ -1,5 +1,5 @@
 -- Lists of words and their digits.
-use Rattle.std.proofs.Common.{◌≡◌, ◌≢◌, ◌<◌, ◌≤◌, ◌^◌, ◌/◌, ◌%◌, ◌+◌, ◌*◌, ℕ, suc, true, List, [], ◌∷◌, ◌++◌, length, map, take, slice_index, Some, Ok, arith, ap, sym, ◌∙◌, refl, subst}
+use Rattle.std.proofs.Common.{◌≡◌, ◌≢◌, ◌<◌, ◌≤◌, ◌^◌, ◌/◌, ◌%◌, ◌+◌, ◌*◌, ℕ, suc, true, List, [], ◌∷◌, ◌++◌, length, map, take, take_all, slice_index, Some, Ok, arith, ap, sym, ◌∙◌, refl, subst}
 use Rattle.std.specs.Prelude.{All, None, max, min, slice_get}
 use Rattle.std.specs.List.{AllPass, flat_map}
 use Rattle.std.specs.Simd.{first_chunks}
@@ -104,6 +104,8 @@ byte_back byte small =
     let high = number_back (byte / 16) (omega arith) in
     let low = number_back (byte % 16) (omega arith) in
     rw (high, low) (omega arith)
+
+pub ruleset byte_digits = (digit_at, byte_spelled, byte_back)
 
 -- four digits in two bytes are those of a word
 in_bytes : (a b c d : ℕ) → (a * 16 + b) * 256 + (c * 16 + d) ≡ ((a * 16 + b) * 16 + c) * 16 + d
@@ -218,3 +220,7 @@ one_word (a ∷ b ∷ c ∷ d ∷ e ∷ digits) word four upper is = absurd (ome
 -- and no other word
 pub same_word : (word : ℕ) → IsSmall word → first_word (hex_word word) ≡ word
 same_word word small = word_back word small
+
+pub ruleset word_digits = (same_word, take_all)
+
+pub ruleset first_digits = (first_is, no_word)

@@ -13,6 +13,7 @@ pub(crate) trait ByteTest {
 }
 
 /// Whether each byte passes the test.
+#[tactic(auto, using(crate::proofs::EachByte::each_byte))]
 pub(crate) fn all_pass<T: ByteTest>(bytes: &[u8]) -> bool
     ensures { IsTrue result ↔ AllPass T.test bytes.now }
 {

@@ -40,6 +40,7 @@ pub fn number(field: &[u8], most: u32) -> Option<u32>
 
 /// Writes a number in decimal digits, without leading zeros, at the end of the text. After an error
 /// the text may hold a part of them.
+#[tactic(auto, using(crate::proofs::DecimalDigits::one_digit))]
 pub fn push_number(text: &mut String, number: u32) -> Result<(), OutOfMemory>
     ensures { OnOk result (string_bytes text.new ≡ string_bytes text.old ++ decimal number) }
 {

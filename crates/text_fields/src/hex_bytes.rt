@@ -65,6 +65,7 @@ impl<'a> HexBytes<'a> {
     }
 
     /// Writes the bytes over `out`, which has room for exactly these.
+    #[tactic(auto, using(crate::proofs::HexText::hex_read))]
     pub fn write_to(&self, out: &mut [u8])
         requires { length out.old ≡ length self.now }
         ensures { out.new ≡ self.now }

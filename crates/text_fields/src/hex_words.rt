@@ -12,6 +12,7 @@ use bit_strings::OutOfMemory;
 
 /// The byte that a field spells in two upper-case hexadecimal digits; none exactly where the field isn't
 /// the spelling of a byte.
+#[tactic(auto, using(crate::proofs::WordDigits::byte_digits))]
 pub fn byte(field: &[u8]) -> Option<u8>
     ensures value { IfSome result (λ n. field.now ≡ hex_byte n) }
     ensures only { (n : ℕ) → n < 2 ^ 8 → field.now ≡ hex_byte n → result ≡ Some n }
@@ -27,6 +28,7 @@ pub fn byte(field: &[u8]) -> Option<u8>
 
 /// The word that a field spells in four upper-case hexadecimal digits; none exactly where the field
 /// isn't the spelling of a word.
+#[tactic(auto, using(crate::proofs::WordDigits::word_digits))]
 pub fn word(field: &[u8]) -> Option<u16>
     ensures value { IfSome result (λ n. field.now ≡ hex_word n) }
     ensures only { (n : ℕ) → n < 2 ^ 16 → field.now ≡ hex_word n → result ≡ Some n }
@@ -54,6 +56,7 @@ fn digit_of(number: u8) -> u8
 }
 
 /// Writes the upper-case digits of bytes over `digits`, which has room for exactly these.
+#[tactic(auto, using(crate::proofs::ByteDigits::upper_written))]
 fn write_upper(bytes: &[u8], digits: &mut [u8])
     requires { length digits.old ≡ 2 * length bytes.now }
     ensures { digits.new ≡ flat_map hex_byte bytes.now }
@@ -134,6 +137,7 @@ pub fn push_word(text: &mut String, word: u16) -> Result<(), OutOfMemory>
 
 /// Writes words in hexadecimal digits without anything between them, or a hyphen for none, at the end
 /// of the text. After an error the text may hold a part of them.
+#[tactic(auto, using(crate::proofs::UpperHexadecimal::words_filled))]
 pub fn push_words(text: &mut String, words: &[u16]) -> Result<(), OutOfMemory>
     ensures { OnOk result (string_bytes text.new ≡ string_bytes text.old ++ hex_words words.now) }
 {

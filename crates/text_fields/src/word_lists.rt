@@ -44,8 +44,7 @@ impl ByteTest for UpperHexDigit {
 #[inline(always)]
 fn number_of(digit: u8) -> u8
     requires { is_upper_hex_digit digit ≡ true }
-    ensures number { result ≡ digit_number digit }
-    ensures small { result < 16 }
+    ensures { result ≡ digit_number digit }
 {
     // A digit goes by itself, behind a zero, within the bounds that it has, and over itself: so `hex` is compiled
     // without a jump for each digit, and many words at once.
@@ -58,6 +57,7 @@ fn number_of(digit: u8) -> u8
 
 /// The byte that two upper-case hexadecimal digits spell.
 #[inline(always)]
+#[tactic(auto, using(crate::proofs::WordDigits::number_small))]
 pub(crate) fn byte_of(high: u8, low: u8) -> u8
     requires high { is_upper_hex_digit high ≡ true }
     requires low { is_upper_hex_digit low ≡ true }
@@ -68,6 +68,7 @@ pub(crate) fn byte_of(high: u8, low: u8) -> u8
 
 /// The word of 16 bits that four upper-case hexadecimal digits spell.
 #[inline(always)]
+#[tactic(auto, using(crate::proofs::WordDigits::digit_at, crate::proofs::WordDigits::word_is))]
 pub(crate) fn word_of(digits: &[u8; 4]) -> u16
     requires { AllPass is_upper_hex_digit digits.now }
     ensures { result ≡ first_word digits.now }
@@ -108,6 +109,7 @@ impl<'a> Words<'a> {
     }
 
     /// How many words there are.
+    #[tactic(auto, using(crate::proofs::WordDigits::words_length))]
     pub fn len(&self) -> u32
         ensures { result ≡ length self.now }
     {
@@ -122,6 +124,7 @@ impl<'a> Words<'a> {
     }
 
     /// The first word; none exactly where there are no words.
+    #[tactic(auto, using(crate::proofs::WordDigits::first_digits))]
     pub fn first(&self) -> Option<u16>
         ensures { result ≡ slice_get self.now 0 }
     {

@@ -1,7 +1,0 @@
--- A number of one digit is spelled by it.
-use Rattle.std.proofs.Common.{rules}
-use Rattle.std.proofs.lemmas.Fmt.{decimal_digit}
-use Rattle.text_fields.proofs.decimal_numbers.push_number.Goals as goal
-
-pub returns-then-number-lt10 : goal.returns-then-number-lt10
-returns-then-number-lt10 c = rw (decimal_digit c.args.number c.if-number-lt10.true) (search rules)
