@@ -153,6 +153,7 @@ fn long_lead(m: u32) -> &'static [bool]
 }
 
 /// The levels of the pilot and the preamble (6.3.1.3.2.4 of the standard). With TRext 0 the pilot has 12 symbols less.
+#[tactic(auto, using(crate::proofs::Levels::few_levels, crate::proofs::Levels::shorter))]
 pub fn lead_levels(m: u32, trext: bool) -> &'static [bool]
     requires { IsOneOfThree m }
     ensures value { result.now ≡ miller_lead m trext }
