@@ -212,6 +212,7 @@ fn four_symbols(m: u32, start: bool, number: u16) -> &'static [bool]
 }
 
 /// The phase at the start of the first of four symbols, whose bits are the last four of a number.
+#[tactic(auto, using(crate::proofs::FourSymbols::from_start), unfolding(bit_strings::specs::NumbersInBits::field_of))]
 fn start_of_four(before: SymbolBefore, number: u16) -> bool
     ensures { (m : ℕ) → symbols m result (field_of number 4)
         ≡ blocks (miller m) (context before) (field_of number 4) }
