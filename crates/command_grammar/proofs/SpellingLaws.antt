@@ -148,11 +148,11 @@ some_outcome bits = outcome (all_of bits) refl
 
 -- ---- a Framer that was refused
 
-pub stands_refused : (state : State) (refused : Option (ℕ × Reason)) (bit : Bool) (place : ℕ) (reason : Reason) → refused ≡ Some (place, reason) → (bits : List Bool) → Keeps state refused bits → Keeps state refused (bits ++ bit ∷ [])
-stands_refused state refused bit place reason is bits stands =
-    let h : IsCommandRefusedAt bits place reason = subst (λ (r : Option (ℕ × Reason)). Keeps state r bits) is stands in
-    subst (λ (r : Option (ℕ × Reason)). Keeps state r (bits ++ bit ∷ [])) (sym is) (still_refused bits bit place reason h)
+pub stands_refused : (state more : State) (pushed : ℕ) (refused : Option (ℕ × Reason)) (bit : Bool) (place : ℕ) (reason : Reason) → refused ≡ Some (place, reason) → (bits : List Bool) → Keeps state pushed refused bits → Keeps more pushed refused (bits ++ bit ∷ [])
+stands_refused state more pushed refused bit place reason is bits stands =
+    let h : IsCommandRefusedAt bits place reason = subst (λ (r : Option (ℕ × Reason)). Keeps state pushed r bits) is stands in
+    subst (λ (r : Option (ℕ × Reason)). Keeps more pushed r (bits ++ bit ∷ [])) (sym is) (still_refused bits bit place reason h)
 
-pub judges_refused : (state : State) (refused : Option (ℕ × Reason)) (bit : Bool) (place : ℕ) (reason : Reason) → refused ≡ Some (place, reason) → (bits : List Bool) → Keeps state refused bits → IsCommandRefusedAt (bits ++ bit ∷ []) place reason
-judges_refused state refused bit place reason is bits stands =
-    still_refused bits bit place reason (subst (λ (r : Option (ℕ × Reason)). Keeps state r bits) is stands)
+pub judges_refused : (state : State) (pushed : ℕ) (refused : Option (ℕ × Reason)) (bit : Bool) (place : ℕ) (reason : Reason) → refused ≡ Some (place, reason) → (bits : List Bool) → Keeps state pushed refused bits → IsCommandRefusedAt (bits ++ bit ∷ []) place reason
+judges_refused state pushed refused bit place reason is bits stands =
+    still_refused bits bit place reason (subst (λ (r : Option (ℕ × Reason)). Keeps state pushed r bits) is stands)

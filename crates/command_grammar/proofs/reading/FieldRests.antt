@@ -1,12 +1,11 @@
 -- A field of which some bits were read is read on as the whole field is.
-use Rattle.std.proofs.Common.{◌≡◌, ℕ, zero, suc, ◌+◌, ◌*◌, ◌^◌, ◌<◌, ◌≤◌, Bool, true, false, cond, ltb, List, [], ◌∷◌, ◌++◌, length, take, drop, Ok, Err, refl, sym, ap, ◌∙◌, append_assoc, append-nil, inl, inr, arith}
-use Rattle.std.proofs.Math.Nat.{pow-suc}
+use Rattle.std.proofs.Common.{◌≡◌, ℕ, zero, suc, ◌+◌, ◌*◌, ◌^◌, ◌<◌, ◌≤◌, Bool, true, false, cond, ltb, List, [], ◌∷◌, ◌++◌, length, take, drop, Ok, Err, refl, sym, ap, ◌∙◌, append_assoc, append-nil, length-append, inl, inr, arith}
 use Rattle.std.proofs.lemmas.Bool.{cases_lt, le-ltb, lt-ltb}
-use Rattle.std.proofs.lemmas.List.{length-take}
-use Rattle.bit_strings.specs.NumbersInBits.{digit_of, value_of}
+use Rattle.std.proofs.lemmas.List.{take_at, drop_at}
+use Rattle.bit_strings.specs.NumbersInBits.{value_of}
 use Rattle.command_grammar.specs.declared.refusal.Reason.{Reason}
 use Rattle.command_grammar.specs.reading.Readers.{Short, Reading, ◌>>=◌, Choice, pick, none, fork, reading_bits, reading_number, choice_at, words_at, next_at}
-use Rattle.command_grammar.specs.reading.FieldStages.{number_from, mask_from}
+use Rattle.command_grammar.specs.reading.FieldStages.{mask_from}
 
 -- ---- choices
 
@@ -25,7 +24,7 @@ fork-at (pick a) reason bits e = absurd cc
 fork-at none reason bits e = absurd cc
 fork-at (fork zeros ones) reason bits e = fork-next zeros ones reason bits
 
--- ---- numbers
+-- ---- bits
 
 enough : {A : Type 0} (n width : ℕ) (x y : Reading A) → width ≤ n → cond (ltb n width) x y ≡ y
 enough n width x y long = rw (le-ltb n width long) refl
@@ -47,65 +46,22 @@ bits-cons width bit bits =
 abbrev valued : Reading (List Bool) → Reading ℕ
 valued r = r >>= λ x. Ok (value_of x.0, x.1)
 
-field-bits : (width : ℕ) (bits : List Bool) → reading_number width bits ≡ valued (reading_bits width bits)
-field-bits width bits = either (ltb (length bits) width) (take width bits, drop width bits)
-  where
-    either : (b : Bool) (x : List Bool × List Bool) → cond b (Err Short) (Ok (value_of x.0, x.1)) ≡ valued (cond b (Err Short) (Ok x))
-    either true x = refl
-    either false x = refl
-
--- the bits of a number behind those read
-abbrev pub numbered : ℕ → ℕ → Reading (List Bool) → Reading ℕ
-numbered value width r = r >>= λ x. Ok (value * 2 ^ width + value_of x.0, x.1)
-
-numbered-cons : (value width : ℕ) (bit : Bool) (bits : List Bool) → numbered (2 * value + digit_of bit) width (reading_bits width bits) ≡ numbered value (suc width) (reading_bits width bits >>= λ x. Ok (bit ∷ x.0, x.1))
-numbered-cons value width bit bits =
-    elim (cases_lt (length bits) width) [
-      | inl short ↦
-          let e = too_few (length bits) width (Err Short) (Ok (take width bits, drop width bits)) short in
-          ap (λ (r : Reading (List Bool)). numbered (2 * value + digit_of bit) width r) e
-          ∙ sym (ap (λ (r : Reading (List Bool)). numbered value (suc width) (r >>= λ x. Ok (bit ∷ x.0, x.1))) e)
-      | inr long ↦
-          let e = enough (length bits) width (Err Short) (Ok (take width bits, drop width bits)) long in
-          let wide : length (take width bits) ≡ width = omega (arith, length-take width bits) in
-          let sum : (2 * value + digit_of bit) * 2 ^ width + value_of (take width bits) ≡ value * 2 ^ suc width + (digit_of bit * 2 ^ length (take width bits) + value_of (take width bits)) =
-          rw (wide, pow-suc 2 width) (grind arith) in
-          ap (λ (r : Reading (List Bool)). numbered (2 * value + digit_of bit) width r) e
-          ∙ ap (λ n. Ok (n, drop width bits)) sum
-          ∙ sym (ap (λ (r : Reading (List Bool)). numbered value (suc width) (r >>= λ x. Ok (bit ∷ x.0, x.1))) e)
-    ]
-
 no_bits : (bits : List Bool) → reading_bits 0 bits ≡ Ok ([], bits)
 no_bits bits = enough (length bits) 0 (Err Short) (Ok (take 0 bits, drop 0 bits)) (omega arith)
 
 bits-none : (width : ℕ) → reading_bits (suc width) [] ≡ Err Short
 bits-none width = too_few 0 (suc width) (Err Short) (Ok (take (suc width) [], drop (suc width) [])) (omega arith)
 
-pub number-on : (behind value : ℕ) (bits : List Bool) → number_from behind value bits ≡ numbered value (suc behind) (reading_bits (suc behind) bits)
-number-on zero value [] = refl
-number-on zero value (bit ∷ bits) =
-    let sum : 2 * value + digit_of bit ≡ (2 * value + digit_of bit) * 2 ^ 0 + value_of [] = omega arith in
-    ap (λ n. Ok (n, bits)) sum ∙ ap (λ (r : Reading (List Bool)). numbered (2 * value + digit_of bit) 0 r) (sym (no_bits bits))
-    ∙ numbered-cons value 0 bit bits ∙ ap (λ (r : Reading (List Bool)). numbered value 1 r) (sym (bits-cons 0 bit bits))
-number-on (suc behind) value [] = ap (λ (r : Reading (List Bool)). numbered value (suc (suc behind)) r) (sym (bits-none (suc behind)))
-number-on (suc behind) value (bit ∷ bits) =
-    number-on behind (2 * value + digit_of bit) bits
-    ∙ numbered-cons value (suc behind) bit bits ∙ ap (λ (r : Reading (List Bool)). numbered value (suc (suc behind)) r) (sym (bits-cons (suc behind) bit bits))
+-- ---- numbers
 
--- a number of which no bit was read
-pub number-start : (width behind value : ℕ) (bits : List Bool) → behind + 1 ≡ width → value ≡ 0 → number_from behind value bits ≡ reading_number width bits
-number-start width behind value bits whole nothing =
-    let wide : suc behind ≡ width = omega arith in
-    ap (λ n. number_from behind n bits) nothing ∙ number-on behind 0 bits ∙ from_zero (reading_bits (suc behind) bits) ∙ sym (field-bits (suc behind) bits) ∙ ap (λ n. reading_number n bits) wide
-  where
-    from_zero : (r : Reading (List Bool)) → numbered 0 (suc behind) r ≡ valued r
-    from_zero (Ok x) = let sum : 0 * 2 ^ suc behind + value_of x.0 ≡ value_of x.0 = omega arith in ap (λ n. Ok (n, x.1)) sum
-    from_zero (Err stop) = refl
+pub number-short : (width : ℕ) (bits : List Bool) → length bits < width → reading_number width bits ≡ Err Short
+number-short width bits short = too_few (length bits) width (Err Short) (Ok (value_of (take width bits), drop width bits)) short
 
--- no number ends before its last bit
-pub number-short : (behind value : ℕ) → number_from behind value [] ≡ Err Short
-number-short zero value = refl
-number-short (suc behind) value = refl
+-- the bits of a number, and what comes behind them
+pub number-whole : (width : ℕ) (bits rest : List Bool) → length bits ≡ width → reading_number width (bits ++ rest) ≡ Ok (value_of bits, rest)
+number-whole width bits rest wide =
+    enough (length (bits ++ rest)) width (Err Short) (Ok (value_of (take width (bits ++ rest)), drop width (bits ++ rest))) (omega (arith, wide, length-append bits rest))
+    ∙ rw (take_at bits rest width wide, drop_at bits rest width wide) refl
 
 -- ---- masks
 

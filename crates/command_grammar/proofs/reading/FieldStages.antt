@@ -4,8 +4,6 @@ use Rattle.std.specs.Prelude.{◌==◌}
 use mathlib.Core.Bool.{beq}
 use Rattle.std.proofs.lemmas.Bool.Decides.{nat_tests}
 use Rattle.std.proofs.lemmas.List.{take_at}
-use Rattle.std.proofs.Math.Nat.{pow-suc}
-use Rattle.std.proofs.lemmas.Nat.{pow_below}
 use Rattle.bit_strings.specs.NumbersInBits.{digit_of, value_of, field_of}
 use Rattle.bit_strings.specs.Ebv.{IsEbv, IsCutEbv}
 use Rattle.gen2_crc.specs.Crc.{crc5_of, crc16_of}
@@ -17,20 +15,15 @@ use Rattle.command_grammar.specs.declared.reader.stage.Stage.TheVariants as stag
 use Rattle.command_grammar.specs.declared.refusal.Reason.{Reason}
 use Rattle.command_grammar.specs.declared.refusal.Reason.TheVariants as reasons
 use Rattle.command_grammar.specs.reading.Readers.{Stop, Bad, Reading, ◌>>=◌, reading_bits, reading_number, exactly_at, count_at, words_at, ebv_at, before, crc5_at, crc16_at}
-use Rattle.command_grammar.specs.reading.FieldStages.{number_then, words_then, mask_from, ebv_from, stage_from}
-use Rattle.command_grammar.specs.reading.FieldRanges.{width_of, IsNumberFront}
+use Rattle.command_grammar.specs.reading.FieldStages.{width_of, number_then, words_then, mask_from, ebv_from, stage_from}
 use Rattle.command_grammar.proofs.reading.KnownBits.{exactly-more, exactly-bad, exactly-none, same_bits, other_bits}
 use Rattle.command_grammar.proofs.reading.EbvFronts.{ebv_none, ebv_more, ebv_done, ebv_refused}
 use Rattle.command_grammar.proofs.CheckNumbers.{crc5-field, crc16-field}
-use Rattle.command_grammar.proofs.reading.FieldRests.{number-start, mask-start, words-more, words-none}
+use Rattle.command_grammar.proofs.reading.FieldRests.{mask-start, words-more, words-none}
 
 -- ---- numbers
 
-pub number_stage : (field : NumberField) (width : ℕ) (number : NumberFront) (v : Fields) (bits : List Bool) → number.behind + 1 ≡ width → number.value ≡ 0
-    → stage_from (stages.Number field number) v bits ≡ (reading_number width bits >>= λ n. number_then field n.0 v n.1)
-number_stage field width number v bits whole nothing = ap (λ (r : Reading ℕ). r >>= λ n. number_then field n.0 v n.1) (number-start width number.behind number.value bits whole nothing)
-
-few_bits : (field : NumberField) → width_of field ≤ 20
+pub few_bits : (field : NumberField) → width_of field ≤ 20
 few_bits number_fields.Session = omega arith
 few_bits number_fields.Q = omega arith
 few_bits number_fields.Action = omega arith
@@ -44,18 +37,23 @@ few_bits number_fields.WordsLength = omega arith
 few_bits (number_fields.FirstWord left) = omega arith
 few_bits (number_fields.Word left) = omega arith
 
+pub some_bits : (field : NumberField) → 1 ≤ width_of field
+some_bits number_fields.Session = omega arith
+some_bits number_fields.Q = omega arith
+some_bits number_fields.Action = omega arith
+some_bits number_fields.Count = omega arith
+some_bits number_fields.WordCount = omega arith
+some_bits number_fields.Covered = omega arith
+some_bits number_fields.Payload = omega arith
+some_bits number_fields.Rn = omega arith
+some_bits number_fields.MaskLength = omega arith
+some_bits number_fields.WordsLength = omega arith
+some_bits (number_fields.FirstWord left) = omega arith
+some_bits (number_fields.Word left) = omega arith
+
 pub small_digit : (bit : Bool) → digit_of bit ≤ 1
 small_digit true = omega arith
 small_digit false = omega arith
-
-pub small_front : (field : NumberField) (number : NumberFront) → IsNumberFront (width_of field) number → number.value < 2 ^ 30
-small_front field number front = omega (arith, front.small, pow_below front.read 30 (omega (arith, front.rest, few_bits field)))
-
--- with one bit more the value fits the bits read
-pub value_more : (value read more : ℕ) (bit : Bool) → value < 2 ^ read → more ≡ 2 * value + digit_of bit → more < 2 ^ (read + 1)
-value_more value read more bit small same =
-    let e : read + 1 ≡ suc read = omega arith in
-    rw e (omega (arith, small, same, pow-suc 2 read, small_digit bit))
 
 -- ---- words
 
@@ -72,28 +70,26 @@ two (Ok x) s h k = one (s x) (h x) k
     one (Err stop) h k = refl
 two (Err stop) s h k = refl
 
-pub more_words : (left less : ℕ) (number : NumberFront) (v : Fields) (bits : List Bool) → less + 1 ≡ left → number.behind + 1 ≡ 16 → number.value ≡ 0
-    → words_then left v bits ≡ stage_from (stages.Number (number_fields.Word less) number) v bits
-more_words left less number v bits same whole nothing =
+pub more_words : (left less : ℕ) (v : Fields) (bits : List Bool) → less + 1 ≡ left
+    → words_then left v bits ≡ stage_from (stages.Number (number_fields.Word less)) v bits
+more_words left less v bits same =
     ap (λ (r : Reading (List ℕ)). r >>= λ x. Ok (record v { words = v.words ++ x.0 }, x.1)) (words-more left less bits same)
     ∙ two (reading_number 16 bits) (λ word. words_at less word.1) (λ word words. (word.0 ∷ words.0, words.1)) (λ x. Ok (record v { words = v.words ++ x.0 }, x.1))
-    ∙ sym (number_stage (number_fields.Word less) 16 number v bits whole nothing)
 
-pub first_words : (count less : ℕ) (number : NumberFront) (v : Fields) (bits : List Bool) → less + 1 ≡ count → number.behind + 1 ≡ 16 → number.value ≡ 0
-    → (words_at count bits >>= λ x. Ok (record v { words = x.0 }, x.1)) ≡ stage_from (stages.Number (number_fields.FirstWord less) number) v bits
-first_words count less number v bits same whole nothing =
+pub first_words : (count less : ℕ) (v : Fields) (bits : List Bool) → less + 1 ≡ count
+    → (words_at count bits >>= λ x. Ok (record v { words = x.0 }, x.1)) ≡ stage_from (stages.Number (number_fields.FirstWord less)) v bits
+first_words count less v bits same =
     ap (λ (r : Reading (List ℕ)). r >>= λ x. Ok (record v { words = x.0 }, x.1)) (words-more count less bits same)
     ∙ two (reading_number 16 bits) (λ word. words_at less word.1) (λ word words. (word.0 ∷ words.0, words.1)) (λ x. Ok (record v { words = x.0 }, x.1))
-    ∙ sym (number_stage (number_fields.FirstWord less) 16 number v bits whole nothing)
 
 nonzero : (n less : ℕ) → less + 1 ≡ n → (n == 0) ≡ false
 nonzero n less same = grind (arith, nat_tests)
 
-pub length_words : (count less : ℕ) (number : NumberFront) (v : Fields) (bits : List Bool) → less + 1 ≡ count → number.behind + 1 ≡ 16 → number.value ≡ 0
-    → number_then number_fields.WordsLength count v bits ≡ stage_from (stages.Number (number_fields.FirstWord less) number) v bits
-length_words count less number v bits same whole nothing =
+pub length_words : (count less : ℕ) (v : Fields) (bits : List Bool) → less + 1 ≡ count
+    → number_then number_fields.WordsLength count v bits ≡ stage_from (stages.Number (number_fields.FirstWord less)) v bits
+length_words count less v bits same =
     ap (λ (b : Bool). cond b (Err (Bad (length bits + 1) reasons.Count)) (words_at count bits >>= λ x. Ok (record v { words = x.0 }, x.1))) (nonzero count less same)
-    ∙ first_words count less number v bits same whole nothing
+    ∙ first_words count less v bits same
 
 pub first_word : (left word : ℕ) (words : List ℕ) (v : Fields) (bits : List Bool) → words ≡ word ∷ [] → number_then (number_fields.FirstWord left) word v bits ≡ words_then left (record v { words = words }) bits
 first_word left word words v bits same = ap (λ (l : List ℕ). words_then left (record v { words = l }) bits) (sym same)
@@ -206,12 +202,10 @@ counted {A} (Ok n) k = either (n.0 == 0)
     either false = refl
 counted (Err stop) k = refl
 
-pub words_start : (number : NumberFront) (v : Fields) (whole bits : List Bool) → number.behind + 1 ≡ 8 → number.value ≡ 0 → stage_from (stages.Number number_fields.WordsLength number) v bits ≡ (count_at bits >>= λ n. (words_at n.0 n.1 >>= λ x. Ok (record v { words = x.0 }, x.1)))
+pub words_start : (v : Fields) (bits : List Bool) → stage_from (stages.Number number_fields.WordsLength) v bits ≡ (count_at bits >>= λ n. (words_at n.0 n.1 >>= λ x. Ok (record v { words = x.0 }, x.1)))
 unfolding count_at
-words_start number v whole bits width nothing =
-    number_stage number_fields.WordsLength 8 number v bits width nothing ∙ counted (reading_number 8 bits) (λ n. words_at n.0 n.1 >>= λ x. Ok (record v { words = x.0 }, x.1))
+words_start v bits = counted (reading_number 8 bits) (λ n. words_at n.0 n.1 >>= λ x. Ok (record v { words = x.0 }, x.1))
 
-pub count_start : (number : NumberFront) (v : Fields) (whole bits : List Bool) → number.behind + 1 ≡ 8 → number.value ≡ 0 → stage_from (stages.Number number_fields.WordCount number) v bits ≡ (count_at bits >>= λ n. Ok (record v { word_count = n.0 }, n.1))
+pub count_start : (v : Fields) (bits : List Bool) → stage_from (stages.Number number_fields.WordCount) v bits ≡ (count_at bits >>= λ n. Ok (record v { word_count = n.0 }, n.1))
 unfolding count_at
-count_start number v whole bits width nothing =
-    number_stage number_fields.WordCount 8 number v bits width nothing ∙ counted (reading_number 8 bits) (λ n. Ok (record v { word_count = n.0 }, n.1))
+count_start v bits = counted (reading_number 8 bits) (λ n. Ok (record v { word_count = n.0 }, n.1))

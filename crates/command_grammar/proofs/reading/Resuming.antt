@@ -1,8 +1,10 @@
 -- Reading goes on from each state for the bits that are still to come.
-use Rattle.std.proofs.Common.{◌≡◌, ℕ, ◌+◌, ◌-◌, ◌≤◌, Bool, true, false, List, [], ◌∷◌, ◌++◌, length, Result, Ok, Err, refl, sym, ap, subst, ◌∙◌, append_assoc, append-nil, length-append, take, drop, slice_index_or, inl, inr, arith}
-use Rattle.std.specs.Prelude.{◌⊎◌}
+use Rattle.std.proofs.Common.{◌≡◌, ℕ, ◌+◌, ◌-◌, ◌*◌, ◌<◌, ◌≤◌, ◌^◌, Bool, true, false, List, [], ◌∷◌, ◌++◌, length, Result, Ok, Err, refl, sym, ap, subst, ◌∙◌, append_assoc, append-nil, length-append, take, drop, slice_index_or, inl, inr, arith}
+use Rattle.std.specs.Prelude.{◌⊎◌, Option, Some, None}
+use Rattle.std.proofs.lemmas.Bool.{cases_lt}
 use Rattle.std.proofs.lemmas.List.{take_all}
-use Rattle.bit_strings.specs.NumbersInBits.{field_of}
+use Rattle.bit_strings.specs.NumbersInBits.{digit_of, value_of, field_of}
+use Rattle.bit_strings.specs.laws.NumbersInBits.{value_of-push, value_of-within, field_of-value_of}
 use Rattle.bit_strings.specs.Family.{IsShortAt}
 use Rattle.command_grammar.specs.declared.commands.Command.{Command}
 use Rattle.command_grammar.specs.declared.kinds.CommandKind.{CommandKind}
@@ -14,6 +16,8 @@ use Rattle.command_grammar.specs.declared.reader.fields.Fields.{Fields}
 use Rattle.command_grammar.specs.declared.reader.stage.BitField.TheVariants as bit_fields
 use Rattle.command_grammar.specs.declared.reader.stage.PairField.TheVariants as pair_fields
 use Rattle.command_grammar.specs.declared.reader.stage.TripleField.TheVariants as triple_fields
+use Rattle.command_grammar.specs.declared.reader.check.Check.{Check}
+use Rattle.command_grammar.specs.declared.reader.stage.NumberField.{NumberField}
 use Rattle.command_grammar.specs.declared.reader.stage.Stage.{Stage}
 use Rattle.command_grammar.specs.declared.reader.stage.Stage.TheVariants as stages
 use Rattle.command_grammar.specs.declared.reader.state.Position.{Position}
@@ -22,12 +26,14 @@ use Rattle.command_grammar.specs.declared.reader.state.State.{State}
 use Rattle.command_grammar.specs.declared.refusal.Reason.{Reason}
 use Rattle.command_grammar.specs.declared.refusal.Reason.TheVariants as reasons
 use Rattle.command_grammar.specs.Commands.{command_fields_of, command_of, Spellings, SpellsCommand, IsCommandRefusedAt}
-use Rattle.command_grammar.specs.reading.Readers.{Stop, Short, Bad, Reading, ◌>>=◌, Choice, child, kind_values, choice_at, next_at}
+use Rattle.command_grammar.specs.reading.Readers.{Stop, Short, Bad, Reading, ◌>>=◌, Choice, child, kind_values, choice_at, next_at, reading_number}
 use Rattle.command_grammar.specs.reading.Codes.{behind_code}
 use Rattle.command_grammar.specs.reading.CommandFields.{FieldReader, alone, counted, reader_of, field_then, field_from, command_from, fields_at, command_at, all_of, only_whole, run}
-use Rattle.command_grammar.specs.reading.FieldStages.{number_then, stage_from}
-use Rattle.command_grammar.specs.reading.Framing.{resume, StateStandsFor}
-use Rattle.command_grammar.proofs.reading.FieldRests.{is_fork, fork-at, number-short, mask-short}
+use Rattle.command_grammar.specs.reading.FieldStages.{width_of, number_then, stage_from}
+use Rattle.command_grammar.specs.reading.CheckNumbers.{IsRegisterOf}
+use Rattle.command_grammar.specs.reading.Framing.{resume, StateStandsFor, HasDigits, HasRead, IsOpen, IsSoundPosition, Keeps, TakesBit, bits_of_number}
+use Rattle.command_grammar.proofs.reading.FieldRests.{is_fork, fork-at, number-short, number-whole, mask-short}
+use Rattle.command_grammar.proofs.reading.FieldStages.{few_bits as few_bits_of, some_bits}
 use Rattle.command_grammar.proofs.SpellingLaws.{begun}
 use Rattle.command_grammar.proofs.reading.WholeReading.{all_whole, all_short, all_bad}
 use Rattle.command_grammar.proofs.SpellingLengths.{length-begins}
@@ -103,6 +109,10 @@ resumes_more s position v bits run_bits stands step rest =
 
 -- ---- no state but the last ends with no bits
 
+-- nor does a number
+number-ends : (field : NumberField) (v : Fields) (read : List Bool) → length read < width_of field → stage_from (stages.Number field) v read ≡ Err Short
+number-ends field v read less = ap (λ (r : Reading ℕ). r >>= λ n. number_then field n.0 v n.1) (number-short (width_of field) read less)
+
 stage-short : (stage : Stage) (v : Fields) → stage_from stage v [] ≡ Err Short
 unfolding field_of
 stage-short (stages.Bit bit_fields.Dr) v = refl
@@ -114,7 +124,7 @@ stage-short (stages.Pair pair_fields.Bank first) v = refl
 stage-short (stages.Pair pair_fields.MaskBank first) v = refl
 stage-short (stages.Triple triple_fields.UpDn front) v = refl
 stage-short (stages.Triple triple_fields.SelectTarget front) v = refl
-stage-short (stages.Number field number) v = ap (λ (r : Reading ℕ). r >>= λ n. number_then field n.0 v n.1) (number-short number.behind number.value)
+stage-short (stages.Number field) v = number-ends field v [] (omega (arith, some_bits field))
 stage-short (stages.Ebv front) v = refl
 stage-short (stages.Mask behind) v = ap (λ (r : Reading (List Bool)). r >>= λ x. Ok (record v { mask = x.0 }, x.1)) (mask-short behind v.mask)
 stage-short (stages.Known reason number) v = refl
@@ -158,6 +168,99 @@ open_short s bits (inl code) stands =
 open_short s bits (inr within) stands =
     all_short bits (within_short s.kind within.0 s.behind.now s.fields bits (subst (λ (position : Position). Resumes s.kind position s.behind.now s.fields bits) within.1 stands.reads))
 
+-- ---- inside a number
+
+pub few_digits : (position : Position) → bits_of_number position ≤ 20
+few_digits (positions.Within (stages.Number field)) = few_bits_of field
+few_digits position = omega arith
+
+-- bits inside a number begin some command, and are none
+inside_short : (kind : CommandKind) (position : Position) (behind : List Field) (v : Fields) (whole read : List Bool) → length read < bits_of_number position → resume kind position behind v whole read ≡ Err Short
+inside_short kind (positions.Within (stages.Number field)) behind v whole read less = ap (λ (r : Reading Fields). r >>= λ x. run behind kind x.0 whole x.1) (number-ends field v read less)
+inside_short kind position behind v whole read less = absurd (omega arith)
+
+pub read_short : (s : State) (pushed : ℕ) (bits : List Bool) → 1 ≤ s.left → HasRead s pushed bits → IsShortAt Spellings bits (length bits)
+read_short s pushed bits some h =
+    all_short bits (ap all_of h.split ∙ h.stands.reads h.read ∙ inside_short s.kind s.position s.behind.now s.fields (h.before ++ h.read) h.read (omega (arith, h.digits.wide, some)))
+
+-- where no number is being read the state stands for all of the bits
+pub read_none : (s : State) (pushed : ℕ) (bits : List Bool) → s.left ≡ 0 → HasRead s pushed bits → StateStandsFor s bits
+read_none s pushed bits none h =
+    subst (λ (l : List Bool). StateStandsFor s l) (sym (h.split ∙ ap (λ (l : List Bool). h.before ++ l) (h.digits.nothing none) ∙ append-nil h.before)) h.stands
+
+pub read_all : (s : State) (pushed : ℕ) (bits : List Bool) → HasDigits s [] → StateStandsFor s bits → pushed ≡ length bits → HasRead s pushed bits
+read_all s pushed bits digits stands count = record { before = bits; read = []; split = sym (append-nil bits); digits = digits; stands = stands; count = count }
+
+pub few_read : (s : State) (pushed : ℕ) (bits : List Bool) → HasRead s pushed bits → pushed ≤ 4162
+few_read s pushed bits h =
+    elim (cases_lt 0 s.left) [
+      | inl some ↦ omega (arith, h.count, length-begins bits (read_short s pushed bits (omega (arith, some)) h).begins)
+      | inr none ↦ omega (arith, h.count, few_bits s.kind s.position s.behind.now s.fields bits (read_none s pushed bits (omega (arith, none)) h).reads)
+    ]
+
+-- what the bits read of a number are is small
+pub small_value : (s : State) (read : List Bool) → HasDigits s read → s.value < 2 ^ 30
+small_value s read digits = omega (arith, digits.value, value_of-within read 30 (omega (arith, digits.wide, few_digits s.position)))
+
+-- one bit more of a number that isn't its last one
+pub digit_more : (s more : State) (pushed : ℕ) (bits : List Bool) (bit : Bool) → more ≡ record s { left = s.left - 1; value = 2 * s.value + digit_of bit } → 2 ≤ s.left → HasRead s pushed bits → HasRead more (pushed + 1) (bits ++ bit ∷ [])
+digit_more s more pushed bits bit same some h =
+    subst (λ (t : State). HasRead t (pushed + 1) (bits ++ bit ∷ [])) (sym same) (record {
+      before = h.before;
+      read = h.read ++ bit ∷ [];
+      split = ap (λ (l : List Bool). l ++ bit ∷ []) h.split ∙ append_assoc h.before h.read (bit ∷ []);
+      digits = record {
+        wide = omega (arith, h.digits.wide, length-append h.read (bit ∷ []), some);
+        value = ap (λ n. 2 * n + digit_of bit) h.digits.value ∙ sym (value_of-push h.read bit);
+        nothing = λ none. absurd (omega (arith, none, some));
+      };
+      stands = record { counted = h.stands.counted; served = h.stands.served; reads = h.stands.reads };
+      count = omega (arith, h.count, length-append bits (bit ∷ []));
+    })
+
+-- the last bit of a number: how many bits it has, and what it is
+pub number_wide : (s : State) (field : NumberField) (read : List Bool) → s.position ≡ positions.Within (stages.Number field) → s.left ≡ 1 → HasDigits s read → length read + 1 ≡ width_of field
+number_wide s field read here last digits = omega (arith, digits.wide, last, ap bits_of_number here)
+
+pub number_value : (s : State) (read : List Bool) (bit : Bool) (value : ℕ) → HasDigits s read → value ≡ 2 * s.value + digit_of bit → value ≡ value_of (read ++ bit ∷ [])
+number_value s read bit value digits same = same ∙ ap (λ n. 2 * n + digit_of bit) digits.value ∙ sym (value_of-push read bit)
+
+pub number_small : (s : State) (field : NumberField) (read : List Bool) (bit : Bool) (value : ℕ) → s.position ≡ positions.Within (stages.Number field) → s.left ≡ 1 → HasDigits s read → value ≡ 2 * s.value + digit_of bit → value < 2 ^ width_of field
+number_small s field read bit value here last digits same =
+    subst (λ n. n < 2 ^ width_of field) (sym (number_value s read bit value digits same))
+    (value_of-within (read ++ bit ∷ []) (width_of field) (omega (arith, length-append read (bit ∷ []), number_wide s field read here last digits)))
+
+-- ... and reading goes on with what the number is
+pub number_goes : (s : State) (field : NumberField) (before read : List Bool) (bit : Bool) (value : ℕ) → s.position ≡ positions.Within (stages.Number field) → length read + 1 ≡ width_of field → value ≡ value_of (read ++ bit ∷ []) → StateStandsFor s before → (rest : List Bool)
+    → all_of (((before ++ read) ++ bit ∷ []) ++ rest) ≡ (number_then field value s.fields rest >>= λ x. run s.behind.now s.kind x.0 (((before ++ read) ++ bit ∷ []) ++ rest) x.1)
+number_goes s field before read bit value here wide same stands rest =
+    let digits : List Bool = read ++ bit ∷ [] in
+    let all : ((before ++ read) ++ bit ∷ []) ++ rest ≡ before ++ (digits ++ rest) = ap (λ (l : List Bool). l ++ rest) (append_assoc before read (bit ∷ [])) ∙ append_assoc before digits rest in
+    let number : reading_number (width_of field) (digits ++ rest) ≡ Ok (value, rest) = number-whole (width_of field) digits rest (omega (arith, wide, length-append read (bit ∷ []))) ∙ ap (λ n. Ok (n, rest)) (sym same) in
+    ap all_of all ∙ stands.reads (digits ++ rest)
+    ∙ ap (λ (position : Position). resume s.kind position s.behind.now s.fields (before ++ (digits ++ rest)) (digits ++ rest)) here
+    ∙ ap (λ (r : Reading ℕ). (r >>= λ n. number_then field n.0 s.fields n.1) >>= λ x. run s.behind.now s.kind x.0 (before ++ (digits ++ rest)) x.1) number
+    ∙ ap (λ (whole : List Bool). number_then field value s.fields rest >>= λ x. run s.behind.now s.kind x.0 whole x.1) (sym all)
+
+-- ... and the check number with its bits
+pub number_counted : (check : Check) (before read : List Bool) (bit : Bool) (value width : ℕ) → length read + 1 ≡ width → value ≡ value_of (read ++ bit ∷ []) → IsRegisterOf check (before ++ field_of value width) → IsRegisterOf check ((before ++ read) ++ bit ∷ [])
+number_counted check before read bit value width wide same register =
+    let digits : List Bool = read ++ bit ∷ [] in
+    let long : width ≡ length digits = omega (arith, wide, length-append read (bit ∷ [])) in
+    let field : field_of value width ≡ digits = ap (λ n. field_of n width) same ∙ ap (λ n. field_of (value_of digits) n) long ∙ field_of-value_of digits in
+    subst (IsRegisterOf check) (ap (λ (l : List Bool). before ++ l) field ∙ sym (append_assoc before read (bit ∷ []))) register
+
+-- where no number is being read, what was read of one is nothing
+pub no_number : (s : State) (read : List Bool) → s.left ≡ 0 → HasDigits s read → bits_of_number s.position ≡ 0
+no_number s read none digits = omega (arith, digits.wide, none, ap length (digits.nothing none))
+
+pub no_value : (s : State) (read : List Bool) → s.left ≡ 0 → HasDigits s read → s.value ≡ 0
+no_value s read none digits = digits.value ∙ ap value_of (digits.nothing none)
+
+-- no bit of a number was read
+pub no_digits : (s : State) → s.left ≡ bits_of_number s.position → s.value ≡ 0 → HasDigits s []
+no_digits s wide value = record { wide = omega (arith, wide); value = value; nothing = λ none. refl }
+
 -- the next field begins
 pub begins_field : (behind : List Field) (default : Field) (kind : CommandKind) (v : Fields) (whole bits : List Bool) (stage : Stage) → 1 ≤ length behind → stage_from stage v bits ≡ field_from (slice_index_or behind 0 default) v whole bits
     → run behind kind v whole bits ≡ (stage_from stage v bits >>= λ x. run (take (length behind - 1) (drop 1 behind)) kind x.0 whole x.1)
@@ -184,3 +287,55 @@ pub stage_run : (s : State) (bits run_bits : List Bool) (stage more : Stage) (v 
 stage_run s bits run_bits stage more v here goes stands =
     resumes_more s (positions.Within more) v bits run_bits stands
     (λ rest. ap (λ (position : Position). resume s.kind position s.behind.now s.fields ((bits ++ run_bits) ++ rest) (run_bits ++ rest)) here ∙ ap (λ (r : Reading Fields). r >>= λ x. run s.behind.now s.kind x.0 ((bits ++ run_bits) ++ rest) x.1) (goes rest))
+
+-- ---- what a Framer keeps, with one bit more
+
+-- inside a number no bit was refused
+pub open_none : (s : State) (pushed : ℕ) (refused : Option (ℕ × Reason)) → IsOpen s pushed refused → 2 ≤ s.left → refused ≡ None
+open_none s pushed None is some = refl
+open_none s pushed (Some refusal) is some = absurd (omega (arith, is, some))
+
+pub open_small : (s : State) (pushed : ℕ) (refused : Option (ℕ × Reason)) → IsOpen s pushed refused → 2 ≤ s.left → s.value < 2 ^ 30
+open_small s pushed None is some = small_value s is.2.read is.2.digits
+open_small s pushed (Some refusal) is some = absurd (omega (arith, is, some))
+
+pub open_few : (s : State) (pushed : ℕ) (refused : Option (ℕ × Reason)) → IsOpen s pushed refused → 2 ≤ s.left → pushed ≤ 4162
+open_few s pushed None is some = few_read s pushed is.1 is.2
+open_few s pushed (Some refusal) is some = absurd (omega (arith, is, some))
+
+pub open_more : (s more : State) (pushed : ℕ) (refused : Option (ℕ × Reason)) (bit : Bool) → more ≡ record s { left = s.left - 1; value = 2 * s.value + digit_of bit } → 2 ≤ s.left → IsOpen s pushed refused → IsOpen more (pushed + 1) refused
+open_more s more pushed None bit same some is =
+    (subst (λ (t : State). IsSoundPosition t.position t.fields) (sym same) is.0, is.1 ++ bit ∷ [], digit_more s more pushed is.1 bit same some is.2)
+open_more s more pushed (Some refusal) bit same some is = absurd (omega (arith, is, some))
+
+pub keeps_more : (s more : State) (pushed : ℕ) (refused : Option (ℕ × Reason)) (bits : List Bool) (bit : Bool) → more ≡ record s { left = s.left - 1; value = 2 * s.value + digit_of bit } → 2 ≤ s.left → IsOpen s pushed refused → Keeps s pushed refused bits
+    → Keeps more (pushed + 1) refused (bits ++ bit ∷ []) × IsShortAt Spellings (bits ++ bit ∷ []) (length (bits ++ bit ∷ []))
+keeps_more s more pushed None bits bit same some is keeps =
+    let read = digit_more s more pushed bits bit same some keeps in
+    (read, read_short more (pushed + 1) (bits ++ bit ∷ []) (omega (arith, ap (λ (t : State). t.left) same, some)) read)
+keeps_more s more pushed (Some refusal) bits bit same some is keeps = absurd (omega (arith, is, some))
+
+-- a bit that ends a number or a field, or is refused
+pub edge_stands : (s more : State) (pushed : ℕ) (bits : List Bool) (bit : Bool) → HasRead s pushed bits → ((before read : List Bool) → StateStandsFor s before → HasDigits s read → TakesBit None more (before ++ read) bit) → HasDigits more [] → HasRead more (pushed + 1) (bits ++ bit ∷ [])
+edge_stands s more pushed bits bit h goes digits =
+    read_all more (pushed + 1) (bits ++ bit ∷ []) digits
+    (subst (λ (l : List Bool). StateStandsFor more (l ++ bit ∷ [])) (sym h.split) (goes h.before h.read h.stands h.digits))
+    (omega (arith, h.count, length-append bits (bit ∷ [])))
+
+pub edge_refused : (s more : State) (pushed : ℕ) (bits : List Bool) (bit : Bool) (reason : Reason) → HasRead s pushed bits → ((before read : List Bool) → StateStandsFor s before → HasDigits s read → TakesBit (Some reason) more (before ++ read) bit) → IsCommandRefusedAt (bits ++ bit ∷ []) pushed reason
+edge_refused s more pushed bits bit reason h goes =
+    refused_last bits bit pushed reason h.count (ap (λ (l : List Bool). all_of (l ++ bit ∷ [])) h.split ∙ goes h.before h.read h.stands h.digits [])
+
+-- ---- what is said of what was read
+
+pub whole_read : (s : State) (pushed : ℕ) (bits : List Bool) → s.position ≡ positions.Whole → HasRead s pushed bits → SpellsCommand (command_of s.kind s.fields) bits
+whole_read s pushed bits whole h =
+    let none : s.left ≡ 0 = omega (arith, h.digits.wide, ap bits_of_number whole) in
+    whole_spells s bits whole (read_none s pushed bits none h)
+
+pub open_read : (s : State) (pushed : ℕ) (bits : List Bool) → ((front : CodeFront) × (s.position ≡ positions.Code front)) ⊎ ((stage : Stage) × (s.position ≡ positions.Within stage)) → HasRead s pushed bits → IsShortAt Spellings bits (length bits)
+open_read s pushed bits way h =
+    elim (cases_lt 0 s.left) [
+      | inl some ↦ read_short s pushed bits (omega (arith, some)) h
+      | inr none ↦ open_short s bits way (read_none s pushed bits (omega (arith, none)) h)
+    ]

@@ -1,8 +1,8 @@
 -- Profile: a field of which some bits were read, and what reading gives from there for the bits that are still to come.
-use Rattle.std.specs.Prelude.{ℕ, zero, suc, ◌+◌, ◌*◌, Bool, List, [], ◌∷◌, ◌++◌, length, Option, Some, None, Ok, Err, ◌==◌, if◌then◌else◌}
-use Rattle.bit_strings.specs.NumbersInBits.{digit_of, field_of}
+use Rattle.std.specs.Prelude.{ℕ, zero, suc, ◌+◌, Bool, List, [], ◌∷◌, ◌++◌, length, Option, Some, None, Ok, Err, ◌==◌, if◌then◌else◌}
+use Rattle.bit_strings.specs.NumbersInBits.{field_of}
 use Rattle.command_grammar.specs.declared.reader.fields.Fields.{Fields}
-use Rattle.command_grammar.specs.reading.Readers.{Reading, ◌>>=◌, bit_at, reading_bits, Choice, child, next_at, m_values, sel_values, query_target_values, updn_values, select_target_values, mask_bank_values, bank_values, exactly_at, words_at, ebv_at, Bad}
+use Rattle.command_grammar.specs.reading.Readers.{Reading, ◌>>=◌, bit_at, reading_bits, reading_number, Choice, child, next_at, m_values, sel_values, query_target_values, updn_values, select_target_values, mask_bank_values, bank_values, exactly_at, words_at, ebv_at, Bad}
 use Rattle.command_grammar.specs.declared.reader.stage.BitField.{BitField}
 use Rattle.command_grammar.specs.declared.reader.stage.BitField.TheVariants as bit_fields
 use Rattle.command_grammar.specs.declared.reader.stage.PairField.{PairField}
@@ -30,12 +30,22 @@ behind_front t Nothing = t
 behind_front t (One first) = child t first
 behind_front t (Two first second) = child (child t first) second
 
--- a number: how many bits come behind the next one, and what the bits read are
-abbrev pub number_from : ℕ → ℕ → List Bool → Reading ℕ
-number_from zero value bits = bit_at bits >>= λ next. Ok (2 * value + digit_of next.0, next.1)
-number_from (suc behind) value bits = bit_at bits >>= λ next. number_from behind (2 * value + digit_of next.0) next.1
+-- how many bits a number has
+abbrev pub width_of : NumberField → ℕ
+width_of number_fields.Session = 2
+width_of number_fields.Q = 4
+width_of number_fields.Action = 3
+width_of number_fields.Count = 8
+width_of number_fields.WordCount = 8
+width_of number_fields.Covered = 16
+width_of number_fields.Payload = 20
+width_of number_fields.Rn = 16
+width_of number_fields.MaskLength = 8
+width_of number_fields.WordsLength = 8
+width_of (number_fields.FirstWord left) = 16
+width_of (number_fields.Word left) = 16
 
--- a mask: likewise, behind the bits read
+-- a mask: how many bits come behind the next one, and the bits read
 abbrev pub mask_from : ℕ → List Bool → List Bool → Reading (List Bool)
 mask_from zero mask bits = bit_at bits >>= λ next. Ok (mask ++ next.0 ∷ [], next.1)
 mask_from (suc behind) mask bits = bit_at bits >>= λ next. mask_from behind (mask ++ next.0 ∷ []) next.1
@@ -86,7 +96,7 @@ abbrev pub stage_from : Stage → Fields → List Bool → Reading Fields
 stage_from (stages.Bit field) v bits = bit_from field v bits
 stage_from (stages.Pair field first) v bits = pair_from field first v bits
 stage_from (stages.Triple field front) v bits = triple_from field front v bits
-stage_from (stages.Number field number) v bits = number_from number.behind number.value bits >>= λ n. number_then field n.0 v n.1
+stage_from (stages.Number field) v bits = reading_number (width_of field) bits >>= λ n. number_then field n.0 v n.1
 stage_from (stages.Ebv front) v bits = ebv_from front bits >>= λ x. Ok (record v { pointer = x.0 }, x.1)
 stage_from (stages.Mask behind) v bits = mask_from behind v.mask bits >>= λ x. Ok (record v { mask = x.0 }, x.1)
 stage_from (stages.Known reason number) v bits = exactly_at (field_of number.value (suc number.behind)) reason bits >>= λ x. Ok (v, x.1)

@@ -1,12 +1,13 @@
 -- Profile: what a contract sees of a Framer, and what reading gives from each of its states for the bits that are still to
 -- come. It keeps no bits but those of a mask and of words; what is pushed behind the first place of refusal changes nothing.
 use Rattle.std.specs.Prelude.{◌≡◌, ℕ, ◌+◌, Bool, List, [], ◌∷◌, ◌++◌, length, Option, Some, None, Result, Err}
+use Rattle.bit_strings.specs.NumbersInBits.{value_of}
 use Rattle.command_grammar.specs.Commands.{command_fields_of, command_of, IsCommandRefusedAt}
 use Rattle.command_grammar.specs.reading.Readers.{Stop, ◌>>=◌, child, none, next_at, Bad}
 use Rattle.command_grammar.specs.reading.Codes.{bits_of_front, behind_code}
 use Rattle.command_grammar.specs.reading.CommandFields.{all_of, only_whole, run}
 use Rattle.command_grammar.specs.reading.FieldStages.{stage_from}
-use Rattle.command_grammar.specs.reading.FieldRanges.{AreFieldsInRange, IsEdge}
+use Rattle.command_grammar.specs.reading.FieldRanges.{AreFieldsInRange, IsEdge, number_bits}
 use Rattle.command_grammar.specs.reading.CheckNumbers.{IsRegisterOf, check_kept, AreServed}
 use Rattle.command_grammar.specs.declared.commands.Command.{Command}
 use Rattle.command_grammar.specs.declared.reader.check.Check.{Check}
@@ -41,10 +42,29 @@ IsServed positions.Whole check behind = Unit {0}
 
 -- the state stands for these bits: whatever comes behind them, reading goes on from the state
 pub record StateStandsFor (s : State) (bits : List Bool) : Type 0 where
-  pub count : s.pushed ≡ length bits
   pub counted : CheckGoesAlong s.position s.check bits
   pub served : IsServed s.position s.check s.behind.now
   pub reads : (rest : List Bool) → all_of (bits ++ rest) ≡ resume s.kind s.position s.behind.now s.fields (bits ++ rest) rest
+
+-- how many bits the number has that is read next
+abbrev pub bits_of_number : Position → ℕ
+bits_of_number (positions.Within stage) = number_bits stage
+bits_of_number other = 0
+
+-- of a number these bits were read, and some are still to come; or no number is being read
+pub record HasDigits (s : State) (read : List Bool) : Type 0 where
+  pub wide : length read + s.left ≡ bits_of_number s.position
+  pub value : s.value ≡ value_of read
+  pub nothing : s.left ≡ 0 → read ≡ []
+
+-- the bits, so many, were read: up to a number, and then of it, where one is being read
+pub record HasRead (s : State) (pushed : ℕ) (bits : List Bool) : Type 0 where
+  pub before : List Bool
+  pub read : List Bool
+  pub split : bits ≡ before ++ read
+  pub digits : HasDigits s read
+  pub stands : StateStandsFor s before
+  pub count : pushed ≡ length bits
 
 -- what was read of the field is in its range
 abbrev pub IsSoundPosition : Position → Fields → Type 0
@@ -63,19 +83,20 @@ abbrev pub TakesBit : Option Reason → State → List Bool → Bool → Type 0
 TakesBit None s bits bit = StateStandsFor s (bits ++ bit ∷ [])
 TakesBit (Some reason) s bits bit = (rest : List Bool) → all_of (bits ++ bit ∷ rest) ≡ Err (Bad (length rest + 1) reason)
 
--- what was read, and the refusal, with its place and reason, where there was one
+-- what was read, how many bits that is, and the refusal, with its place and reason, where there was one
 pub record FramerValue : Type 0 where
   pub state : State
+  pub pushed : ℕ
   pub refused : Option (ℕ × Reason)
 
--- a state stands for these bits, or they are refused so
-abbrev pub Keeps : State → Option (ℕ × Reason) → List Bool → Type 0
-Keeps state None bits = StateStandsFor state bits
-Keeps state (Some refusal) bits = IsCommandRefusedAt bits refusal.0 refusal.1
+-- these bits were read, or they are refused so
+abbrev pub Keeps : State → ℕ → Option (ℕ × Reason) → List Bool → Type 0
+Keeps state count None bits = HasRead state count bits
+Keeps state count (Some refusal) bits = IsCommandRefusedAt bits refusal.0 refusal.1
 
 -- the value stands for this list of bits
 abbrev pub FramerStandsFor : FramerValue → List Bool → Type 0
-FramerStandsFor value bits = Keeps value.state value.refused bits
+FramerStandsFor value bits = Keeps value.state value.pushed value.refused bits
 
 -- the refusal that an answer tells
 abbrev pub refusal_in : Pushed → Option (ℕ × Reason)
@@ -83,7 +104,7 @@ refusal_in pushed.More = None
 refusal_in pushed.Whole = None
 refusal_in (pushed.Bad place reason) = Some (place, reason)
 
--- bits that are not refused are some bits that the state stands for
-abbrev pub IsOpen : State → Option (ℕ × Reason) → Type 0
-IsOpen state None = IsSoundPosition state.position state.fields × (bits : List Bool) × StateStandsFor state bits
-IsOpen state (Some refusal) = Unit {0}
+-- bits that are not refused are some bits that were read; behind a refusal no number is being read
+abbrev pub IsOpen : State → ℕ → Option (ℕ × Reason) → Type 0
+IsOpen state count None = IsSoundPosition state.position state.fields × (bits : List Bool) × HasRead state count bits
+IsOpen state count (Some refusal) = state.left ≡ 0

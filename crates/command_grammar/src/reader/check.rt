@@ -1,5 +1,6 @@
 //! The check number that goes along with the bits of a command (6.3.1.5).
-ghost use Rattle.std.specs.Prelude.{◌≡◌, List, Bool, [], ◌∷◌, ◌++◌};
+ghost use Rattle.std.specs.Prelude.{◌≡◌, ◌≤◌, ◌<◌, ◌^◌, List, Bool, [], ◌∷◌, ◌++◌};
+ghost use Rattle.bit_strings.specs.NumbersInBits.{field_of};
 ghost use Rattle.command_grammar.specs.reading.CheckNumbers.{IsRegisterOf, check_asked, check_kept, kept_behind};
 
 use crate::fields::Field;
@@ -48,6 +49,35 @@ impl Check {
             Check::Long(crc) => crc.push(bit),
             Check::Short(crc) => crc.push(bit),
             Check::Over => {}
+        }
+    }
+
+    /// Takes the bits of a number into the check number, where one is still to come. Those of a word are taken at once.
+    pub(crate) fn push_number(&mut self, value: u32, width: u32)
+        requires narrow { width ≤ 20 }
+        requires fits { value < 2 ^ width }
+        ensures counts { (front : List Bool) → IsRegisterOf self.old front
+            → IsRegisterOf self.new (front ++ field_of value width) }
+        ensures kept { check_kept self.new ≡ check_kept self.old }
+    {
+        match self {
+            Check::Over => {}
+            Check::Long(crc) if width == 16 => crc.push_word(value as u16),
+            Check::Long(_) | Check::Short(_) => self.push_digits(value, width),
+        }
+    }
+
+    /// Takes the bits of a number one by one.
+    fn push_digits(&mut self, value: u32, width: u32)
+        requires { width ≤ 20 }
+        ensures counts { (front : List Bool) → IsRegisterOf self.old front
+            → IsRegisterOf self.new (front ++ field_of value width) }
+        ensures kept { check_kept self.new ≡ check_kept self.old }
+    {
+        let mut places = width;
+        while places > 0 {
+            places -= 1;
+            self.push((value >> places) % 2 == 1);
         }
     }
 

@@ -1,7 +1,7 @@
 //! What comes of a bit of each kind of field, and of the number that the bits of a field are.
 ghost use Rattle.std.specs.Prelude.{◌≡◌, ◌+◌, ◌≤◌, ◌<◌, ◌^◌, ◌∷◌, List, Bool, Some, length};
-ghost use Rattle.command_grammar.specs.reading.FieldStages.{stage_from, next_from, pair_from, triple_from, bit_from, number_then, words_then};
-ghost use Rattle.command_grammar.specs.reading.FieldRanges.{IsSoundNumber, IsSoundNext, width_of};
+ghost use Rattle.command_grammar.specs.reading.FieldStages.{stage_from, next_from, pair_from, triple_from, bit_from, number_then, words_then, width_of};
+ghost use Rattle.command_grammar.specs.reading.FieldRanges.{IsSoundNumber, IsSoundNext};
 ghost use Rattle.command_grammar.specs.declared.reader.fields.Fields.{Fields};
 ghost use Rattle.command_grammar.specs.declared.reader.stage.Stage.TheVariants as stages;
 ghost use Rattle.command_grammar.specs.declared.reader.stage.TripleFront.TheVariants.{One, Two};
@@ -13,7 +13,7 @@ use crate::reader::fields::{
     Fields, action_of, count_of, payload_of, pointer_of, q_of, session_of,
 };
 use crate::reader::stage::{
-    BitField, Next, NumberField, NumberFront, PairField, Stage, TripleField, TripleFront,
+    BitField, Next, NumberField, PairField, Stage, TripleField, TripleFront,
 };
 use crate::refusal::Reason;
 use bit_strings::{EbvFront, EbvStep};
@@ -124,10 +124,7 @@ pub(crate) fn take_number(field: NumberField, value: u32, fields: &mut Fields) -
             if value == 0 {
                 return Next::Refused(Reason::Count);
             }
-            return Next::Stay(Stage::Number(
-                NumberField::FirstWord(value - 1),
-                NumberFront::of(16),
-            ));
+            return Next::Stay(Stage::Number(NumberField::FirstWord(value - 1)));
         }
         NumberField::FirstWord(left) => {
             fields.words = BlockWords::first(value as u16);
@@ -151,7 +148,7 @@ fn next_word(left: u32) -> Next
     if left == 0 {
         return Next::Done;
     }
-    Next::Stay(Stage::Number(NumberField::Word(left - 1), NumberFront::of(16)))
+    Next::Stay(Stage::Number(NumberField::Word(left - 1)))
 }
 
 /// A bit of an extensible bit vector, behind those read.

@@ -14,10 +14,13 @@ use std::marker::Model;
 /// Finds the end of a command in bits that come one at a time, and what the command is.
 ///
 /// A contract says which list of bits it stands for. It keeps the field that it is in with the bits
-/// read of it, behind the command code the check number of the bits so far, and the values of the
-/// fields before; no bits but those of a mask and of words. A bit is looked at once.
+/// read of it, the values of the fields before, and behind the command code the check number so far;
+/// no bits but those of a mask and of words. The bits of a number go into the check number once all
+/// of them are read, so that little is done at most bits.
 #[derive(Drop)]
 pub struct Framer {
+    /// How many bits were read.
+    pushed: u32,
     state: State,
     refused: Option<(u32, Reason)>,
 }
@@ -25,9 +28,9 @@ pub struct Framer {
 impl Model for Framer {
     ghost Value = { FramerValue };
 
-    ghost view = { λ a. record { state = a.state; refused = a.refused } };
+    ghost view = { λ a. record { state = a.state; pushed = a.pushed; refused = a.refused } };
 
-    ghost invariant = { λ a. IsOpen a.state a.refused };
+    ghost invariant = { λ a. IsOpen a.state a.pushed a.refused };
 }
 
 impl Framer {
@@ -36,6 +39,7 @@ impl Framer {
         ensures { FramerStandsFor result [] }
     {
         Framer {
+            pushed: 0,
             state: State::new(),
             refused: None,
         }
@@ -52,13 +56,18 @@ impl Framer {
         ensures same { (place : ℕ) (reason : Reason) → self.old.refused ≡ Some (place, reason)
             → result ≡ Bad place reason }
     {
+        if self.state.take_digit(bit) {
+            self.pushed += 1;
+            return Pushed::More;
+        }
         match self.refused {
             Some((place, reason)) => Pushed::Bad(place, reason),
             None => {
+                let place = self.pushed;
+                self.pushed += 1;
                 if self.state.take_inside(bit) {
                     return self.state.judge();
                 }
-                let place = self.state.pushed;
                 match self.state.take_edge(bit) {
                     None => self.state.judge(),
                     Some(reason) => {
@@ -92,7 +101,8 @@ impl Framer {
             → SpellsCommand command bits → answer.new ≡ Ok command }
         ensures anew { FramerStandsFor self.new [] }
     {
-        self.state.finish(self.refused, answer);
+        self.state.finish(self.pushed, self.refused, answer);
+        self.pushed = 0;
         self.refused = None;
     }
 }

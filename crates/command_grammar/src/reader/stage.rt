@@ -1,9 +1,8 @@
 //! The field of a command that is being read.
-ghost use Rattle.std.specs.Prelude.{◌≡◌, ◌+◌, ◌*◌, ◌≤◌, ◌<◌, ◌^◌, ◌∷◌, ◌++◌, ℕ, List, Bool, IsTrue, IsFalse, length};
-ghost use Rattle.bit_strings.specs.NumbersInBits.{digit_of};
+ghost use Rattle.std.specs.Prelude.{◌≡◌, ◌+◌, ◌≤◌, ◌∷◌, ◌++◌, List, Bool, IsTrue, IsFalse, length};
 ghost use Rattle.command_grammar.specs.reading.CommandFields.{field_from};
-ghost use Rattle.command_grammar.specs.reading.FieldStages.{number_from, stage_from, next_from};
-ghost use Rattle.command_grammar.specs.reading.FieldRanges.{IsNumberFront, AreFieldsInRange, IsSoundNext, IsEdge, next_bit};
+ghost use Rattle.command_grammar.specs.reading.FieldStages.{width_of, stage_from, next_from};
+ghost use Rattle.command_grammar.specs.reading.FieldRanges.{AreFieldsInRange, IsSoundNext, IsEdge, next_bit, number_bits};
 ghost use Rattle.command_grammar.specs.reading.CheckNumbers.{IsRegisterOf, IsAsked, check_kept};
 ghost use Rattle.command_grammar.specs.declared.reader.fields.Fields.{Fields};
 ghost use Rattle.command_grammar.specs.declared.reader.stage.Stage.TheVariants as stages;
@@ -11,24 +10,21 @@ ghost use Rattle.command_grammar.specs.declared.refusal.Reason.{Reason};
 
 use crate::fields::Field;
 use crate::reader::check::Check;
-use crate::reader::field_steps::{
-    take_bit, take_ebv, take_number, take_pair, take_second, take_third,
-};
+use crate::reader::field_steps::{take_bit, take_ebv, take_pair, take_second, take_third};
 use crate::reader::fields::Fields;
 use crate::refusal::Reason;
 use bit_strings::EbvFront;
 
-/// The bits of a number that were read before its next one.
+/// A number that is known beforehand, as a check number is, and how much of it was read.
 #[derive(Clone, Copy)]
 pub(crate) struct NumberFront {
     /// How many bits come behind the next one.
     behind: u32,
-    /// What the bits read are.
     value: u32,
 }
 
 impl NumberFront {
-    /// No bit of a number of `width` bits.
+    /// No bit of so many zeros.
     pub(crate) fn of(width: u32) -> NumberFront
         requires { 1 ≤ width }
         ensures behind { result.behind + 1 ≡ width }
@@ -40,34 +36,7 @@ impl NumberFront {
         }
     }
 
-    /// Takes the next bit where it isn't the last one, and gives whether it did.
-    fn take_inside(&mut self, bit: bool) -> bool
-        requires { self.old.value < 2 ^ 30 }
-        ensures reads { IsTrue result → (rest : List Bool)
-            → number_from self.old.behind self.old.value (bit ∷ rest)
-            ≡ number_from self.new.behind self.new.value rest }
-        ensures fits { IsTrue result → (width : ℕ) → IsNumberFront width self.old
-            → IsNumberFront width self.new }
-        ensures last { IsFalse result → self.old.behind ≡ 0 }
-        ensures same { IsFalse result → self.new ≡ self.old }
-    {
-        if self.behind == 0 {
-            return false;
-        }
-        self.value = self.with(bit);
-        self.behind -= 1;
-        true
-    }
-
-    /// The number with one bit more behind those read.
-    fn with(&self, bit: bool) -> u32
-        requires { self.now.value < 2 ^ 30 }
-        ensures { result ≡ 2 * self.now.value + digit_of bit }
-    {
-        2 * self.value + u32::from(bit)
-    }
-
-    /// The next bit of a number that is known beforehand, as a check number is.
+    /// The next bit.
     fn next(&self) -> bool
         requires { self.now.behind ≤ 15 }
         ensures { result ≡ next_bit self.now }
@@ -75,7 +44,7 @@ impl NumberFront {
         (self.value >> self.behind) % 2 == 1
     }
 
-    /// Takes the next bit of a number that is known where it isn't the last one and doesn't differ, and gives whether it did.
+    /// Takes the next bit where it isn't the last one and doesn't differ, and gives whether it did.
     fn take_known_inside(&mut self, bit: bool) -> bool
         requires { self.old.behind ≤ 15 }
         ensures reads { IsTrue result → (reason : Reason) (fields : Fields) (rest : List Bool)
@@ -149,6 +118,28 @@ pub(crate) enum NumberField {
     Word(u32),
 }
 
+impl NumberField {
+    /// How many bits the number has.
+    pub(crate) fn width(self) -> u32
+        ensures { result ≡ width_of self }
+    {
+        match self {
+            NumberField::Session => 2,
+            NumberField::Action => 3,
+            NumberField::Q => 4,
+            NumberField::Count
+            | NumberField::WordCount
+            | NumberField::MaskLength
+            | NumberField::WordsLength => 8,
+            NumberField::Covered
+            | NumberField::Rn
+            | NumberField::FirstWord(_)
+            | NumberField::Word(_) => 16,
+            NumberField::Payload => 20,
+        }
+    }
+}
+
 /// What is being read: a field, or a part of one.
 #[derive(Clone, Copy)]
 pub(crate) enum Stage {
@@ -156,12 +147,13 @@ pub(crate) enum Stage {
     /// The first bit, where it was read.
     Pair(PairField, Option<bool>),
     Triple(TripleField, TripleFront),
-    Number(NumberField, NumberFront),
+    /// A number, of which no bit was read.
+    Number(NumberField),
     /// An extensible bit vector (Annex A), of which some bits were read.
     Ebv(EbvFront),
     /// The bits of a mask: how many come behind the next one.
     Mask(u32),
-    /// Bits that are known: they are those of a number, and a bit that differs is refused.
+    /// Bits that are known: a bit that differs from those of the number is refused.
     Known(Reason, NumberFront),
 }
 
@@ -177,6 +169,21 @@ pub(crate) enum Next {
 }
 
 impl Stage {
+    /// How many bits the number has that is read next, or 0.
+    pub(crate) fn number_bits(&self) -> u32
+        ensures { result ≡ number_bits self.now }
+    {
+        match self {
+            Stage::Number(field) => field.width(),
+            Stage::Bit(_)
+            | Stage::Pair(..)
+            | Stage::Triple(..)
+            | Stage::Ebv(_)
+            | Stage::Mask(_)
+            | Stage::Known(..) => 0,
+        }
+    }
+
     /// The beginning of a field, behind bits with this check number.
     pub(crate) fn start(field: Field, check: &Check) -> Stage
         requires { IsAsked (check_kept check.now) field }
@@ -189,9 +196,9 @@ impl Stage {
             Field::M => Stage::Pair(PairField::M, None),
             Field::TRext => Stage::Bit(BitField::TRext),
             Field::Sel => Stage::Pair(PairField::Sel, None),
-            Field::Session => Stage::Number(NumberField::Session, NumberFront::of(2)),
+            Field::Session => Stage::Number(NumberField::Session),
             Field::QueryTarget => Stage::Bit(BitField::QueryTarget),
-            Field::Q => Stage::Number(NumberField::Q, NumberFront::of(4)),
+            Field::Q => Stage::Number(NumberField::Q),
             Field::Crc5 => match check {
                 Check::Short(crc) => {
                     let value = u32::from(crc.value());
@@ -201,19 +208,19 @@ impl Stage {
             },
             Field::UpDn => Stage::Triple(TripleField::UpDn, TripleFront::Nothing),
             Field::SelectTarget => Stage::Triple(TripleField::SelectTarget, TripleFront::Nothing),
-            Field::Action => Stage::Number(NumberField::Action, NumberFront::of(3)),
+            Field::Action => Stage::Number(NumberField::Action),
             Field::MaskBank => Stage::Pair(PairField::MaskBank, None),
             Field::Pointer => Stage::Ebv(EbvFront::new()),
-            Field::Mask => Stage::Number(NumberField::MaskLength, NumberFront::of(8)),
+            Field::Mask => Stage::Number(NumberField::MaskLength),
             Field::Truncate => Stage::Known(Reason::Truncate, NumberFront::of(1)),
             Field::Bank => Stage::Pair(PairField::Bank, None),
-            Field::Count => Stage::Number(NumberField::Count, NumberFront::of(8)),
-            Field::Words => Stage::Number(NumberField::WordsLength, NumberFront::of(8)),
-            Field::WordCount => Stage::Number(NumberField::WordCount, NumberFront::of(8)),
-            Field::Covered => Stage::Number(NumberField::Covered, NumberFront::of(16)),
+            Field::Count => Stage::Number(NumberField::Count),
+            Field::Words => Stage::Number(NumberField::WordsLength),
+            Field::WordCount => Stage::Number(NumberField::WordCount),
+            Field::Covered => Stage::Number(NumberField::Covered),
             Field::KillBits => Stage::Known(Reason::KillBits, NumberFront::of(3)),
-            Field::Payload => Stage::Number(NumberField::Payload, NumberFront::of(20)),
-            Field::Rn => Stage::Number(NumberField::Rn, NumberFront::of(16)),
+            Field::Payload => Stage::Number(NumberField::Payload),
+            Field::Rn => Stage::Number(NumberField::Rn),
             Field::Crc16 => match check {
                 Check::Long(crc) => {
                     let value = u32::from(crc.value());
@@ -224,20 +231,21 @@ impl Stage {
         }
     }
 
-    /// Takes a bit inside a number, a mask or bits that are known, as most bits are, or the first one of two or three, and
-    /// gives whether it did. The last bit of these isn't taken, nor one that differs from the known one, nor one elsewhere.
+    /// Takes a bit inside a mask or bits that are known, or the first one of two or three, and gives whether it did. The last
+    /// bit of these isn't taken, nor one that differs from the known one, nor one elsewhere.
     #[inline(always)]
     pub(crate) fn take_inside(&mut self, bit: bool, fields: &mut Fields) -> bool
-        requires { AreFieldsInRange self.old fields.old }
+        requires sound { AreFieldsInRange self.old fields.old }
+        requires none { number_bits self.old ≡ 0 }
         ensures reads { IsTrue result → (rest : List Bool)
             → stage_from self.old fields.old (bit ∷ rest) ≡ stage_from self.new fields.new rest }
         ensures sound { IsTrue result → AreFieldsInRange self.new fields.new }
+        ensures none { IsTrue result → number_bits self.new ≡ 0 }
         ensures edge { IsFalse result → IsEdge self.old bit }
         ensures same { IsFalse result → self.new ≡ self.old }
         ensures fields { IsFalse result → fields.new ≡ fields.old }
     {
         match self {
-            Stage::Number(_, number) => number.take_inside(bit),
             Stage::Known(_, wanted) => wanted.take_known_inside(bit),
             Stage::Mask(behind) => take_mask_inside(behind, bit, fields),
             Stage::Pair(_, first @ None) => {
@@ -249,6 +257,7 @@ impl Stage {
                 true
             }
             Stage::Ebv(_) | Stage::Bit(_) | Stage::Pair(..) | Stage::Triple(..) => false,
+            Stage::Number(_) => unreachable!(),
         }
     }
 
@@ -271,7 +280,7 @@ impl Stage {
                 TripleFront::One(first) => take_second(field, first, bit),
                 TripleFront::Two(first, second) => take_third(field, first, second, bit, fields),
             },
-            Stage::Number(field, number) => take_number(field, number.with(bit), fields),
+            Stage::Number(_) => unreachable!(),
             Stage::Ebv(front) => take_ebv(front, bit, fields),
             Stage::Mask(_) => {
                 fields.mask.push_reserved(bit);

@@ -6,4 +6,4 @@ pub returns-then-left-eq0-clause-reads : goal.returns-then-left-eq0-clause-reads
 returns-then-left-eq0-clause-reads c = λ fields rest. no_words c.args.left fields rest (omega arith)
 
 pub returns-clause-reads : goal.returns-clause-reads
-returns-clause-reads c = λ fields rest. more_words c.args.left (c.args.left - 1) c.of.result fields rest (omega arith) c.of.ensures.behind c.of.ensures.value
+returns-clause-reads c = λ fields rest. more_words c.args.left (c.args.left - 1) fields rest (omega arith)
