@@ -1,4 +1,4 @@
-use Rattle.std.proofs.Common.{◌++◌, ◌∙◌, subst}
+use Rattle.std.proofs.Common.{◌∙◌, subst}
 use Rattle.command_grammar.specs.declared.reader.check.Check.{Check}
 use Rattle.command_grammar.specs.reading.CheckNumbers.{IsRegisterOf}
 use Rattle.command_grammar.proofs.reading.FieldStages.{truncate_start, kill_bits_start, crc5_start, crc16_start, pointer_start, words_start, count_start}

@@ -1,4 +1,4 @@
-use Rattle.std.proofs.Common.{ℕ, Ok, [], refl, subst, ap, sym, ◌∙◌, arith}
+use Rattle.std.proofs.Common.{ℕ, Ok, [], refl, subst, ap, sym, ◌∙◌}
 use Rattle.std.specs.Prelude.{Option, Result}
 use Rattle.bit_strings.specs.Family.{IsShortAt}
 use Rattle.command_grammar.specs.declared.commands.Command.{Command}

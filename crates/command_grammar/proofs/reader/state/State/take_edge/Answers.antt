@@ -1,5 +1,5 @@
 use Rattle.std.proofs.Common.{◌++◌, List, Bool, sym, ap, subst, ◌∙◌, append-nil, arith}
-use Rattle.command_grammar.specs.reading.Framing.{StateStandsFor, TakesBit}
+use Rattle.command_grammar.specs.reading.Framing.{TakesBit}
 use Rattle.command_grammar.proofs.reading.Resuming.{no_value, small_value}
 use Rattle.command_grammar.proofs.reader.state.State.take_edge.Goals as goal
 

@@ -1,4 +1,4 @@
-use Rattle.std.proofs.Common.{◌≡◌, ◌∷◌, ◌++◌, ◌∙◌, [], Bool, List, ap, arith, refl, subst}
+use Rattle.std.proofs.Common.{◌≡◌, ◌∷◌, ◌++◌, ◌∙◌, [], Bool, List, ap, arith, subst}
 use Rattle.command_grammar.specs.declared.reader.state.Position.{Position}
 use Rattle.command_grammar.specs.reading.Framing.{CheckGoesAlong, bits_of_number}
 use Rattle.command_grammar.proofs.reading.Resuming.{code_goes_on, no_number, no_value, no_digits}
