@@ -4,7 +4,6 @@ ghost use Rattle.std.specs.Prelude.{◌≡◌, ◌+◌, ℕ, true, false, if◌t
 ghost use Rattle.tag_machine.specs.Answers.{silent};
 ghost use Rattle.tag_machine.specs.Hearing.{tag_value_of};
 ghost use Rattle.tag_machine.specs.Draws.{enter};
-ghost use Rattle.tag_machine.specs.Inventory.{query_rep};
 ghost use Rattle.tag_machine.specs.Reach.{reaches_waiting};
 ghost use Rattle.tag_machine.specs.Step.{step};
 ghost use Rattle.tag_machine.specs.TagValue.{ArbitrateState, BodyValue, IsLegalTag, ReadyState};
@@ -90,7 +89,13 @@ impl Tag<Arbitrate> {
         let own = self.state.session;
         let own_q = self.state.q;
         match command {
-            Command::QueryRep { session } => self.count_down(*session),
+            Command::QueryRep { session } => match self.state.behind_query_rep(*session) {
+                Some(state) => {
+                    self.state = state;
+                    true
+                }
+                None => false,
+            },
             Command::QueryAdjust { session, updn } => {
                 own != *session || self.draw_slot(*session, adjusted(*updn, own_q))
             }
@@ -123,23 +128,6 @@ impl Tag<Arbitrate> {
         self.body.draw();
         let slot = Slot::new(number);
         self.state = Arbitrate { session, q, slot };
-        true
-    }
-
-    /// Hears a QueryRep that leaves the tag in arbitrate, and answers whether it did.
-    fn count_down(&mut self, session: Session) -> bool
-        ensures heard { result ≡ true
-            → query_rep session self.old.state self.old.body ≡ silent self.new.state self.new.body }
-        ensures left { result ≡ false → self.new ≡ self.old }
-        ensures legal { IsLegalTag self.new }
-    {
-        if self.state.session == session {
-            let slot = self.state.slot.below();
-            if slot.get() == 0 {
-                return false;
-            }
-            self.state.slot = slot;
-        }
         true
     }
 }

@@ -3,11 +3,11 @@ ghost use Rattle.std.specs.Prelude.{◌≡◌, ◌≤◌};
 ghost use Rattle.reply_grammar.specs.Replies.{reply_room};
 ghost use Rattle.reply_grammar.specs.declared.expected.Reply.TheVariants.{Handle, Header};
 ghost use Rattle.tag_machine.specs.Answers.{silent, plain_answer, extended_answer};
-ghost use Rattle.tag_machine.specs.Draws.{begin_reply, enter, close, back, tag_back};
+ghost use Rattle.tag_machine.specs.Draws.{begin_reply, enter, back, tag_back};
 ghost use Rattle.tag_machine.specs.Hearing.{GivesOutcome, tag_value_of};
 
 use crate::any_tag::{Answered, AnyTag, Heard};
-use crate::states::{Arbitrate, InReply, Ready};
+use crate::states::{Arbitrate, InReply};
 use crate::tag::Tag;
 use bit_strings::{Bits, QValue, Session};
 use reply_grammar::{encode_handle, encode_header, encode_rn16};
@@ -72,14 +72,6 @@ pub fn go_back(body: Body, session: Session, q: QValue, out: &mut Bits) -> Heard
     ensures { GivesOutcome (back session q body) result out.old out.new }
 {
     unanswered(AnyTag::Arbitrate(back(body, session, q)), out)
-}
-
-/// CLOSE: the flag of the session is inverted, and the tag is ready.
-pub fn close(mut body: Body, session: Session, out: &mut Bits) -> Heard
-    ensures { GivesOutcome (close session body) result out.old out.new }
-{
-    body.parts.flags.invert(session);
-    unanswered(AnyTag::Ready(Tag { state: Ready, body }), out)
 }
 
 /// Draws an RN16 and answers it.

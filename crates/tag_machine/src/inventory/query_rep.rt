@@ -1,26 +1,61 @@
 //! QueryRep (6.3.2.11.2.3).
-ghost use Rattle.std.specs.Prelude.{◌≡◌, ◌+◌, ◌≤◌};
-ghost use Rattle.tag_machine.specs.Inventory.{query_rep, end_turn};
+ghost use Rattle.std.specs.Prelude.{◌≡◌, ◌+◌, ◌≤◌, IfNone, IfSome};
+ghost use Rattle.tag_machine.specs.Answers.{silent};
+ghost use Rattle.tag_machine.specs.Draws.{back, begin_reply, close};
+ghost use Rattle.tag_machine.specs.Inventory.{query_rep, unless_half};
 ghost use Rattle.tag_machine.specs.Hearing.{GivesOutcome, tag_value_of};
+ghost use Rattle.tag_machine.specs.States.{arbitrate_state};
+ghost use Rattle.tag_machine.specs.TagValue.{BodyValue};
 ghost use Rattle.reply_grammar.specs.Replies.{reply_room};
 
 use crate::abilities::{InRound, Present};
 use crate::any_tag::{AnyTag, Heard};
-use crate::states::{Arbitrate, Held};
+use crate::states::{Arbitrate, Half, Ready};
 use crate::step_counter::Steps;
 use crate::tag::Tag;
-use crate::transitions::{begin_reply, close, go_back, unanswered};
-use bit_strings::{Bits, Session};
+use crate::transitions::{begin_reply, go_back, unanswered};
+use bit_strings::{Bits, QValue, Session};
 use std::sync::ledger::Ledger;
 use tag_body::{Body, Slot};
 
-/// The end of the turn of a tag that has a handle: CLOSE, or BACK where a Kill or Access is not finished.
-fn end_turn(body: Body, session: Session, held: Held, out: &mut Bits) -> Heard
-    ensures { GivesOutcome (end_turn session held body) result out.old out.new }
+/// The end of the turn of a tag that was inventoried: its flag of the session is inverted, and it is ready (CLOSE), or BACK where a
+/// Kill or Access is not finished.
+fn end_turn(
+    mut body: Body,
+    session: Session,
+    q: QValue,
+    half: Option<Half>,
+    out: &mut Bits,
+) -> Heard
+    ensures { GivesOutcome
+        (unless_half half (back session q body) (close session body)) result out.old out.new }
 {
-    match held.half {
-        Some(_) => go_back(body, session, held.q, out),
-        None => close(body, session, out),
+    if half.is_some() {
+        return go_back(body, session, q, out);
+    }
+    body.parts.flags.invert(session);
+    unanswered(AnyTag::Ready(Tag { state: Ready, body }), out)
+}
+
+impl Arbitrate {
+    /// The state behind a QueryRep, or none where the slot of the tag comes, which then replies.
+    pub(crate) fn behind_query_rep(self, session: Session) -> Option<Arbitrate>
+        ensures waits { IfSome result
+            (λ state. (body : BodyValue) → query_rep session (arbitrate_state self) body
+            ≡ silent (arbitrate_state state) body) }
+        ensures replies { IfNone result
+            ((body : BodyValue) → query_rep session (arbitrate_state self) body
+            ≡ begin_reply session self.q body) }
+    {
+        if self.session != session {
+            return Some(self);
+        }
+        let q = self.q;
+        let slot = self.slot.below();
+        if slot.get() == 0 {
+            return None;
+        }
+        Some(Arbitrate { session, q, slot })
     }
 }
 
@@ -34,16 +69,11 @@ impl AnyTag {
     {
         match self {
             AnyTag::Arbitrate(Tag { state, body }) => {
-                if state.session != session {
-                    return unanswered(state.tag(body), out);
-                }
                 let q = state.q;
-                let slot = state.slot.below();
-                if slot.get() == 0 {
-                    return begin_reply(body, session, q, out);
+                match state.behind_query_rep(session) {
+                    Some(state) => unanswered(state.tag(body), out),
+                    None => begin_reply(body, session, q, out),
                 }
-                let state = Arbitrate { session, q, slot };
-                unanswered(state.tag(body), out)
             }
             AnyTag::InReply(Tag { state, body }) => {
                 if state.session != session {
@@ -60,19 +90,19 @@ impl AnyTag {
                 if state.session != session {
                     return unanswered(state.tag(body), out);
                 }
-                close(body, session, out)
+                end_turn(body, session, state.q, None, out)
             }
             AnyTag::Opened(Tag { state, body }) => {
                 if state.held.session != session {
                     return unanswered(state.tag(body), out);
                 }
-                end_turn(body, session, state.held, out)
+                end_turn(body, session, state.held.q, state.held.half, out)
             }
             AnyTag::Secured(Tag { state, body }) => {
                 if state.held.session != session {
                     return unanswered(state.tag(body), out);
                 }
-                end_turn(body, session, state.held, out)
+                end_turn(body, session, state.held.q, state.held.half, out)
             }
             AnyTag::Ready(tag) => unanswered(AnyTag::Ready(tag), out),
             AnyTag::Killed(tag) => unanswered(AnyTag::Killed(tag), out),
