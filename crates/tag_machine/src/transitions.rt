@@ -25,12 +25,15 @@ pub fn unanswered(tag: AnyTag, out: &mut Bits) -> Heard
     }
 }
 
-/// An answer that is a handle or a new RN16, whose preamble goes by the TRext of the Query.
+/// An answer that is a handle or a new RN16, whose preamble goes by the TRext of the Query. No other handle stands in it.
 pub fn answer_handle(tag: AnyTag, number: u16, out: &mut Bits) -> Heard
     requires { reply_room ≤ out.old.capacity }
-    ensures { GivesOutcome
+    ensures drawn { GivesOutcome
         (plain_answer (tag_value_of tag).state (tag_value_of tag).body (Handle number) 0) result
         out.old out.new }
+    ensures held { GivesOutcome
+        (plain_answer (tag_value_of tag).state (tag_value_of tag).body (Handle number) number)
+        result out.old out.new }
 {
     encode_handle(number, out);
     Heard {

@@ -11,7 +11,7 @@ use crate::any_tag::{AnyTag, Heard};
 use crate::states::{Half, Killed, Password};
 use crate::step_counter::Steps;
 use crate::tag::Tag;
-use crate::transitions::{answer_header, go_back};
+use crate::transitions::{answer_handle, answer_header, go_back};
 use bit_strings::Bits;
 use lock_rules::{ErrorCode, Level};
 use std::sync::ledger::Ledger;
@@ -55,7 +55,8 @@ impl TagWithHandle {
         }
         self.level = Level::Secured;
         self.held.half = None;
-        self.answer_handle(out)
+        let handle = self.held.handle;
+        answer_handle(self.tag(), handle, out)
     }
 }
 
@@ -84,7 +85,8 @@ impl AnyTag {
         };
         let Some(half) = tag.held.half else {
             tag.held.half = Some(Half { password, value });
-            return tag.answer_handle(out);
+            let handle = tag.held.handle;
+            return answer_handle(tag.tag(), handle, out);
         };
         let whole = whole_of(half.value, value);
         match password {

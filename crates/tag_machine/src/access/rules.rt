@@ -5,8 +5,7 @@ ghost use Rattle.lock_rules.specs.declared.permissions.Level.{Level};
 ghost use Rattle.tag_machine.specs.declared.states.Held.{Held};
 ghost use Rattle.tag_machine.specs.TagValue.{BodyValue};
 ghost use Rattle.reply_grammar.specs.Replies.{reply_room};
-ghost use Rattle.reply_grammar.specs.declared.expected.Reply.TheVariants.{Handle};
-ghost use Rattle.tag_machine.specs.Answers.{Outcome, plain_answer, extended_answer};
+ghost use Rattle.tag_machine.specs.Answers.{Outcome, extended_answer};
 ghost use Rattle.tag_machine.specs.Access.{change_answer, held_state, outcome_where_heeded, in_access, uncover, unless_ended};
 ghost use Rattle.tag_machine.specs.Draws.{back};
 ghost use Rattle.tag_machine.specs.Hearing.{GivesOutcome, tag_value_of};
@@ -15,7 +14,7 @@ use crate::abilities::Present;
 use crate::any_tag::{Answered, AnyTag, Heard};
 use crate::states::{Held, Opened, Password, Secured};
 use crate::tag::Tag;
-use crate::transitions::{answer_handle, answer_header, go_back, unanswered};
+use crate::transitions::{answer_header, go_back, unanswered};
 use bit_strings::{Bits, xor16};
 use lock_rules::{ErrorCode, Level};
 use reply_grammar::encode_error;
@@ -58,17 +57,6 @@ impl TagWithHandle {
             Level::Opened => Opened { held }.tag(body),
             Level::Secured => Secured { held }.tag(body),
         }
-    }
-
-    /// An answer that is the handle alone, with the same preamble.
-    pub fn answer_handle(self, out: &mut Bits) -> Heard
-        requires { reply_room ≤ out.old.capacity }
-        ensures { GivesOutcome
-            (plain_answer (held_state self.level self.held) self.body
-            (Handle self.held.handle) self.held.handle) result out.old out.new }
-    {
-        let handle = self.held.handle;
-        answer_handle(self.tag(), handle, out)
     }
 
     /// An answer with the extended preamble, which carries the handle: the header where a change was made, or the error by which it

@@ -21,10 +21,7 @@ impl<S: InTurn> Tag<S> {
             AnyTag::Acknowledged(Tag { state, body }) => back(body, state.session, state.q),
             AnyTag::Opened(Tag { state, body }) => back(body, state.held.session, state.held.q),
             AnyTag::Secured(Tag { state, body }) => back(body, state.held.session, state.held.q),
-            AnyTag::Ready(Tag { state: _state, .. }) => unreachable!(),
-            AnyTag::Arbitrate(Tag { state: _state, .. }) => unreachable!(),
-            AnyTag::Killed(Tag { state: _state, .. }) => unreachable!(),
-            AnyTag::Unpowered(Tag { state: _state, .. }) => unreachable!(),
+            _ => unreachable!(),
         }
     }
 }
