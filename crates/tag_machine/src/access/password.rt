@@ -1,7 +1,7 @@
 //! Kill and Access (6.3.2.11.3.4 and 6.3.2.11.3.6): a password comes in two halves, each with a cover of its own. How an
 //! unfinished Kill or Access ends is profile.
 ghost use Rattle.std.specs.Prelude.{◌≡◌, ◌+◌, ◌≤◌, Some};
-ghost use Rattle.tag_machine.specs.Access.{in_access, kill_whole, kill, access_whole, access, password_outcome, whole_of};
+ghost use Rattle.tag_machine.specs.Access.{in_access, kill_whole, kill, access_whole, access, password_outcome};
 ghost use Rattle.tag_machine.specs.Hearing.{GivesOutcome, tag_value_of};
 ghost use Rattle.reply_grammar.specs.Replies.{reply_room};
 
@@ -15,13 +15,6 @@ use crate::transitions::{answer_handle, answer_header, go_back};
 use bit_strings::Bits;
 use lock_rules::{ErrorCode, Level};
 use std::sync::ledger::Ledger;
-
-/// The password of these halves.
-fn whole_of(upper: u16, lower: u16) -> u32
-    ensures { result ≡ whole_of upper lower }
-{
-    (u32::from(upper) << 16) + u32::from(lower)
-}
 
 impl TagWithHandle {
     /// What both halves of a Kill give.
@@ -88,7 +81,7 @@ impl AnyTag {
             let handle = tag.held.handle;
             return answer_handle(tag.tag(), handle, out);
         };
-        let whole = whole_of(half.value, value);
+        let whole = (u32::from(half.value) << 16) + u32::from(value);
         match password {
             Password::Kill => tag.kill_whole(whole, out),
             Password::Access => tag.access_whole(whole, out),
