@@ -2,6 +2,5 @@ pub mod KeptAnswers
 pub mod EventsOnTags
 pub mod TagsBefallen
 pub mod SeatedTags
-pub mod CalledTags
 pub mod HeardTags
 pub mod QueryRepCalls

@@ -135,6 +135,11 @@ seats_within parts items floor number are is within = rw (← length-tags_of par
 pub parts_within : (parts : List (Option Participation)) (items : List TagValue) (floor : FloorValue) (number : ℕ) → AreSeated parts items → floor_of parts items ≡ floor → number < length floor.tags → number < length parts
 parts_within parts items floor number are is within = rw are.whole (seats_within parts items floor number are is within)
 
+pub floor_long : (parts : List (Option Participation)) (items : List TagValue) (floor : FloorValue) → AreSeated parts items → floor_of parts items ≡ floor → (length floor.tags ≡ length parts) × (length parts ≤ most_tags)
+floor_long parts items floor are is =
+    let long : length floor.tags ≡ length items = rw (← is) (length-tags_of parts items are.whole) in
+    (omega (arith, long, are.whole), omega (arith, are.whole, are.few))
+
 -- a slot counter was written back
 pub record Back : Type 0 where
   pub parts : List (Option Participation)

@@ -1,21 +1,18 @@
 -- Tags in their seats, and how each takes part: a tag that waits for its slot has the slot counter that is told of it, in place of
 -- the one in its seat.
-use Rattle.std.proofs.Common.{◌≡◌, ◌≢◌, ℕ, zero, suc, ◌+◌, ◌<◌, ◌≤◌, ◌⊎◌, Bool, true, false, List, [], ◌∷◌, ◌++◌, length, map, Option, Some, None, get_or, if◌then◌else◌}
+use Rattle.std.proofs.Common.{◌≡◌, ℕ, ◌<◌, ◌≤◌, Bool, true, false, List, [], ◌∷◌, length, map, Option, Some, None, get_or}
 use Rattle.std.specs.Prelude.{slice_set}
 use Rattle.air_events.specs.TagNumbers.{most_tags}
-use Rattle.air_events.specs.declared.Entry.{Entry}
-use Rattle.command_fields.specs.declared.choices.UpDn.{UpDn}
-use Rattle.command_grammar.specs.declared.commands.Command.{Command}
-use Rattle.command_grammar.specs.declared.commands.Command.TheVariants as commands
+use Rattle.std.specs.Option.{is_some}
 use Rattle.lock_rules.specs.Lock.{locks_of}
 use Rattle.tag_machine.specs.declared.any_tag.AnyTag.{AnyTag}
-use Rattle.tag_machine.specs.Answers.{Outcome, silent}
 use Rattle.tag_machine.specs.Events.{new_tag}
-use Rattle.tag_machine.specs.TagsInExchange.{AreLegalTags, Replied, outcome_unless, is_missed, reply_of}
+use Rattle.tag_machine.specs.TagsInExchange.{AreLegalTags}
 use Rattle.tag_machine.specs.Hearing.{tag_value_of}
 use Rattle.tag_machine.specs.TagValue.{StateValue, ReadyState, ArbitrateState, ReplyState, AcknowledgedState, OpenState, SecuredState, KilledState, UnpoweredState, TagValue}
-use Rattle.tag_population.specs.Answers.{AnswerValue, answers_of}
-use Rattle.waiting_tags.specs.Waiting.{participation_at, is_called, waits_in, counted_down, AreSlots}
+use Rattle.tag_population.specs.declared.floor.Reach.{Reach}
+use Rattle.tag_population.specs.declared.floor.Reach.TheVariants.{Every, InRound, CalledOnly}
+use Rattle.waiting_tags.specs.Waiting.{participation_at, is_called, counted_down, AreSlots}
 use Rattle.waiting_tags.specs.declared.waiting.Participation.{Participation}
 use Rattle.waiting_tags.specs.declared.waiting.Participation.TheVariants.{Waits, Called}
 
@@ -100,63 +97,15 @@ steps_back None = 0
 steps_back (Some (Waits session slot)) = 1
 steps_back (Some Called) = 0
 
--- how many tags are called
-abbrev pub called_in : List (Option Participation) → ℕ
-called_in [] = 0
-called_in (participation ∷ participations) = (if is_called participation then 1 else 0) + called_in participations
+-- a command that reaches so many tags reaches one that takes part so
+abbrev pub is_reached : Reach → Option Participation → Bool
+is_reached Every part = true
+is_reached InRound part = is_some part
+is_reached CalledOnly part = is_called part
 
--- what comes of a command for the tag of a number
-abbrev pub outcome_each : Command → Entry → FloorValue → ℕ → Outcome
-outcome_each command entry floor number = outcome_unless (is_missed number entry) command (get_or floor.tags number no_tag)
-
--- .. where a tag that isn't called stays as it is
-abbrev pub outcome_called : Command → Entry → FloorValue → ℕ → Outcome
-outcome_called command entry floor number =
-    if is_called (participation_at floor.parts number)
-    then outcome_unless (is_missed number entry) command (get_or floor.tags number no_tag)
-    else silent (get_or floor.tags number no_tag).state (get_or floor.tags number no_tag).body
-
--- a command passes over a tag: a QueryAdjust over one that takes part in no round
-abbrev pub IsPassedOver : Command → Option Participation → Type 0
-IsPassedOver command part = ((session : ℕ) × (updn : UpDn) × (command ≡ commands.QueryAdjust session updn)) × (part ≡ None)
-
--- what the tags below a number answered
-abbrev pub replies_below : (ℕ → Outcome) → ℕ → List Replied
-replies_below outcome zero = []
-replies_below outcome (suc number) = replies_below outcome number ++ reply_of number (outcome number).answer
-
--- these outcomes came of a command: each tag takes part as its state says then
-pub record HeardEach (outcome : ℕ → Outcome) (before after : FloorValue) (answers : List AnswerValue) : Type 0 where
-  pub whole : length after.tags ≡ length before.tags
-  pub tags : (number : ℕ) → number < length before.tags → get_or after.tags number no_tag ≡ (outcome number).tag
-  pub settled : after.parts ≡ participations_of after.tags
-  pub answers_are : answers ≡ answers_of (replies_below outcome (length before.tags))
-
--- the tags that aren't called take part as their states say
-abbrev pub AreUncalledSettled : FloorValue → Type 0
-AreUncalledSettled floor =
-    (number : ℕ) → number < length floor.tags → participation_at floor.parts number ≢ Some Called
-    → participation_at floor.parts number ≡ participation_in (get_or floor.tags number no_tag).state
-
--- tags were called, with a step at most for each: each is as it was
-pub record CallsTags (before : FloorValue) (steps : ℕ) (after : FloorValue) (stepped : ℕ) : Type 0 where
-  pub tags : after.tags ≡ before.tags
-  pub whole : length after.parts ≡ length before.parts
-  pub counted : stepped + called_in before.parts ≤ steps + called_in after.parts
-
--- of the tags that miss a QueryRep, those that wait in its session were called
-abbrev pub IsMissedCalled : ℕ → Bool → Option Participation → Option Participation → Type 0
-IsMissedCalled session misses before after =
-    ((after ≡ before) × (misses ≡ true → waits_in session before ≡ false)) ⊎ ((after ≡ Some Called) × (misses ≡ true))
-
--- those whose slot comes next were called
-abbrev pub IsDueCalled : ℕ → Option Participation → Option Participation → Type 0
-IsDueCalled session before after =
-    ((after ≡ before) × (before ≢ Some (Waits session 1))) ⊎ ((after ≡ Some Called) × (before ≡ Some (Waits session 1)))
-
--- tags were called for a command: what comes of it for each tag comes of it for those that are called
-pub record AreCalledFor (command : Command) (entry : Entry) (before after : FloorValue) : Type 0 where
-  pub outcomes : (number : ℕ) → number < length before.tags → outcome_called command entry after number ≡ outcome_each command entry before number
-  pub tags_whole : length after.tags ≡ length before.tags
-  pub whole : length after.parts ≡ length after.tags
-  pub uncalled : AreUncalledSettled after
+-- the first tag with a number from one on that it reaches, or none where there is no such tag
+abbrev pub IsNextReached : Reach → List (Option Participation) → ℕ → Option ℕ → Type 0
+IsNextReached reach parts from None = (number : ℕ) → from ≤ number → number < length parts → is_reached reach (participation_at parts number) ≡ false
+IsNextReached reach parts from (Some next) =
+    (from ≤ next) × (next < length parts) × (is_reached reach (participation_at parts next) ≡ true)
+    × ((number : ℕ) → from ≤ number → number < next → is_reached reach (participation_at parts number) ≡ false)

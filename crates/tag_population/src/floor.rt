@@ -1,16 +1,15 @@
 //! The tags of a population in their seats, with those that wait for their slots.
 ghost use Rattle.std.specs.Prelude.{◌≡◌, ◌+◌, ◌<◌, ◌≤◌, ◌++◌, Some, map, length, vec_len, get_or, IfOk};
 ghost use Rattle.std.specs.Borrow.{sem};
-ghost use Rattle.std.specs.Option.{is_some};
 ghost use Rattle.air_events.specs.TagNumbers.{most_tags};
 ghost use Rattle.tag_machine.specs.Events.{tag_after_event};
 ghost use Rattle.tag_machine.specs.TagsInExchange.{AreLegalTags, outcome_unless, reply_of};
 ghost use Rattle.tag_machine.specs.Hearing.{tag_value_of};
 ghost use Rattle.tag_machine.specs.TagValue.{IsLegalTag};
 ghost use Rattle.tag_population.specs.Answers.{answers_of};
-ghost use Rattle.tag_population.specs.Floor.{AreSeated, floor_with, calling, counted_floor, no_tag, participations_of, seats_written_back, steps_back};
+ghost use Rattle.tag_population.specs.Floor.{AreSeated, IsNextReached, floor_with, calling, counted_floor, no_tag, participations_of, seats_written_back, steps_back};
 ghost use Rattle.tag_population.specs.Lent.{KeepsFloor};
-ghost use Rattle.waiting_tags.specs.Waiting.{IsDue, IsNextCalled, participation_at, waits_in};
+ghost use Rattle.waiting_tags.specs.Waiting.{IsDue, participation_at, waits_in};
 
 use crate::answers::Answers;
 use crate::seat::Seat;
@@ -22,6 +21,17 @@ use std::marker::Model;
 use std::sync::ledger::Ledger;
 use tag_machine::{AnyTag, Event, Steps};
 use waiting_tags::{Participation, Waiting};
+
+/// Which tags a command reaches.
+#[derive(Clone, Copy)]
+pub(crate) enum Reach {
+    /// All tags.
+    Every,
+    /// Those that take part in a round: it changes nothing in others, as in ready.
+    InRound,
+    /// Those that are called.
+    CalledOnly,
+}
 
 /// Tags in seats. A tag that waits for its slot isn't counted down one by one: its slot counter is the one that `waiting`
 /// says, and is written back into its seat before anything else is done to it.
@@ -159,14 +169,6 @@ impl Floor {
         self.waiting.waits_in(number, session)
     }
 
-    /// Whether the tag in the seat of this number takes part in a round.
-    pub(crate) fn takes_part(&self, number: TagNumber) -> bool
-        requires { number < length self.now.tags }
-        ensures { result ≡ is_some (participation_at self.now.parts number) }
-    {
-        self.waiting.takes_part(number)
-    }
-
     /// The number of a seat whose tag has its slot next in this session; none exactly where no seat has such a tag.
     pub(crate) fn due(&self, session: Session) -> Option<TagNumber>
         ensures { IsDue self.now.parts session result }
@@ -174,19 +176,27 @@ impl Floor {
         self.waiting.due(session)
     }
 
-    /// The number of the first seat whose tag is called.
-    pub(crate) fn first_called(&self) -> Option<TagNumber>
-        ensures { IsNextCalled self.now.parts 0 result }
+    /// The number of the first seat from one on whose tag is reached, if there is one.
+    pub(crate) fn next_reached(&self, reach: Reach, from: usize) -> Option<TagNumber>
+        requires { from ≤ length self.now.tags }
+        ensures { IsNextReached reach self.now.parts from result }
     {
-        self.waiting.first_called()
-    }
-
-    /// The number of the next seat behind this one whose tag is called.
-    pub(crate) fn called_after(&self, number: TagNumber) -> Option<TagNumber>
-        requires { number < length self.now.tags }
-        ensures { IsNextCalled self.now.parts (number + 1) result }
-    {
-        self.waiting.called_after(number)
+        if let Reach::CalledOnly = reach {
+            if from == 0 {
+                return self.waiting.first_called();
+            }
+            return self.waiting.called_after(TagNumber::from_index(from - 1));
+        }
+        for at in from..self.seats.len() {
+            let number = TagNumber::from_index(at);
+            if let Reach::Every = reach {
+                return Some(number);
+            }
+            if self.waiting.takes_part(number) {
+                return Some(number);
+            }
+        }
+        None
     }
 }
 

@@ -1,5 +1,5 @@
 //! Tags with numbers.
-ghost use Rattle.std.specs.Prelude.{◌≡◌, ℕ, ◌+◌, ◌*◌, ◌<◌, ◌≤◌, [], All, Some, true, map, length, vec_len, slice_get, IfOk};
+ghost use Rattle.std.specs.Prelude.{◌≡◌, ◌+◌, ◌*◌, ◌<◌, ◌≤◌, [], All, Some, map, length, vec_len, slice_get, IfOk};
 ghost use Rattle.std.specs.Borrow.{sem};
 ghost use Rattle.air_events.specs.TagNumbers.{most_tags};
 ghost use Rattle.tag_machine.specs.Answers.{IsSent};
@@ -7,21 +7,20 @@ ghost use Rattle.tag_machine.specs.TagsInExchange.{AreLegalTags, IsQueryRep, bus
 ghost use Rattle.tag_machine.specs.Hearing.{tag_value_of};
 ghost use Rattle.tag_machine.specs.TagValue.{IsLegalTag};
 ghost use Rattle.tag_population.specs.Answers.{answers_of};
-ghost use Rattle.tag_population.specs.Floor.{AreCalledFor, AreUncalledSettled, CallsTags, HeardEach, IsDueCalled, IsMissedCalled, IsPassedOver, called_in, outcome_called, outcome_each, participations_of};
-ghost use Rattle.tag_population.specs.Hearing.{HearsAll, hearing_from, tags_after_events};
+ghost use Rattle.tag_population.specs.Floor.{participations_of};
+ghost use Rattle.tag_population.specs.Hearing.{AreCalledFor, HasHeard, IsReady, hearing_from, reach_of, reach_steps, reached_from, tags_after_events};
 ghost use Rattle.tag_population.specs.Lent.{KeepsPopulation};
 ghost use Rattle.waiting_tags.specs.TagSets.{IsSetOf};
-ghost use Rattle.waiting_tags.specs.Waiting.{participation_at};
 
 use crate::answers::Answers;
-use crate::floor::Floor;
+use crate::floor::{Floor, Reach};
 use air_events::TagNumber;
-use bit_strings::{OutOfMemory, Session};
+use bit_strings::OutOfMemory;
 use command_grammar::Command;
 use std::alloc::Global;
 use std::marker::Model;
 use std::sync::ledger::Ledger;
-use tag_machine::{AnyTag, Entry, Event, Steps, reaches_waiting};
+use tag_machine::{AnyTag, Entry, Event, Steps};
 use waiting_tags::TagSet;
 
 /// Tags, numbered from 0, of which there are at most 4,096.
@@ -142,7 +141,8 @@ impl Population {
         let _few = self.floor.len();
         answers.clear();
         self.missed.insert_all(entry.missed.as_slice());
-        hear(
+        call_for(&mut self.floor, command, entry, steps);
+        hear_reached(
             &mut self.floor,
             command,
             entry,
@@ -155,109 +155,38 @@ impl Population {
     }
 }
 
-/// Lets each tag hear a command, unless it misses it. Only tags that may change or answer are asked.
-fn hear<L: Ledger>(
-    floor: &mut Floor,
-    command: &Command,
-    entry: &Entry,
-    missed: &TagSet,
-    answers: &mut Answers,
-    steps: &mut Steps<L>,
-)
+/// Calls the tags that have to hear a QueryRep, or stay as they are where its session is counted down, and counts it down.
+/// For other commands no tag is called.
+fn call_for<L: Ledger>(floor: &mut Floor, command: &Command, entry: &Entry, steps: &mut Steps<L>)
     requires settled { floor.old.parts ≡ participations_of floor.old.tags }
     requires few { length floor.old.tags ≤ most_tags }
     requires missed { All (λ tag. tag < length floor.old.tags) entry.now.missed }
-    requires of { IsSetOf missed.now entry.now.missed }
-    requires none { answers.old.items ≡ [] }
-    requires room { length floor.old.tags ≤ answers.old.tags }
-    ensures heard { HearsAll command.now entry.now floor.old floor.new answers.old answers.new }
-    ensures counted { steps.new ≤ steps.old + 2 * length floor.old.tags }
+    ensures called { AreCalledFor command.now entry.now floor.old floor.new }
+    ensures counted { steps.new + reach_steps (reach_of command.now) floor.new.parts ≤ steps.old
+        + 2 * length floor.old.tags }
     ensures bound { IsQueryRep command.now
-        → steps.new ≤ steps.old + 2 * busy_from 0 command.now entry.now floor.old.tags }
+        → steps.new + reach_steps (reach_of command.now) floor.new.parts ≤ steps.old
+        + 2 * busy_from 0 command.now entry.now floor.old.tags }
 {
-    if let Command::QueryRep { session } = command {
-        hear_query_rep(floor, *session, command, entry, missed, answers, steps);
-    } else if reaches_waiting(command) {
-        hear_each(floor, command, entry, missed, answers, steps);
-    } else {
-        hear_called(floor, command, entry, missed, answers, steps);
-    }
-}
-
-/// Lets those tags alone hear a QueryRep of a session that may change or answer.
-fn hear_query_rep<L: Ledger>(
-    floor: &mut Floor,
-    session: Session,
-    command: &Command,
-    entry: &Entry,
-    missed: &TagSet,
-    answers: &mut Answers,
-    steps: &mut Steps<L>,
-)
-    requires command { command.now ≡ Command.QueryRep session }
-    requires settled { floor.old.parts ≡ participations_of floor.old.tags }
-    requires few { length floor.old.tags ≤ most_tags }
-    requires missed { All (λ tag. tag < length floor.old.tags) entry.now.missed }
-    requires of { IsSetOf missed.now entry.now.missed }
-    requires none { answers.old.items ≡ [] }
-    requires room { length floor.old.tags ≤ answers.old.tags }
-    ensures heard { HearsAll command.now entry.now floor.old floor.new answers.old answers.new }
-    ensures counted { steps.new ≤ steps.old + 2 * length floor.old.tags }
-    ensures bound { steps.new ≤ steps.old + 2 * busy_from 0 command.now entry.now floor.old.tags }
-{
-    call_hearers(floor, session, entry, steps);
-    hear_called(floor, command, entry, missed, answers, steps);
-}
-
-/// Calls the tags that have to hear a QueryRep of a session, or stay as they are where the session is counted down.
-fn call_hearers<L: Ledger>(floor: &mut Floor, session: Session, entry: &Entry, steps: &mut Steps<L>)
-    requires settled { floor.old.parts ≡ participations_of floor.old.tags }
-    requires few { length floor.old.tags ≤ most_tags }
-    requires missed { All (λ tag. tag < length floor.old.tags) entry.now.missed }
-    ensures called { AreCalledFor (Command.QueryRep session) entry.now floor.old floor.new }
-    ensures counted { steps.new + called_in floor.old.parts ≤ steps.old
-        + called_in floor.new.parts }
-    ensures bound { called_in floor.new.parts
-        ≤ busy_from 0 (Command.QueryRep session) entry.now floor.old.tags }
-{
-    call_missed(floor, session, entry, steps);
-    call_due(floor, session, steps);
-    floor.count_down(session);
-}
-
-/// Calls the tags that wait in a session and miss its QueryRep, so that they stand one place on when it was counted down.
-fn call_missed<L: Ledger>(floor: &mut Floor, session: Session, entry: &Entry, steps: &mut Steps<L>)
-    requires whole { length floor.old.parts ≡ length floor.old.tags }
-    requires few { length floor.old.tags ≤ most_tags }
-    requires missed { All (λ tag. tag < length floor.old.tags) entry.now.missed }
-    ensures called { (number : ℕ)
-        → IsMissedCalled session (is_missed number entry.now)
-        (participation_at floor.old.parts number) (participation_at floor.new.parts number) }
-    ensures calls { CallsTags floor.old steps.old floor.new steps.new }
-{
+    let Command::QueryRep { session } = command else {
+        return;
+    };
+    let session = *session;
+    // A waiting tag that misses it stands one place on when the session was counted down.
     for &number in entry.missed.as_slice() {
         let number = TagNumber::of(number);
         if floor.waits_in(number, session) {
             floor.call(number, steps);
         }
     }
-}
-
-/// Calls the tags whose slot comes next in a session.
-fn call_due<L: Ledger>(floor: &mut Floor, session: Session, steps: &mut Steps<L>)
-    requires whole { length floor.old.parts ≡ length floor.old.tags }
-    ensures called { (number : ℕ)
-        → IsDueCalled session (participation_at floor.old.parts number)
-        (participation_at floor.new.parts number) }
-    ensures calls { CallsTags floor.old steps.old floor.new steps.new }
-{
     while let Some(number) = floor.due(session) {
         floor.call(number, steps);
     }
+    floor.count_down(session);
 }
 
-/// Lets each tag hear a command, unless it misses it or the command passes over it, in the order of their numbers.
-fn hear_each<L: Ledger>(
+/// Lets each tag that a command reaches hear it, unless it misses it, in the order of their numbers.
+fn hear_reached<L: Ledger>(
     floor: &mut Floor,
     command: &Command,
     entry: &Entry,
@@ -265,61 +194,32 @@ fn hear_each<L: Ledger>(
     answers: &mut Answers,
     steps: &mut Steps<L>,
 )
-    requires settled { floor.old.parts ≡ participations_of floor.old.tags }
     requires of { IsSetOf missed.now entry.now.missed }
     requires none { answers.old.items ≡ [] }
     requires room { length floor.old.tags ≤ answers.old.tags }
-    ensures heard { HeardEach
-        (outcome_each command.now entry.now floor.old) floor.old floor.new answers.new.items }
-    ensures tags { answers.new.tags ≡ answers.old.tags }
-    ensures counted { steps.new ≤ steps.old + 2 * length floor.old.tags }
+    requires ready { IsReady (reach_of command.now) floor.old }
+    ensures heard { HasHeard
+        (reached_from 0 command.now entry.now floor.old.parts floor.old.tags) floor.new answers.old
+        answers.new }
+    ensures counted { steps.new ≤ steps.old + reach_steps (reach_of command.now) floor.old.parts }
 {
-    for at in 0..floor.len() {
-        let number = TagNumber::from_index(at);
-        if passes_over(floor, number, command) {
-            continue;
-        }
+    let reach = reach_of(command);
+    let mut from = 0;
+    while let Some(number) = floor.next_reached(reach, from) {
         let misses = is_missed(number, entry, missed);
         floor.hear(number, misses, command, answers, steps);
+        from = number.index() + 1;
     }
 }
 
-/// Whether a command passes over a tag: a QueryAdjust does where the tag takes part in no round, as in ready, since it changes
-/// nothing there.
-fn passes_over(floor: &Floor, number: TagNumber, command: &Command) -> bool
-    requires { number < length floor.now.tags }
-    ensures { result ≡ true → IsPassedOver command.now (participation_at floor.now.parts number) }
+/// Which tags a command reaches: no other tag may change at it, or answer it.
+fn reach_of(command: &Command) -> Reach
+    ensures { result ≡ reach_of command.now }
 {
     match command {
-        Command::QueryAdjust { .. } => !floor.takes_part(number),
-        _ => false,
-    }
-}
-
-/// Lets each tag that is called hear a command, unless it misses it, in the order of their numbers.
-fn hear_called<L: Ledger>(
-    floor: &mut Floor,
-    command: &Command,
-    entry: &Entry,
-    missed: &TagSet,
-    answers: &mut Answers,
-    steps: &mut Steps<L>,
-)
-    requires of { IsSetOf missed.now entry.now.missed }
-    requires none { answers.old.items ≡ [] }
-    requires room { length floor.old.tags ≤ answers.old.tags }
-    requires whole { length floor.old.parts ≡ length floor.old.tags }
-    requires uncalled { AreUncalledSettled floor.old }
-    ensures heard { HeardEach
-        (outcome_called command.now entry.now floor.old) floor.old floor.new answers.new.items }
-    ensures tags { answers.new.tags ≡ answers.old.tags }
-    ensures counted { steps.new ≤ steps.old + called_in floor.old.parts }
-{
-    let mut next = floor.first_called();
-    while let Some(number) = next {
-        next = floor.called_after(number);
-        let misses = is_missed(number, entry, missed);
-        floor.hear(number, misses, command, answers, steps);
+        Command::Query { .. } | Command::Select { .. } => Reach::Every,
+        Command::QueryAdjust { .. } => Reach::InRound,
+        _ => Reach::CalledOnly,
     }
 }
 
