@@ -1,9 +1,10 @@
 -- Places and slot counters.
-use Rattle.std.proofs.Common.{◌≡◌, ◌≢◌, ℕ, zero, suc, ◌+◌, ◌/◌, ◌%◌, ◌<◌, ◌≤◌, inl, inr, Bool, List, [], ◌∷◌, length, map, Option, Some, None, get_or, set, replicate, refl, sym, ap, ◌∙◌, subst, arith, if◌then◌else◌}
+use Rattle.std.proofs.Common.{◌≡◌, ◌≢◌, ℕ, zero, suc, ◌+◌, ◌/◌, ◌%◌, ◌<◌, ◌≤◌, ◌==◌, inl, inr, Bool, true, false, List, [], ◌∷◌, length, map, Option, Some, None, get_or, set, replicate, refl, sym, ap, ◌∙◌, subst, arith, if◌then◌else◌}
+use Rattle.std.specs.Option.{option_eq}
 use Rattle.std.proofs.lemmas.Bool.Decides.{eqb_tells}
 use Rattle.std.proofs.lemmas.Bool.{ne_eqb}
 use Rattle.std.proofs.Math.ListN.{get_or-map}
-use Rattle.std.proofs.lemmas.List.{map-set, get_or-set_same, get_or-set_other, set-get_or, length-map, length-replicate, length-set}
+use Rattle.std.proofs.lemmas.List.{map-set, get_or-set_same, get_or-set_other, set-get_or, length-replicate}
 use Rattle.std.proofs.lemmas.Option.{same_Some}
 use Rattle.air_events.specs.TagNumbers.{most_tags}
 use Rattle.tag_body.specs.RoundNumbers.{slot_below}
@@ -12,15 +13,11 @@ use Rattle.waiting_tags.specs.declared.waiting.Participation.TheVariants.{Waits,
 use Rattle.waiting_tags.specs.TagSets.{bit_in_set, HasNone, IsIn, IsNextIn}
 use Rattle.waiting_tags.specs.Wheel.{wheel_place_of, IsTagOn}
 use Rattle.waiting_tags.proofs.WheelLinks.{stands_inside, stands_nowhere}
-use Rattle.waiting_tags.specs.Waiting.{participation_at, IsNextCalled, IsDue, counted_down, called_place, slot_place, slot_behind, waiting_slot, participation_there, participation_on, participations_on, AreBases, AreCalled, AreSlots}
+use Rattle.waiting_tags.specs.Waiting.{participation_at, IsLegalParticipation, IsNextCalled, IsDue, counted_down, place_of, called_place, slot_place, slot_behind, waiting_slot, participation_there, participation_on, participations_on, AreBases, AreCalled, AreSlots}
 
 -- the participation of the tag on a place
 pub participation_of_place : (bases : List ℕ) (places : List (Option ℕ)) (number : ℕ) → participation_at (participations_on bases places) number ≡ participation_on bases (wheel_place_of places number)
 participation_of_place bases places number = get_or-map (participation_on bases) places number None
-
-pub participations-set : (bases : List ℕ) (places : List (Option ℕ)) (number : ℕ) (place : Option ℕ)
-    → participations_on bases (set places number place) ≡ set (participations_on bases places) number (participation_on bases place)
-participations-set bases places number place = map-set (participation_on bases) places number place
 
 pub map-none : (f : Option ℕ → Option Participation) (count : ℕ) → f None ≡ None → map f (replicate count None) ≡ replicate count None
 map-none f zero none = refl
@@ -95,31 +92,17 @@ counted_all participations on session at raised here few is =
     ∙ counted_places on.bases session on.places on.are (omega (arith, on.are.count, few))
     ∙ ap (λ (l : List (Option Participation)). map (counted_down session) l) on.same
 
-pub put_waits : (participations : List (Option Participation)) (on : OnPlaces participations) (after : List (Option ℕ)) (number session slot : ℕ) → session ≤ 3 → slot < 32768
-    → after ≡ set on.places number (Some (slot_place (get_or on.bases session 0) session slot))
-    → participations_on on.bases after ≡ set participations number (Some (Waits session slot))
-put_waits participations on after number session slot few range put =
-    ap (λ (l : List (Option ℕ)). participations_on on.bases l) put
-    ∙ participations-set on.bases on.places number (Some (slot_place (get_or on.bases session 0) session slot))
-    ∙ ap (λ (s : Option Participation). set (participations_on on.bases on.places) number s) (waits_there on.bases (get_or on.bases session 0) session slot on.are refl few range)
-    ∙ ap (λ (l : List (Option Participation)). set l number (Some (Waits session slot))) on.same
+-- a tag that is put on the place of how it takes part takes part so
+there_so : (bases : List ℕ) (participation : Option Participation) → AreBases bases → IsLegalParticipation participation → participation_on bases (place_of bases participation) ≡ participation
+there_so bases None are legal = refl
+there_so bases (Some (Waits session slot)) are legal = waits_there bases (get_or bases session 0) session slot are refl legal.0 legal.1
+there_so bases (Some Called) are legal = refl
 
-pub put_called : (participations : List (Option Participation)) (on : OnPlaces participations) (after : List (Option ℕ)) (number : ℕ) → after ≡ set on.places number (Some called_place)
-    → participations_on on.bases after ≡ set participations number (Some Called)
-put_called participations on after number put =
-    ap (λ (l : List (Option ℕ)). participations_on on.bases l) put
-    ∙ participations-set on.bases on.places number (Some called_place)
-    ∙ ap (λ (l : List (Option Participation)). set l number (Some Called)) on.same
-
-pub put_none : (participations : List (Option Participation)) (on : OnPlaces participations) (after : List (Option ℕ)) (number : ℕ) → after ≡ set on.places number None
-    → participations_on on.bases after ≡ set participations number None
-put_none participations on after number put =
-    ap (λ (l : List (Option ℕ)). participations_on on.bases l) put
-    ∙ participations-set on.bases on.places number None
-    ∙ ap (λ (l : List (Option Participation)). set l number None) on.same
-
-pub length-participations : (bases : List ℕ) (places : List (Option ℕ)) (now : List (Option Participation)) → participations_on bases places ≡ now → length places ≡ length now
-length-participations bases places now same = sym (length-map places (λ place. participation_on bases place)) ∙ ap (λ (l : List (Option Participation)). length l) same
+pub stands_so : (bases : List ℕ) (places : List (Option ℕ)) (number : ℕ) (participation : Option Participation) → AreBases bases → IsLegalParticipation participation
+    → participations_on bases (set places number (place_of bases participation)) ≡ set (participations_on bases places) number participation
+stands_so bases places number participation are legal =
+    map-set (participation_on bases) places number (place_of bases participation)
+    ∙ ap (λ (p : Option Participation). set (participations_on bases places) number p) (there_so bases participation are legal)
 
 -- a tag waits with a counter exactly where it stands on the place of it
 pub same_waits : (own slot session counter : ℕ) → Some (Waits own slot) ≡ Some (Waits session counter) → (own ≡ session) × (slot ≡ counter)
@@ -159,13 +142,21 @@ due_there bases places session place (Some due) are few there next =
 called_there : (bases : List ℕ) (places : List (Option ℕ)) (number : ℕ) → wheel_place_of places number ≡ Some called_place → participation_at (participations_on bases places) number ≡ Some Called
 called_there bases places number is = participation_of_place bases places number ∙ ap (λ p. participation_on bases p) is
 
+-- a place that is told to be that of called tags is it
+pub is_called_place : (place : Option ℕ) → option_eq (λ a b. a == b) place (Some called_place) ≡ true → place ≡ Some called_place
+is_called_place None same = absurd cc
+is_called_place (Some place) same =
+    elim (eqb_tells place called_place) [
+      | inl w ↦ ap (λ n. Some n) w.1
+      | inr w ↦ absurd (let other : false ≡ true = sym w.0 ∙ same in cc)
+    ]
+
 -- one that is called already
-pub called_again : (numbers : List ℕ) (participations : List (Option Participation)) (on : OnPlaces participations) (number : ℕ) → AreCalled numbers on.places → IsIn numbers number
-    → participations ≡ set participations number (Some Called)
-called_again numbers participations on number are is =
-    sym (set-get_or participations number None)
-    ∙ ap (λ (s : Option Participation). set participations number s)
-    (ap (λ (l : List (Option Participation)). participation_at l number) (sym on.same) ∙ called_there on.bases on.places number (are.only number is))
+pub called_again : (bases numbers : List ℕ) (places : List (Option ℕ)) (number : ℕ) (participation : Option Participation) (now : List (Option Participation)) → AreBases bases × AreCalled numbers places
+    → participations_on bases places ≡ now → IsLegalParticipation participation → place_of bases participation ≡ Some called_place → IsIn numbers number → now ≡ set now number participation
+called_again bases numbers places number participation now are is legal place one =
+    let same : set places number (place_of bases participation) ≡ places = rw (place, ← are.1.only number one) (set-get_or places number None) in
+    rw (← is) (ap (λ (l : List (Option ℕ)). participations_on bases l) (sym same) ∙ stands_so bases places number participation are.0 legal)
 
 not_there : (bases : List ℕ) (places : List (Option ℕ)) (number : ℕ) (stands : Option ℕ) → wheel_place_of places number ≡ stands → wheel_place_of places number ≢ Some called_place
     → participation_on bases stands ≢ Some Called
@@ -233,20 +224,3 @@ pub are_slots : (bases : List ℕ) (places : List (Option ℕ)) (now : List (Opt
 are_slots bases places now same = λ number slot is.
     slot_on bases (wheel_place_of places number) slot
     (ap (λ (s : Option Participation). waiting_slot s) (sym (participation_of_place bases places number) ∙ ap (λ (l : List (Option Participation)). participation_at l number) same) ∙ is)
-
-pub called_placed : (numbers after : List ℕ) (places : List (Option ℕ)) (number : ℕ) → AreCalled numbers places → number < length places → IsIn after number
-    → ((other : ℕ) → other ≢ number → bit_in_set after other ≡ bit_in_set numbers other) → AreCalled after (set places number (Some called_place))
-called_placed numbers after places number are within there others = record {
-  few = rw (length-set places number (Some called_place)) are.few;
-  called = λ other stands.
-      elim (eqb_tells other number) [
-        | inl same ↦ ap (λ n. bit_in_set after n) same.1 ∙ there
-        | inr apart ↦
-            others other apart.1 ∙ are.called other (sym (get_or-set_other places number other (Some called_place) None apart.1) ∙ stands)
-      ];
-  only = λ other one.
-      elim (eqb_tells other number) [
-        | inl same ↦ ap (λ n. wheel_place_of (set places number (Some called_place)) n) same.1 ∙ get_or-set_same places number (Some called_place) None within
-        | inr apart ↦ get_or-set_other places number other (Some called_place) None apart.1 ∙ are.only other (sym (others other apart.1) ∙ one)
-      ];
-}

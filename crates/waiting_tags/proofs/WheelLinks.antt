@@ -6,7 +6,7 @@ use Rattle.std.proofs.lemmas.List.{get_or-set_same, get_or-set_other, get_or_pas
 use Rattle.std.proofs.lemmas.Option.{same_Some}
 use Rattle.std.proofs.lemmas.Grind.{get_or_default_zero}
 use Rattle.air_events.specs.TagNumbers.{most_tags}
-use Rattle.waiting_tags.specs.Wheel.{most_places, wheel_place_of, IsTagOn, LeadNowhere, IsLinkOf, IsLinked}
+use Rattle.waiting_tags.specs.Wheel.{most_places, wheel_place_of, IsTagOn, IsLinkOf, IsLinked}
 
 pub none_some : (place : ℕ) → None ≡ Some place → ⊥
 none_some place e = cc
@@ -86,43 +86,35 @@ stands_nowhere count number place is =
     let inside : number < count = rw (← length-replicate {A = Option ℕ} count None) (stands_inside (replicate count None) number place is) in
     none_some place (sym (get_or-replicate count number None None inside) ∙ is)
 
-pub lead_nowhere : (links : List ℕ) (size : ℕ) → size ≡ (most_places + most_tags) → links ≡ replicate size most_tags → LeadNowhere links
-lead_nowhere links size known is = record {
-  size = ap (λ (l : List ℕ). length l) is ∙ length-replicate {A = ℕ} size most_tags ∙ known;
-  each = λ at below. ap (λ (l : List ℕ). get_or l at 0) is ∙ get_or-replicate {A = ℕ} size at most_tags 0 (omega (arith, below, known));
-}
-
-nowhere_each : (links : List ℕ) (link : ℕ) → LeadNowhere links → get_or links link 0 ≤ most_tags
-nowhere_each links link nowhere =
-    elim (cases_lt link (most_places + most_tags)) [
-      | inl within ↦ omega (arith, nowhere.each link within)
-      | inr past ↦ rw (get_or_past links link 0 (omega (arith, nowhere.size, past))) (omega arith)
-    ]
-
-nowhere_onward : (count : ℕ) (links : List ℕ) (place link : ℕ) → count ≤ most_tags → LeadNowhere links → place < most_places → IsLinkOf (replicate count None) place link
-    → get_or links link 0 < length (replicate {A = Option ℕ} count None) → ⊥
-nowhere_onward count links place link few nowhere below (inl a) within =
-    omega (arith, nowhere.each link (omega (arith, a, below)), within, length-replicate {A = Option ℕ} count None, few)
-nowhere_onward count links place link few nowhere below (inr a) within = stands_nowhere count a.0 place a.2
-
-none_linked : (count : ℕ) (links backs : List ℕ) → count ≤ most_tags → LeadNowhere links → length backs ≡ most_tags + 1 → IsLinked (replicate count None) links backs
-none_linked count links backs few nowhere room = record {
-  few = rw (length-replicate {A = Option ℕ} count None) few;
-  size = nowhere.size;
-  backs_size = room;
-  inside = λ number place stands. absurd (stands_nowhere count number place stands);
-  each = λ link. nowhere_each links link nowhere;
-  onward = λ place link below of within. absurd (nowhere_onward count links place link few nowhere below of within);
-  back = λ number place stands. absurd (stands_nowhere count number place stands);
-  came = λ number. 0;
-  now = 1;
-  past = λ number. omega arith;
-  earlier = λ number other place stands. absurd (stands_nowhere count number place stands);
-}
-
-pub new_linked : (count : ℕ) (places : List (Option ℕ)) (links backs : List ℕ) → count ≤ most_tags → places ≡ replicate count None → LeadNowhere links → length backs ≡ most_tags + 1
-    → IsLinked places links backs
-new_linked count places links backs few none nowhere room = subst (λ (l : List (Option ℕ)). IsLinked l links backs) (sym none) (none_linked count links backs few nowhere room)
+-- links that lead to no tag
+pub new_linked : (count size : ℕ) (places : List (Option ℕ)) (links backs : List ℕ) → count ≤ most_tags → places ≡ replicate count None → size ≡ most_places + most_tags → links ≡ replicate size most_tags
+    → length backs ≡ most_tags + 1 → IsLinked places links backs
+new_linked count size places links backs few none known lead room =
+    let nowhere : (number place : ℕ) → wheel_place_of places number ≢ Some place = λ number place stands. stands_nowhere count number place (rw (← none) stands) in
+    let leads : (link : ℕ) → link < size → get_or links link 0 ≡ most_tags = λ link below. ap (λ (l : List ℕ). get_or l link 0) lead ∙ get_or-replicate {A = ℕ} size link most_tags 0 below in
+    let long : length links ≡ size = ap (λ (l : List ℕ). length l) lead ∙ length-replicate {A = ℕ} size most_tags in
+    let fewer : length places ≡ count = ap (λ (l : List (Option ℕ)). length l) none ∙ length-replicate {A = Option ℕ} count None in
+    record {
+      few = rw fewer few;
+      size = long ∙ known;
+      backs_size = room;
+      inside = λ number place stands. absurd (nowhere number place stands);
+      each = λ link.
+          elim (cases_lt link size) [
+            | inl within ↦ omega (arith, leads link within)
+            | inr past ↦ rw (get_or_past links link 0 (rw long past)) (omega arith)
+          ];
+      onward = λ place link below of within.
+          elim of [
+            | inl first ↦ absurd (omega (arith, leads link (omega (arith, first, below, known)), within, few, fewer))
+            | inr behind ↦ absurd (nowhere behind.0 place behind.2)
+          ];
+      back = λ number place stands. absurd (nowhere number place stands);
+      came = λ number. 0;
+      now = 1;
+      past = λ number. omega arith;
+      earlier = λ number other place stands. absurd (nowhere number place stands);
+    }
 
 -- a tag more or less on a place
 stays_same : (places : List (Option ℕ)) (number other : ℕ) (stand : Option ℕ) → other ≢ number → wheel_place_of (set places number stand) other ≡ wheel_place_of places other

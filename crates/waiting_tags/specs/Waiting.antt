@@ -65,6 +65,12 @@ called_place = 131072
 abbrev pub slot_place : ℕ → ℕ → ℕ → ℕ
 slot_place base session slot = session * 32768 + (base + slot) % 32768
 
+-- the place of a tag that takes part so; none of one that takes no part
+abbrev pub place_of : List ℕ → Option Participation → Option ℕ
+place_of bases None = None
+place_of bases (Some (Waits session slot)) = Some (slot_place (get_or bases session 0) session slot)
+place_of bases (Some Called) = Some called_place
+
 -- the slot counter of a place
 abbrev pub slot_behind : ℕ → ℕ → ℕ
 slot_behind base place = (place % 32768 + 32768 - base) % 32768

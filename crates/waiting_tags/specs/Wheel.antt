@@ -38,8 +38,3 @@ pub record IsLinked (places : List (Option ℕ)) (links backs : List ℕ) : Type
   pub now : ℕ
   pub past : (number : ℕ) → came number < now
   pub earlier : (number other place : ℕ) → wheel_place_of places number ≡ Some place → get_or backs number 0 ≡ most_places + other → came number < came other
-
--- links that lead to no tag
-pub record LeadNowhere (links : List ℕ) : Type 0 where
-  pub size : length links ≡ most_places + most_tags
-  pub each : (at : ℕ) → at < most_places + most_tags → get_or links at 0 ≡ most_tags

@@ -1,9 +1,9 @@
 //! Which tags wait for their slots, and which are called.
-ghost use Rattle.std.specs.Prelude.{◌≡◌, ◌≢◌, ℕ, ◌+◌, ◌<◌, ◌≤◌, Some, None, length, map, replicate, slice_set, IfOk};
+ghost use Rattle.std.specs.Prelude.{◌≡◌, ℕ, ◌+◌, ◌<◌, ◌≤◌, List, Option, Some, None, length, map, replicate, slice_set, IfOk};
 ghost use Rattle.std.specs.Option.{is_some};
 ghost use Rattle.air_events.specs.TagNumbers.{most_tags};
-ghost use Rattle.waiting_tags.specs.TagSets.{IsIn, bit_in_set};
-ghost use Rattle.waiting_tags.specs.Waiting.{AreSlots, IsDue, IsLegalParticipation, IsNextCalled, called_place, counted_down, waiting_slot, slot_place, participation_at, waits_in};
+ghost use Rattle.waiting_tags.specs.Waiting.{AreCalled, AreSlots, IsDue, IsLegalParticipation, IsNextCalled, counted_down, place_of, waiting_slot, slot_place, participation_at, waits_in};
+ghost use Rattle.waiting_tags.specs.Wheel.{wheel_place_of};
 
 use crate::tag_set::TagSet;
 use crate::wheel::Wheel;
@@ -108,38 +108,13 @@ impl Waiting {
         ensures participations { self.new ≡ slice_set self.old number participation }
         ensures slots { AreSlots self.new }
     {
-        match participation {
-            Some(participation) => self.put_on_place(number, participation),
-            None => {
-                let stood = self.wheel.take(number);
-                uncall(&mut self.called, number, stood);
-            }
+        let place = place_of(&self.bases, participation);
+        // A tag beyond arbitrate is called to each command.
+        if place == Some(CALLED) && self.called.contains(number) {
+            return;
         }
-    }
-
-    /// Puts a tag on the place of its slot counter, or on that of called tags.
-    #[inline(always)]
-    fn put_on_place(&mut self, number: TagNumber, participation: Participation)
-        requires number { number < length self.old }
-        requires legal { IsLegalParticipation (Some participation) }
-        ensures participations { self.new ≡ slice_set self.old number (Some participation) }
-        ensures slots { AreSlots self.new }
-    {
-        match participation {
-            Participation::Waits(session, slot) => {
-                let place = slot_place(self.bases[usize::from(session)], session, slot);
-                let stood = self.wheel.put(number, place);
-                uncall(&mut self.called, number, stood);
-            }
-            Participation::Called => {
-                // A tag beyond arbitrate is called to each command.
-                if self.called.contains(number) {
-                    return;
-                }
-                self.wheel.put(number, CALLED);
-                self.called.insert(number);
-            }
-        }
+        let stood = self.wheel.put(number, place);
+        note_called(&mut self.called, number, stood, place);
     }
 
     /// The first of the tags that are called, in the order of their numbers.
@@ -185,15 +160,30 @@ fn slot_place(base: u16, session: u8, slot: u16) -> usize
     usize::from(session) * SLOTS + (usize::from(base) + usize::from(slot)) % SLOTS
 }
 
-/// Removes a tag from the set of those that are called, where it stood on the place for them.
+/// The place where a tag stands that takes part so.
 #[inline(always)]
-fn uncall(called: &mut TagSet, number: TagNumber, stood: Option<usize>)
-    requires { IsIn called.old number → stood ≡ Some called_place }
-    ensures there { bit_in_set called.new number ≡ 0 }
-    ensures others { (other : ℕ) → other ≢ number
-        → bit_in_set called.new other ≡ bit_in_set called.old other }
+fn place_of(bases: &[u16; 4], participation: Option<Participation>) -> Option<usize>
+    requires { IsLegalParticipation participation }
+    ensures { result ≡ place_of bases.now participation }
 {
-    if let Some(CALLED) = stood {
+    match participation? {
+        Participation::Waits(session, slot) => {
+            Some(slot_place(bases[usize::from(session)], session, slot))
+        }
+        Participation::Called => Some(CALLED),
+    }
+}
+
+/// Keeps in the set of called tags whether a tag is called that stood on one place, or on none, and was put on another.
+#[inline(always)]
+fn note_called(called: &mut TagSet, number: TagNumber, stood: Option<usize>, place: Option<usize>)
+    ensures { (places : List (Option ℕ)) → AreCalled called.old places → number < length places
+        → stood ≡ wheel_place_of places number
+        → AreCalled called.new (slice_set places number place) }
+{
+    if let Some(CALLED) = place {
+        called.insert(number);
+    } else if let Some(CALLED) = stood {
         called.remove(number);
     }
 }

@@ -75,37 +75,27 @@ impl Wheel {
         }
     }
 
-    /// Lets a tag stand on a place, and nowhere else, and answers where it stood.
+    /// Lets a tag stand on a place and nowhere else, or on none, and answers where it stood.
     #[inline(always)]
-    pub(crate) fn put(&mut self, number: TagNumber, place: usize) -> Option<usize>
+    pub(crate) fn put(&mut self, number: TagNumber, place: Option<usize>) -> Option<usize>
         requires number { number < length self.old }
-        requires place { place < most_places }
-        ensures places { self.new ≡ slice_set self.old number (Some place) }
+        requires place { (at : ℕ) → place ≡ Some at → at < most_places }
+        ensures places { self.new ≡ slice_set self.old number place }
         ensures stood { result ≡ wheel_place_of self.old number }
     {
         let at = number.index();
         let stood = self.places[at];
         unlink(self.places.as_slice(), &mut self.links, &mut self.backs, at);
+        self.places[at] = place;
+        let Some(place) = place else {
+            return stood;
+        };
         let behind = PLACES + at;
         let first = self.links[place];
         self.links[behind] = first;
         self.backs[usize::from(first)] = behind;
         self.links[place] = number.get();
         self.backs[at] = place;
-        self.places[at] = Some(place);
-        stood
-    }
-
-    /// Lets a tag stand nowhere, and answers where it stood.
-    pub(crate) fn take(&mut self, number: TagNumber) -> Option<usize>
-        requires { number < length self.old }
-        ensures places { self.new ≡ slice_set self.old number None }
-        ensures stood { result ≡ wheel_place_of self.old number }
-    {
-        let at = number.index();
-        let stood = self.places[at];
-        unlink(self.places.as_slice(), &mut self.links, &mut self.backs, at);
-        self.places[at] = None;
         stood
     }
 }

@@ -1,11 +1,19 @@
-use Rattle.std.proofs.Common.{refl}
-use Rattle.waiting_tags.proofs.SlotPlaces.{OnPlaces, put_none, are_slots}
+use Rattle.std.proofs.Common.{◌∙◌, sym, refl}
+use Rattle.waiting_tags.proofs.SlotPlaces.{are_slots, called_again, is_called_place, stands_so}
 use Rattle.waiting_tags.proofs.waiting.Waiting.put.Goals as goal
 
-pub returns-in-None-clause-participations : goal.returns-in-None-clause-participations
-returns-in-None-clause-participations c =
-    let on : OnPlaces c.args.self.now = record { bases = c.self.inside.bases; places = c.self.inside.wheel; are = c.self.invariant.0; same = c.self.view_is } in
-    rw c.in-None.is (put_none c.args.self.now on c.take-stood.new.self c.args.number c.take-stood.ensures.places)
+pub returns-then-contains-clause-participations : goal.returns-then-contains-clause-participations
+returns-then-contains-clause-participations c =
+    called_again c.self.inside.bases c.self.inside.called c.self.inside.wheel c.args.number c.args.participation c.args.self.now c.self.invariant c.self.view_is c.requires.legal
+    (sym c.place_of-place.ensures ∙ is_called_place c.place_of-place.result (sym c.eq.ensures ∙ c.if-eq.true)) (c.contains.ensures.0 c.if-contains.true)
 
-pub returns-in-None-clause-slots : goal.returns-in-None-clause-slots
-returns-in-None-clause-slots c = are_slots c.self.inside.bases c.take-stood.new.self _ refl
+pub returns-then-contains-clause-slots : goal.returns-then-contains-clause-slots
+returns-then-contains-clause-slots c = are_slots c.self.inside.bases c.self.inside.wheel c.args.self.now c.self.view_is
+
+pub returns-clause-participations : goal.returns-clause-participations
+returns-clause-participations c =
+    rw (c.put-stood.ensures.places, c.place_of-place.ensures, ← c.self.view_is)
+    (stands_so c.self.inside.bases c.self.inside.wheel c.args.number c.args.participation c.self.invariant.0 c.requires.legal)
+
+pub returns-clause-slots : goal.returns-clause-slots
+returns-clause-slots c = are_slots c.self.inside.bases c.put-stood.new.self _ refl

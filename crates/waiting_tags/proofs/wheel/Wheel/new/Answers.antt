@@ -1,5 +1,5 @@
 use Rattle.std.proofs.Common.{◌≡◌, ℕ, Option, Some, None, arith, refl}
-use Rattle.waiting_tags.proofs.WheelLinks.{lead_nowhere, new_linked}
+use Rattle.waiting_tags.proofs.WheelLinks.{new_linked}
 use Rattle.waiting_tags.proofs.wheel.Wheel.new.Goals as goal
 
 -- what is a clone of none is none
@@ -9,6 +9,6 @@ clone_of_none IsClone apart (Some place) is = absurd (apart place is)
 
 pub invariant_of-result : goal.invariant_of-result
 invariant_of-result c =
-    new_linked c.args.count c.in_ok-places.places.items c.in_ok-links.links.items c.in_ok-backs.backs.items c.requires
-    (c.in_ok-places.ensures.items_if_clones_equal (clone_of_none _ (λ place is. is)))
-    (lead_nowhere c.in_ok-links.links.items _ (omega arith) (c.in_ok-links.ensures.items_if_clones_equal (λ y is. is))) (omega (arith, c.in_ok-backs.ensures.len))
+    new_linked c.args.count _ c.in_ok-places.places.items c.in_ok-links.links.items c.in_ok-backs.backs.items c.requires
+    (c.in_ok-places.ensures.items_if_clones_equal (clone_of_none _ (λ place is. is))) (omega arith)
+    (c.in_ok-links.ensures.items_if_clones_equal (λ y is. is)) (omega (arith, c.in_ok-backs.ensures.len))
