@@ -17,7 +17,7 @@ no_select kind fields this none (Select target action bank pointer mask) is = no
 no_select kind fields this none command is = let same = is.same_kind ∙ this in cc
 
 pub no_select_read : {A : Type 0} (result : Option A) (kind : CommandKind) (fields : List (List ℕ)) → kind ≡ kinds.Select
-    → (AreFilled 5 fields → (target : FlagName) (action : ℕ) (bank : MaskBank) (pointer : ℕ) (mask : List Bool) → action ≤ 7 → pointer < 2 ^ 28 → length mask ≤ 255 → fields ≢ other_command_fields (Select target action bank pointer mask))
+    → IfNone result (AreFilled 5 fields → (target : FlagName) (action : ℕ) (bank : MaskBank) (pointer : ℕ) (mask : List Bool) → action ≤ 7 → pointer < 2 ^ 28 → length mask ≤ 255 → fields ≢ other_command_fields (Select target action bank pointer mask))
     → IfNone result (AreFilled (command_field_count kind) fields → (command : Command) → ¬ IsCommandBehind kind fields command)
 no_select_read None kind fields this none = λ filled. no_select kind fields this (none (rw this at filled))
 no_select_read (Some value) kind fields this none = tt

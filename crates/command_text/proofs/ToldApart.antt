@@ -11,80 +11,33 @@ use Rattle.text_fields.specs.CodeNames.{code_word}
 use Rattle.text_fields.specs.WordLists.{IsWordList}
 use Rattle.text_fields.proofs.ToldApart.{hex_word_told}
 use Rattle.command_fields.specs.declared.choices.Sel.{Sel}
-use Rattle.command_fields.specs.declared.choices.Sel.TheVariants as sels
 use Rattle.command_fields.specs.declared.choices.Side.{Side}
-use Rattle.command_fields.specs.declared.choices.Side.TheVariants as sides
 use Rattle.command_fields.specs.declared.choices.UpDn.{UpDn}
-use Rattle.command_fields.specs.declared.choices.UpDn.TheVariants as updns
 use Rattle.command_fields.specs.declared.choices.Bank.{Bank}
-use Rattle.command_fields.specs.declared.choices.Bank.TheVariants as banks
 use Rattle.command_fields.specs.declared.choices.MaskBank.{MaskBank}
-use Rattle.command_fields.specs.declared.choices.MaskBank.TheVariants as mask_banks
 use Rattle.command_fields.specs.declared.choices.FlagName.{FlagName}
-use Rattle.command_fields.specs.declared.choices.FlagName.TheVariants as flags
 use Rattle.command_grammar.specs.Commands.{IsWord, all_kinds}
 use Rattle.command_grammar.specs.declared.kinds.CommandKind.{CommandKind}
+use Rattle.command_text.specs.FieldNames.{all_banks, all_flags, all_mask_banks, all_sels, all_sides, all_updns, bank_found, flag_found, mask_bank_found, sel_found, side_found, updn_found}
 use Rattle.command_text.specs.NameLists.{EachFound, command_found}
 use Rattle.command_text.proofs.NameLists.{told}
 use Rattle.command_text.specs.CommandText.{bank_word, command_name, flag_word, mask_bank_word, payload_digits, sel_word, side_word, updn_word}
 
 -- the words of a field, of which no two are alike
-abbrev pub all_flags : List FlagName
-all_flags = flags.S0 ∷ flags.S1 ∷ flags.S2 ∷ flags.S3 ∷ flags.Sl ∷ []
-
-pub flag_found : EachFound flag_word all_flags
-flag_found flags.S0 = refl
-flag_found flag = refl
-
 pub flag_told : (one other : FlagName) → flag_word one ≡ flag_word other → one ≡ other
 flag_told = told flag_word all_flags flag_found
-
-abbrev pub all_mask_banks : List MaskBank
-all_mask_banks = mask_banks.Epc ∷ mask_banks.Tid ∷ mask_banks.User ∷ []
-
-pub mask_bank_found : EachFound mask_bank_word all_mask_banks
-mask_bank_found mask_banks.Epc = refl
-mask_bank_found bank = refl
 
 pub mask_bank_told : (one other : MaskBank) → mask_bank_word one ≡ mask_bank_word other → one ≡ other
 mask_bank_told = told mask_bank_word all_mask_banks mask_bank_found
 
-abbrev pub all_banks : List Bank
-all_banks = banks.Reserved ∷ banks.Epc ∷ banks.Tid ∷ banks.User ∷ []
-
-pub bank_found : EachFound bank_word all_banks
-bank_found banks.Reserved = refl
-bank_found bank = refl
-
 pub bank_told : (one other : Bank) → bank_word one ≡ bank_word other → one ≡ other
 bank_told = told bank_word all_banks bank_found
-
-abbrev pub all_sides : List Side
-all_sides = sides.A ∷ sides.B ∷ []
-
-pub side_found : EachFound side_word all_sides
-side_found sides.A = refl
-side_found side = refl
 
 pub side_told : (one other : Side) → side_word one ≡ side_word other → one ≡ other
 side_told = told side_word all_sides side_found
 
-abbrev all_sels : List Sel
-all_sels = sels.All00 ∷ sels.All01 ∷ sels.NotSl ∷ sels.Sl ∷ []
-
-sel_found : EachFound sel_word all_sels
-sel_found sels.All00 = refl
-sel_found sel = refl
-
 pub sel_told : (one other : Sel) → sel_word one ≡ sel_word other → one ≡ other
 sel_told = told sel_word all_sels sel_found
-
-abbrev all_updns : List UpDn
-all_updns = updns.Up ∷ updns.Same ∷ updns.Down ∷ []
-
-updn_found : EachFound updn_word all_updns
-updn_found updns.Up = refl
-updn_found updn = refl
 
 pub updn_told : (one other : UpDn) → updn_word one ≡ updn_word other → one ≡ other
 updn_told = told updn_word all_updns updn_found

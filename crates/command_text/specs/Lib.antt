@@ -1,3 +1,4 @@
 pub mod CommandText
 pub mod NameLists
 pub mod laws
+pub mod FieldNames

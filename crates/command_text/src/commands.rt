@@ -8,9 +8,8 @@ ghost use Rattle.text_fields.specs.Hexadecimal.{hex_word};
 ghost use Rattle.text_fields.specs.CodeNames.{code_word};
 ghost use Rattle.command_text.specs.CommandText.{bank_word, command_line, flag_word, mask_bank_word, sel_word};
 
-use crate::names::{
-    bank_name, bit_name, flag_name, mask_bank_name, sel_name, side_name, updn_name,
-};
+use crate::name_lists::Named;
+use crate::names::{bank_name, bit_name, flag_name, side_name};
 use crate::payloads::push_next_payload;
 use bit_strings::{Action, Code, OutOfMemory, Pointer};
 use command_grammar::{Bank, Command, FlagName, MaskBank, Sel};
@@ -53,7 +52,7 @@ pub fn push_command(text: &mut String, command: &Command) -> Result<(), OutOfMem
         }
         Command::QueryAdjust { session, updn } => {
             push_named_number(text, "queryadjust", u32::from(session.get()))?;
-            push_next_name(text, updn_name(*updn))
+            push_next_name(text, updn.name())
         }
         Command::Select {
             target,
@@ -149,7 +148,7 @@ fn push_query_front(
     push_next_name(text, bit_name(dr))?;
     push_next_name(text, name_of(code))?;
     push_next_name(text, bit_name(trext))?;
-    push_next_name(text, sel_name(sel))
+    push_next_name(text, sel.name())
 }
 
 /// Writes the name of a Select, the flag, the action and the bank that has the mask.
@@ -166,7 +165,7 @@ fn push_select_front(
     text.push_str("select")?;
     push_next_name(text, flag_name(target))?;
     push_next_number(text, u32::from(action.get()))?;
-    push_next_name(text, mask_bank_name(bank))
+    push_next_name(text, bank.name())
 }
 
 /// Writes the name of a command, the covered half of a password and the handle.

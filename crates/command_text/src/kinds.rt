@@ -19,7 +19,22 @@ impl Named for CommandKind {
     }
 
     fn name(self) -> &'static str {
-        text_of(self).0
+        match self {
+            CommandKind::QueryRep => "queryrep",
+            CommandKind::Ack => "ack",
+            CommandKind::Query => "query",
+            CommandKind::QueryAdjust => "queryadjust",
+            CommandKind::Select => "select",
+            CommandKind::Nak => "nak",
+            CommandKind::ReqRn => "req_rn",
+            CommandKind::Read => "read",
+            CommandKind::Write => "write",
+            CommandKind::Kill => "kill",
+            CommandKind::Lock => "lock",
+            CommandKind::Access => "access",
+            CommandKind::BlockWrite => "blockwrite",
+            CommandKind::BlockErase => "blockerase",
+        }
     }
 }
 
@@ -27,28 +42,15 @@ impl Named for CommandKind {
 pub(crate) fn field_count(kind: CommandKind) -> u32
     ensures { result ≡ command_field_count kind }
 {
-    text_of(kind).1
-}
-
-/// The name of a command, and how many fields stand behind it: a row for each.
-fn text_of(kind: CommandKind) -> (&'static str, u32)
-    ensures name { result.0.now ≡ command_name kind }
-    ensures count { result.1 ≡ command_field_count kind }
-{
     match kind {
-        CommandKind::QueryRep => ("queryrep", 1),
-        CommandKind::Ack => ("ack", 1),
-        CommandKind::Query => ("query", 7),
-        CommandKind::QueryAdjust => ("queryadjust", 2),
-        CommandKind::Select => ("select", 5),
-        CommandKind::Nak => ("nak", 0),
-        CommandKind::ReqRn => ("req_rn", 1),
-        CommandKind::Read => ("read", 4),
-        CommandKind::Write => ("write", 4),
-        CommandKind::Kill => ("kill", 2),
-        CommandKind::Lock => ("lock", 2),
-        CommandKind::Access => ("access", 2),
-        CommandKind::BlockWrite => ("blockwrite", 4),
-        CommandKind::BlockErase => ("blockerase", 4),
+        CommandKind::Nak => 0,
+        CommandKind::QueryRep | CommandKind::Ack | CommandKind::ReqRn => 1,
+        CommandKind::QueryAdjust | CommandKind::Kill | CommandKind::Lock | CommandKind::Access => 2,
+        CommandKind::Read
+        | CommandKind::Write
+        | CommandKind::BlockWrite
+        | CommandKind::BlockErase => 4,
+        CommandKind::Select => 5,
+        CommandKind::Query => 7,
     }
 }

@@ -32,41 +32,46 @@ fn read_behind_to(kind: CommandKind, fields: Fields, command: &mut Command) -> O
             *command = Command::QueryRep {
                 session: read_session(fields)?,
             };
+            Some(())
         }
         CommandKind::Ack => {
             *command = Command::Ack {
                 rn: read_word(fields)?,
             };
+            Some(())
         }
-        CommandKind::Query => read_query_to(fields, command)?,
-        CommandKind::QueryAdjust => read_query_adjust_to(fields, command)?,
-        CommandKind::Select => read_select_to(fields, command)?,
+        CommandKind::Query => read_query_to(fields, command),
+        CommandKind::QueryAdjust => read_query_adjust_to(fields, command),
+        CommandKind::Select => read_select_to(fields, command),
         CommandKind::Nak => {
             if !is_at_end(fields) {
                 return None;
             }
             *command = Command::Nak;
+            Some(())
         }
         CommandKind::ReqRn => {
             *command = Command::ReqRn {
                 rn: read_word(fields)?,
             };
+            Some(())
         }
-        CommandKind::Read => read_read_to(fields, command)?,
-        CommandKind::Write => read_write_to(fields, command)?,
+        CommandKind::Read => read_read_to(fields, command),
+        CommandKind::Write => read_write_to(fields, command),
         CommandKind::Kill => {
             let (covered, rn) = read_two_words(fields)?;
             *command = Command::Kill { covered, rn };
+            Some(())
         }
-        CommandKind::Lock => read_lock_to(fields, command)?,
+        CommandKind::Lock => read_lock_to(fields, command),
         CommandKind::Access => {
             let (covered, rn) = read_two_words(fields)?;
             *command = Command::Access { covered, rn };
+            Some(())
         }
-        CommandKind::BlockWrite => read_block_write_to(fields, command)?,
-        CommandKind::BlockErase => read_block_erase_to(fields, command)?,
+        CommandKind::BlockWrite => read_block_write_to(fields, command),
+        CommandKind::BlockErase => read_block_erase_to(fields, command),
     }
-    Some(())
 }
 
 /// Puts in place of another the command that fields spell: its name, and its fields in the order in which they are

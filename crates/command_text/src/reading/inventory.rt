@@ -6,7 +6,8 @@ ghost use Rattle.text_fields.specs.NamedFields.{AreFilled};
 ghost use Rattle.command_grammar.specs.Commands.{IsWord};
 ghost use Rattle.command_text.specs.CommandText.{IsCommandBehind, other_command_fields};
 
-use crate::names::{sel_named, side_named, updn_named};
+use crate::name_lists::value_named;
+use crate::names::side_named;
 use bit_strings::{Code, Session};
 use command_grammar::{Command, CommandKind, Sel, Side, UpDn};
 use text_fields::{
@@ -47,7 +48,7 @@ pub(crate) fn read_query_to(fields: Fields, command: &mut Command) -> Option<()>
         dr: one_bit(dr)?,
         code: code_named(code)?,
         trext: one_bit(trext)?,
-        sel: sel_named(sel)?,
+        sel: value_named(sel)?,
         session: session_of(session)?,
         target: side_named(target)?,
         q: q_of(q)?,
@@ -66,7 +67,7 @@ pub(crate) fn read_query_adjust_to(fields: Fields, command: &mut Command) -> Opt
     let (session, updn) = two_fields(fields)?;
     *command = Command::QueryAdjust {
         session: session_of(session)?,
-        updn: updn_named(updn)?,
+        updn: value_named(updn)?,
     };
     Some(())
 }

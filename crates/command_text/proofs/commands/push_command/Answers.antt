@@ -15,7 +15,7 @@ returns-in_ok-push_named_number-in-QueryAdjust c =
     let front : string_bytes c.push_named_number-in-QueryAdjust.new.text ≡ string_bytes c.args.text.now ++ line_with (codes "queryadjust" ∷ decimal c.in-QueryAdjust.session ∷ []) =
     c.in_ok-push_named_number-in-QueryAdjust.ensures ∙ ap (λ n. string_bytes c.args.text.now ++ line_with (codes "queryadjust" ∷ decimal n ∷ [])) (c.from-in-QueryAdjust.ensures ∙ c.get-in-QueryAdjust.ensures.value) in
     IfOk-equal _ _ _ _ c.push_next_name-in-QueryAdjust.ensures
-    (front_and_name _ _ _ _ _ front c.updn_name.ensures ∙ ap (λ (command : Command). string_bytes c.args.text.now ++ command_line command) (sym c.in-QueryAdjust.is))
+    (front_and_name _ _ _ _ _ front c.name.ensures ∙ ap (λ (command : Command). string_bytes c.args.text.now ++ command_line command) (sym c.in-QueryAdjust.is))
 
 pub returns-in-ReqRn : goal.returns-in-ReqRn
 returns-in-ReqRn c =
