@@ -24,7 +24,8 @@ use Rattle.value_text.specs.ValueText.{locks_text, password_text}
 use Rattle.scenario_lines.specs.Spelling.{flag_text}
 use Rattle.command_text.specs.NameLists.{EachFound, first_named}
 use Rattle.command_text.proofs.NameLists.{found_is, told}
-use Rattle.command_text.proofs.ToldApart.{all_banks, all_codes, all_flags, all_mask_banks, all_sides, bank_found, code_found, flag_found, mask_bank_found, side_found}
+use Rattle.command_text.specs.FieldNames.{all_banks, all_flags, all_mask_banks, all_sides, bank_found, flag_found, mask_bank_found, side_found}
+use Rattle.command_text.proofs.ToldApart.{all_codes, code_found}
 use Rattle.scenario_lines.proofs.ToldNames.{all_sels, sel_found, several_found, all_severals, version_found, all_versions}
 use Rattle.scenario_lines.proofs.Decisions.{Any, Behind, Decided, Spelled, behind_decided, below_decided, both, either, le_decided, nothing_decided, number_decided, same_answer, text_decided}
 

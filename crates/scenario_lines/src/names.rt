@@ -194,11 +194,14 @@ pub(crate) fn sel_named(field: &[u8]) -> Option<Sel>
     ensures value { IfSome result (λ sel. (field.now ≡ sel_text sel) × (sel ≢ Sel.All01)) }
     ensures only { (sel : Sel) → sel ≢ Sel.All01 → field.now ≡ sel_text sel → result ≡ Some sel }
 {
-    match field {
-        b"all" => Some(Sel::All00),
-        b"nsl" => Some(Sel::NotSl),
-        b"sl" => Some(Sel::Sl),
-        _ => None,
+    if field == b"all".as_slice() {
+        Some(Sel::All00)
+    } else if field == b"nsl".as_slice() {
+        Some(Sel::NotSl)
+    } else if field == b"sl".as_slice() {
+        Some(Sel::Sl)
+    } else {
+        None
     }
 }
 

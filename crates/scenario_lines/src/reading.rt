@@ -74,41 +74,63 @@ fn read_behind<'a>(keyword: Keyword, others: Fields<'a>) -> Result<Line<'a>, Fau
     ensures ok { IfOk result (SpellsBehind keyword others.entry) }
     ensures refused { IfErr result (IsFaultyBehind keyword others.entry) }
 {
+    // A `?` in each arm would be two calls more, which the proof goes through.
     match keyword {
-        Keyword::Version => Ok(Line::Version(read_version(others)?)),
-        Keyword::Link => Ok(Line::Link(read_link(others)?)),
-        Keyword::Default => Ok(Line::Default(read_default(others)?)),
-        Keyword::Tag => Ok(Line::Tag(read_tag(others)?)),
-        Keyword::Copies => {
-            let (count, tag) = read_copies(others)?;
-            Ok(Line::Copies(count, tag))
-        }
-        Keyword::Air => {
-            let (exchange, happening) = read_air(others)?;
-            Ok(Line::Air {
+        Keyword::Version => match read_version(others) {
+            Ok(version) => Ok(Line::Version(version)),
+            Err(fault) => Err(fault),
+        },
+        Keyword::Link => match read_link(others) {
+            Ok(link) => Ok(Line::Link(link)),
+            Err(fault) => Err(fault),
+        },
+        Keyword::Default => match read_default(others) {
+            Ok(several) => Ok(Line::Default(several)),
+            Err(fault) => Err(fault),
+        },
+        Keyword::Tag => match read_tag(others) {
+            Ok(tag) => Ok(Line::Tag(tag)),
+            Err(fault) => Err(fault),
+        },
+        Keyword::Copies => match read_copies(others) {
+            Ok((count, tag)) => Ok(Line::Copies(count, tag)),
+            Err(fault) => Err(fault),
+        },
+        Keyword::Air => match read_air(others) {
+            Ok((exchange, happening)) => Ok(Line::Air {
                 exchange,
                 happening,
-            })
-        }
-        Keyword::Select => Ok(Line::Select(read_select(others)?)),
-        Keyword::Nak => {
-            read_bare(others)?;
-            Ok(Line::Nak)
-        }
-        Keyword::Event => {
-            let (event, tag) = read_event(others)?;
-            Ok(Line::Event { event, tag })
-        }
-        Keyword::Round => {
-            let (version, spec) = read_round(others)?;
-            Ok(Line::Round(version, spec))
-        }
-        Keyword::Only => Ok(Line::Only(read_only(others)?)),
-        Keyword::Op => Ok(Line::Op(read_op(others)?)),
-        Keyword::End => {
-            read_bare(others)?;
-            Ok(Line::End)
-        }
+            }),
+            Err(fault) => Err(fault),
+        },
+        Keyword::Select => match read_select(others) {
+            Ok(selection) => Ok(Line::Select(selection)),
+            Err(fault) => Err(fault),
+        },
+        Keyword::Nak => match read_bare(others) {
+            Ok(()) => Ok(Line::Nak),
+            Err(fault) => Err(fault),
+        },
+        Keyword::Event => match read_event(others) {
+            Ok((event, tag)) => Ok(Line::Event { event, tag }),
+            Err(fault) => Err(fault),
+        },
+        Keyword::Round => match read_round(others) {
+            Ok((version, spec)) => Ok(Line::Round(version, spec)),
+            Err(fault) => Err(fault),
+        },
+        Keyword::Only => match read_only(others) {
+            Ok(epc) => Ok(Line::Only(epc)),
+            Err(fault) => Err(fault),
+        },
+        Keyword::Op => match read_op(others) {
+            Ok(op) => Ok(Line::Op(op)),
+            Err(fault) => Err(fault),
+        },
+        Keyword::End => match read_bare(others) {
+            Ok(()) => Ok(Line::End),
+            Err(fault) => Err(fault),
+        },
     }
 }
 
