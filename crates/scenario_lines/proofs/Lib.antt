@@ -11,6 +11,7 @@ pub mod ToldLines
 pub mod FirstNumbers
 pub mod CopiesFields
 pub mod OneOp
+pub mod OneTag
 pub mod LineShapes
 pub mod LineReasons
 pub mod Decisions

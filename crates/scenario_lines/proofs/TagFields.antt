@@ -1,5 +1,5 @@
 -- The seven fields of a tag.
-use Rattle.std.proofs.Common.{◌≡◌, ℕ, List, [], get_or, Some, refl}
+use Rattle.std.proofs.Common.{◌≡◌, ℕ, List, [], get_or, refl}
 use Rattle.text_fields.specs.Hexadecimal.{hex_words}
 use Rattle.scenario_lines.specs.declared.tag.TagSpec.{TagSpec}
 use Rattle.value_text.specs.ValueText.{locks_text, password_text}
@@ -27,9 +27,6 @@ tag_fields_are fields tag spells = record {
   user_is = field_at 5 fields (tag_spec_fields tag) spells;
   words_is = field_at 6 fields (tag_spec_fields tag) spells;
 }
-
-pub some_same : {A : Type 0} {x y : A} → Some x ≡ Some y → x ≡ y
-some_same same = cc
 
 -- two tags have the same parts
 pub record HaveSameParts (one other : TagSpec) : Type 0 where

