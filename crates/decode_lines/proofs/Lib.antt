@@ -1,6 +1,5 @@
 pub mod AnsweredLines
 pub mod AskedOrFaulty
-pub mod HeardLines
 pub mod OneAnswer
 pub mod OneReading
 pub mod OneRequest

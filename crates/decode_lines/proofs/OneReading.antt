@@ -27,13 +27,13 @@ use Rattle.pie_line.specs.Pie.{longest_interval}
 pub kind_told : (a b : RequestKind) → request_word a ≡ request_word b → a ≡ b
 kind_told = told request_word all_request_kinds request_kind_found
 
-abbrev pub Filled : List ℕ → Type 0
+abbrev Filled : List ℕ → Type 0
 Filled field = field ≢ []
 
 two_filled : (a b : List ℕ) → Filled a → Filled b → All Filled (a ∷ b ∷ [])
 two_filled a b p q = All-cons Filled a (b ∷ []) p (All-cons Filled b [] q (All-nil Filled))
 
-pub three_filled : (a b c : List ℕ) → Filled a → Filled b → Filled c → All Filled (a ∷ b ∷ c ∷ [])
+three_filled : (a b c : List ℕ) → Filled a → Filled b → Filled c → All Filled (a ∷ b ∷ c ∷ [])
 three_filled a b c p q r = All-cons Filled a (b ∷ c ∷ []) p (two_filled b c q r)
 
 numbers_filled : (numbers : List ℕ) → All (λ number. number ≤ longest_interval) numbers → All Filled (map decimal numbers)

@@ -1,4 +1,4 @@
--- What one decode line asks for and is answered, or why it is faulty, is one thing, by the laws of lower crates.
+-- What one decode line asks for and is answered, or why it is faulty, is one thing.
 use Rattle.std.proofs.Common.{rules, ◌≡◌, ℕ, List, ◌∷◌, refl, sym, ◌∙◌, subst}
 use Rattle.checked_lines.specs.declared.fault.FaultReason.{FaultReason}
 use Rattle.checked_lines.specs.declared.fault.FaultReason.TheVariants.{Word, Shape, Number}
@@ -8,7 +8,7 @@ use Rattle.decode_lines.specs.Answer.{decode_rules}
 use Rattle.decode_lines.specs.declared.request.RequestKind.{RequestKind}
 use Rattle.decode_lines.proofs.OneReading.{kind_told, same_fields, spelled_not_faulty}
 use Rattle.decode_lines.proofs.OneRequest.{same_request}
-use Rattle.decode_lines.proofs.OneAnswer.{TellAnswers, same_answer}
+use Rattle.decode_lines.proofs.OneAnswer.{same_answer}
 
 -- where a first field is read in two ways, the fields have the shape of both or of none
 one_reading : (fields : List (List ℕ)) (kind kind' : RequestKind) (others others' : List (List ℕ)) → fields ≡ request_word kind ∷ others → fields ≡ request_word kind' ∷ others'
@@ -30,5 +30,5 @@ same_reason fields one other left right = absurd (search rules)
 pub tell_lines : TellLines decode_rules
 tell_lines = record { one_request = same_request; one_reason = same_reason; not_faulty = spelled_not_faulty }
 
-pub one_answer : TellAnswers → HaveOneAnswer decode_rules
-one_answer tell line request one other asks left right = same_answer tell request one other asks.asks.limits left right
+pub one_answer : HaveOneAnswer decode_rules
+one_answer line request one other asks left right = same_answer request one other asks.asks.limits left right

@@ -1,5 +1,5 @@
 -- Profile: what is answered to a decode line.
-use Rattle.std.specs.Prelude.{ℕ, Bool, List, [], ◌∷◌, ◌++◌, codes, Result, Ok, Err}
+use Rattle.std.specs.Prelude.{ℕ, Bool, List, [], ◌∷◌, ◌++◌, codes, Result, Ok, Err, MatchResult}
 use Rattle.line_code.specs.declared.refusal.LineRefusal.{LineRefusal}
 use Rattle.line_code.specs.declared.refusal.LineRefusal.TheVariants.{Invalid, Unfinished}
 use Rattle.line_code.specs.Stream.{IsStream, Streams}
@@ -8,7 +8,7 @@ use Rattle.text_fields.specs.Lines.{line_feed}
 use Rattle.std.specs.Fmt.{decimal}
 use Rattle.text_fields.specs.Binary.{binary}
 use Rattle.line_codes.specs.Codes.{table_of}
-use Rattle.sample_slicer.specs.Samples.{AreLevels, RefusesSamples}
+use Rattle.sample_slicer.specs.Samples.{IsSliceAnswer}
 use Rattle.sample_slicer.specs.declared.slicer.SliceRefusal.{SliceRefusal}
 use Rattle.sample_slicer.specs.declared.slicer.SliceRefusal.TheVariants.{Mixed, Rest}
 use Rattle.reply_grammar.specs.Replies.{AnswersExpected}
@@ -64,20 +64,18 @@ pub data Answer : Type 0 where
 
 -- the answer is the one to the request
 abbrev pub IsLineAnswer : Request → Answer → Type 0
-IsLineAnswer (Stream code trext levels) (StreamAnswer (Ok bits)) = IsStream (table_of code) trext bits levels
-IsLineAnswer (Stream code trext levels) (StreamAnswer (Err refusal)) = RefusesStream (Streams (table_of code) trext) levels refusal
-IsLineAnswer (Samples threshold per_level samples) (SamplesAnswer (Ok levels)) = AreLevels threshold per_level samples levels
-IsLineAnswer (Samples threshold per_level samples) (SamplesAnswer (Err refusal)) = RefusesSamples threshold per_level samples refusal
-IsLineAnswer (ReplyLine expect bits) (ReplyAnswer (Ok reply)) = AnswersExpected reply expect bits
-IsLineAnswer (ReplyLine expect bits) (ReplyAnswer (Err refusal)) = RefusesReply refusal expect bits
+IsLineAnswer (Stream code trext levels) (StreamAnswer outcome) =
+    MatchResult outcome (λ bits. IsStream (table_of code) trext bits levels) (RefusesStream (Streams (table_of code) trext) levels)
+IsLineAnswer (Samples threshold per_level samples) (SamplesAnswer outcome) = IsSliceAnswer threshold per_level samples outcome
+IsLineAnswer (ReplyLine expect bits) (ReplyAnswer outcome) =
+    MatchResult outcome (λ reply. AnswersExpected reply expect bits) (λ refusal. RefusesReply refusal expect bits)
 IsLineAnswer (HeardLine code trext expect levels) (HeardAnswer received) = IsReceived (table_of code) trext expect levels received
-IsLineAnswer (PieLine intervals) (PieAnswer (Ok frame)) = IsFrame frame.0 frame.1 intervals
-IsLineAnswer (PieLine intervals) (PieAnswer (Err refusal)) = RefusesFrame refusal intervals
+IsLineAnswer (PieLine intervals) (PieAnswer outcome) =
+    MatchResult outcome (λ frame. IsFrame frame.0 frame.1 intervals) (λ refusal. RefusesFrame refusal intervals)
 IsLineAnswer (CommandLine bits) (CommandAnswer outcome) = IsFinishAnswer outcome bits
-IsLineAnswer (SgtinLine words) (SgtinAnswer (Ok sgtin)) = IsSgtin sgtin words
-IsLineAnswer (SgtinLine words) (SgtinAnswer (Err fault)) = RefusesEpc fault words
-IsLineAnswer (UriLine text) (UriAnswer (Ok words)) = (sgtin : SgtinValue) × IsUriOf sgtin text × IsSgtin sgtin words
-IsLineAnswer (UriLine text) (UriAnswer (Err fault)) = RefusesUri fault text
+IsLineAnswer (SgtinLine words) (SgtinAnswer outcome) = MatchResult outcome (λ sgtin. IsSgtin sgtin words) (λ fault. RefusesEpc fault words)
+IsLineAnswer (UriLine text) (UriAnswer outcome) =
+    MatchResult outcome (λ words. (sgtin : SgtinValue) × IsUriOf sgtin text × IsSgtin sgtin words) (λ fault. RefusesUri fault text)
 IsLineAnswer request answer = ⊥
 
 -- an outcome with what its call left, where that was no refusal

@@ -9,12 +9,7 @@ ghost use Rattle.decode_lines.specs.Answer.{Answer, IsLineAnswer};
 ghost use Rattle.decode_lines.specs.DecodeLines.{Decodes, IsDecodeFaultText, IsFirstDecodeFault, AskForDecoding};
 
 use crate::request::{RequestKind, kind_of_line, request_of};
-use command_grammar::one_outcome;
-use epc_sgtin::{sgtin_laws, uri_laws};
-use line_codes::code_laws;
 use pie_text::numbers_or_refused;
-use reply_grammar::reply_laws;
-use reply_wire::one_received;
 use text_fields::split_line;
 
 /// Decode lines have at most one text of answers, and at most one fault line.
@@ -23,12 +18,7 @@ pub fn decode_lines_have_one_text()
         → one ≡ other }
     ensures fault_line { (bytes one other : List ℕ) → IsDecodeFaultText bytes one
         → IsDecodeFaultText bytes other → one ≡ other }
-{
-    // The bits of a command line have one outcome, and so have words and URIs.
-    one_outcome();
-    sgtin_laws();
-    uri_laws();
-}
+{}
 
 /// Where each decode line asks for something there is no faulty line.
 pub fn decode_lines_are_not_faulty()
@@ -40,17 +30,7 @@ pub fn decode_lines_are_not_faulty()
 pub fn requests_have_an_answer()
     ensures { (request : Request) → IsWithinDecodeLimits request → (answer : Answer)
         × IsLineAnswer request answer }
-{
-    code_laws();
-    line_code::one_answer();
-    sample_slicer::one_answer();
-    reply_laws();
-    one_received();
-    pie_line::one_answer();
-    one_outcome();
-    sgtin_laws();
-    uri_laws();
-}
+{}
 
 /// A decode line asks for something, or is faulty.
 fn lines_ask_or_are_faulty(line: &[u8])

@@ -5,14 +5,14 @@ ghost use Rattle.decode_lines.specs.Request.{all_request_kinds, request_kind_fou
 
 use crate::raw_field::RawField;
 use bit_strings::Code;
-use checked_lines::{FaultReason, heard_as};
+use checked_lines::FaultReason;
 use command_text::{Named, value_named};
 use pie_line::Intervals;
 use pie_text::{NotNumbers, Numbers, read_numbers};
 use reply_grammar::Expect;
 use reply_text::expect_of;
 use text_fields::{
-    Digits, Fields, HexBytes, Words, four_fields, name_of, number, one_bit, one_field,
+    Digits, Fields, HexBytes, Words, code_named, four_fields, name_of, number, one_bit, one_field,
     three_fields, two_fields,
 };
 
@@ -262,7 +262,13 @@ fn heard_of<'a>(others: Fields<'a>) -> Result<Request<'a>, FaultReason>
     let Some((code, trext, expect, levels)) = four_fields(others) else {
         return Err(FaultReason::Shape);
     };
-    let Some((code, trext, expect)) = heard_as(code, trext, expect) else {
+    let Some(code) = code_named(code) else {
+        return Err(FaultReason::Number);
+    };
+    let Some(trext) = one_bit(trext) else {
+        return Err(FaultReason::Number);
+    };
+    let Some(expect) = expect_of(expect) else {
         return Err(FaultReason::Number);
     };
     let Some(levels) = Digits::new(levels, MOST_LEVELS) else {

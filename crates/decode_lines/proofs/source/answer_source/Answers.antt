@@ -1,4 +1,4 @@
-use Rattle.std.proofs.Common.{◌≤◌, ◌++◌, List, ℕ, length, take, arith, length-append}
+use Rattle.std.proofs.Common.{◌≤◌, ◌++◌, List, ℕ, length, take, refl, arith, length-append}
 use Rattle.air_io.specs.Flow.{TakesBytes}
 use Rattle.air_io.specs.laws.Flow.{Reads-more}
 use Rattle.air_io.specs.ReadEnds.{most_read}
@@ -17,12 +17,7 @@ returns-then-count-most-clause-too_long g c _ =
 
 pub returns-then-count-most-clause-part : goal.returns-then-count-most-clause-part
 returns-then-count-most-clause-part g c =
-    let took = c.in-Took.ensures.took in
-    let bytes = c.reads.invariant.bytes in
-    let size = c.reads.invariant.size in
-    let len = length-append-take bytes c.read.new.buf c.in-Took.count took.1 in
-    let within = count_within_room c.deref_mut.result.now c.read.new.buf c.min-room.result c.in-Took.count took.1 c.read.auto.buf in
-    (bytes ++ take c.in-Took.count c.read.new.buf, Reads-more _ _ _ _ _ c.reads.invariant.taken took.2, omega arith)
+    let it = returns-then-count-most-clause-too_long g c refl in (it.0, it.1, omega (arith, it.2))
 
 pub returns-in_err-take-in-Took-clause-part : goal.returns-in_err-take-in-Took-clause-part
 returns-in_err-take-in-Took-clause-part g c =

@@ -8,5 +8,6 @@ pub returns : goal.returns
 returns c =
     let same = c.deref.ensures.value ∙ c.in_ok-read_samples.ensures in
     let levels = c.slice_levels-outcome.new.out.items in
-    let right = sliced_right c.args.threshold c.args.per_level c.args.samples.now _ levels c.slice_levels-outcome.result same c.slice_levels-outcome.ensures.ok c.slice_levels-outcome.ensures.refused in
-    on_ok_weaker c.push_slicing.result (λ line. record { answer = SamplesAnswer (with_left (λ done. levels) c.slice_levels-outcome.result); right = right; line = line }) c.push_slicing.ensures
+    let outcome = c.slice_levels-outcome in
+    let right = sliced_right c.args.threshold c.args.per_level c.args.samples.now levels outcome.result (rw same at outcome.ensures.ok) (rw same at outcome.ensures.refused) in
+    on_ok_weaker c.push_slicing.result (λ line. record { answer = SamplesAnswer (with_left (λ done. levels) outcome.result); right = right; line = line }) c.push_slicing.ensures
