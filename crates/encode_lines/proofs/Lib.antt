@@ -3,4 +3,3 @@ pub mod OneLine
 pub mod SomeLine
 pub mod ReadFields
 pub mod Shapes
-pub mod WrittenLines

@@ -1,5 +1,6 @@
 -- What is read of the fields behind the first, where a reply stands behind others.
-use Rattle.std.proofs.Common.{◌≡◌, ◌≢◌, ℕ, Bool, List, [], ◌∷◌}
+use Rattle.std.proofs.Common.{◌≡◌, ◌≢◌, ◌↔◌, ℕ, Bool, List, [], ◌∷◌}
+use Rattle.std.specs.Prelude.{IsTrue}
 use Rattle.std.proofs.lemmas.List.Elements.{All-head, All-tail}
 use Rattle.std.specs.Fmt.{decimal}
 use Rattle.bit_strings.specs.declared.code.Code.{Code}
@@ -21,13 +22,6 @@ use Rattle.encode_lines.specs.declared.request.Request.TheVariants.{Pie, Heard}
 
 three_filled : (a b c : List ℕ) → Filled a → Filled b → Filled c → AreFilled 3 (a ∷ b ∷ c ∷ [])
 three_filled a b c p q r = one_more 2 a (b ∷ c ∷ []) p (one_more 1 b (c ∷ []) q (one_more 0 c [] r none_filled))
-
--- what a test says of a field
-pub weaker_front : (P Q : Type 0) → (P → Q) → (Q → P) → (tail : List (List ℕ)) (reason : FaultReason) → IsFaultyReplyBehind P tail reason → IsFaultyReplyBehind Q tail reason
-weaker_front P Q to from tail Word faulty = faulty
-weaker_front P Q to from tail Shape faulty = (faulty.0, λ has. faulty.1 (from has.0, has.1))
-weaker_front P Q to from tail Number faulty = (to faulty.0, faulty.1, faulty.2)
-weaker_front P Q to from tail reason faulty = faulty
 
 -- the three fields in front of a reply are filled
 abbrev pub ThreeFilled : (a b c : List ℕ) → Type 0
@@ -51,12 +45,15 @@ front_filled a b c are =
     let others = All-tail Filled a (b ∷ c ∷ []) are.filled in
     (All-head Filled a (b ∷ c ∷ []) are.filled, All-head Filled b (c ∷ []) others, All-head Filled c [] (All-tail Filled b (c ∷ []) others))
 
-faulty_heard : (a b c : List ℕ) (tail : List (List ℕ)) (reason : FaultReason) → IsFaultyReplyBehind (ThreeFilled a b c) tail reason → AreFaultyToEncode HeardKind (a ∷ b ∷ c ∷ tail) reason
-faulty_heard a b c tail Word faulty = faulty
-faulty_heard a b c tail Shape faulty = (faulty.0, λ has. faulty.1 (front_filled a b c has.0, has.1))
-faulty_heard a b c tail Number faulty =
-    ((three_filled a b c faulty.0.0 faulty.0.1 faulty.0.2, faulty.1), no_heard a b c tail (λ code trext expect reply first second is third spelled. faulty.2 reply spelled))
-faulty_heard a b c tail reason faulty = faulty
+-- what the reply lacks, where a test tells of the fields in front of it whether they are filled
+pub heard_faulty : (a b c : List ℕ) (tail : List (List ℕ)) (test : Bool) (reason : FaultReason) → (IsTrue test ↔ ThreeFilled a b c) → IsFaultyReplyBehind (IsTrue test) tail reason
+    → AreFaultyToEncode HeardKind (a ∷ b ∷ c ∷ tail) reason
+heard_faulty a b c tail test Word tells faulty = faulty
+heard_faulty a b c tail test Shape tells faulty = (faulty.0, λ has. faulty.1 (tells.1 (front_filled a b c has.0), has.1))
+heard_faulty a b c tail test Number tells faulty =
+    let filled = tells.0 faulty.0 in
+    ((three_filled a b c filled.0 filled.1 filled.2, faulty.1), no_heard a b c tail (λ code trext expect reply first second is third spelled. faulty.2 reply spelled))
+heard_faulty a b c tail test reason tells faulty = faulty
 
 -- a reply stands behind three fields of which one spells nothing
 pub heard_unnamed : (a b c : List ℕ) (tail : List (List ℕ)) (reply : OneReply) → ThreeFilled a b c → IsReplyText tail reply
@@ -69,10 +66,6 @@ heard_unnamed a b c tail reply filled is none = (
   ),
   no_heard a b c tail (λ code trext expect other first second expected third spelled. none code trext expect first second expected third),
 )
-
-pub heard_faulty : (others : List (List ℕ)) (a b c : List ℕ) (tail : List (List ℕ)) (reason : FaultReason) → others ≡ a ∷ b ∷ c ∷ tail → IsFaultyReplyBehind (ThreeFilled a b c) tail reason
-    → AreFaultyToEncode HeardKind others reason
-heard_faulty others a b c tail reason first faulty = rw first (faulty_heard a b c tail reason faulty)
 
 -- fewer or more than six fields, or an empty one
 pub six_missing : (others : List (List ℕ)) → ((a b c d e f : List ℕ) → others ≡ a ∷ b ∷ c ∷ d ∷ e ∷ f ∷ [] → a ≢ [] → b ≢ [] → c ≢ [] → d ≢ [] → e ≢ [] → f ≢ [] → ⊥) → AreFaultyToEncode PieKind others Shape

@@ -1,7 +1,8 @@
 -- For each request a line is written.
 use Rattle.std.proofs.Common.{◌≡◌, ◌⊎◌, ◌≤◌, ◌*◌, ℕ, ◌/◌, ◌^◌, Bool, true, false, List, length, refl, inl, inr}
-use Rattle.std.specs.Prelude.{nat_le, ◌==◌}
+use Rattle.std.specs.Prelude.{Decides, nat_le, ◌==◌}
 use Rattle.std.proofs.lemmas.Bool.{eqb-true, eq-eqb, leb-true, le-leb}
+use Rattle.std.proofs.lemmas.Bool.Decides.{not_from_Decides}
 use Rattle.pie_line.specs.Link.{IsTari, IsRtCal, IsTrCal, IsPw}
 use Rattle.pie_line.specs.declared.frame.Lead.{Lead}
 use Rattle.pie_line.specs.declared.link.LinkRefusal.TheVariants.{Tari, RtCal, TrCal, Pw}
@@ -30,34 +31,23 @@ all_three (inl p) (inl q) (inr none) = inr (λ has. none has.2)
 all_three (inl p) (inr none) r = inr (λ has. none has.1)
 all_three (inr none) q r = inr (λ has. none has.0)
 
-by_le : (a b : ℕ) (test : Bool) → nat_le a b ≡ test → OrNot (a ≤ b)
-by_le a b true e = inl (leb-true a b e)
-by_le a b false e = inr (λ le. let yes = le-leb a b le in absurd cc)
+or_not : {P : Type 0} (test : Bool) → Decides test P → OrNot P
+or_not true tells = inl (tells.0 refl)
+or_not false tells = inr (not_from_Decides false tells refl)
 
 le_or_not : (a b : ℕ) → OrNot (a ≤ b)
-le_or_not a b = by_le a b (nat_le a b) refl
-
-by_eq : (a b : ℕ) (test : Bool) → (a == b) ≡ test → OrNot (a ≡ b)
-by_eq a b true e = inl (eqb-true a b e)
-by_eq a b false e = inr (λ same. let yes = eq-eqb a b same in absurd cc)
-
-eq_or_not : (a b : ℕ) → OrNot (a ≡ b)
-eq_or_not a b = by_eq a b (a == b) refl
-
-by_suits : (expect : Expect) (reply : Reply) (test : Bool) → suits reply expect ≡ test → OrNot (Suits reply expect)
-by_suits expect reply true e = inl (suits-true reply expect e)
-by_suits expect reply false e = inr (λ suit. let yes = suits-from reply expect suit in absurd cc)
+le_or_not a b = or_not (nat_le a b) (leb-true a b, le-leb a b)
 
 sent_or_not : (reply : Reply) → OrNot (CanBeSent reply)
 sent_or_not (Rn16 rn) = inl tt
-sent_or_not (Epc pc epc) = eq_or_not (length epc) (pc / 2 ^ 11)
+sent_or_not (Epc pc epc) = or_not (length epc == pc / 2 ^ 11) (eqb-true (length epc) (pc / 2 ^ 11), eq-eqb (length epc) (pc / 2 ^ 11))
 sent_or_not (Handle rn) = inl tt
 sent_or_not (Words words) = le_or_not 1 (length words)
 sent_or_not Header = inl tt
 sent_or_not (Error code) = inl tt
 
 allowed_or_not : (expect : Expect) (reply : Reply) → OrNot (IsAllowedReply expect reply)
-allowed_or_not expect reply = both (by_suits expect reply (suits reply expect) refl) (sent_or_not reply)
+allowed_or_not expect reply = both (or_not (suits reply expect) (suits-true reply expect, suits-from reply expect)) (sent_or_not reply)
 
 some_of_reply : (expect : Expect) (reply : Reply) (written : List (List ℕ)) → OrNot (IsAllowedReply expect reply) → (fields : List (List ℕ)) × AreOfReply expect reply written fields
 some_of_reply expect reply written (inl allowed) = (_, inl (allowed, refl))

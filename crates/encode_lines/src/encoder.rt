@@ -35,7 +35,6 @@ const MOST_INTERVALS: u32 = 7 + 2 * MOST_FRAME_BITS;
 
 /// Room for the bits, levels and intervals of the longest line, taken once for all lines, and the texts of intervals that were
 /// written.
-#[derive(Drop)]
 pub struct Encoder {
     bits: Bits,
     levels: Levels,
@@ -44,6 +43,18 @@ pub struct Encoder {
     ghost bits_room: { bits.capacity ≡ most_frame_bits },
     ghost levels_room: { levels.capacity ≡ longest_levels },
     ghost intervals_room: { intervals.capacity ≡ most_frame_intervals },
+}
+
+// Written out, so that a drop is one call in the proof of each function that owns an encoder, and not one for each part.
+impl Drop for Encoder {
+    fn drop(self) {
+        let Encoder {
+            bits: _,
+            levels: _,
+            intervals: _,
+            kept: _,
+        } = self;
+    }
 }
 
 impl Encoder {

@@ -1,13 +1,13 @@
 -- What the reply lacks, the line lacks, and so it does where a field in front of it spells nothing.
 use Rattle.std.proofs.lemmas.Result.{err_from_is_err_and}
-use Rattle.encode_lines.proofs.ReadFields.{heard_faulty, heard_unnamed, weaker_front}
+use Rattle.encode_lines.proofs.ReadFields.{heard_faulty, heard_unnamed}
 use Rattle.encode_lines.proofs.request.heard_of.Goals as goal
 
 pub returns-in_err-reply-clause-refused : goal.returns-in_err-reply-clause-refused
 returns-in_err-reply-clause-refused c =
     let p = err_from_is_err_and c.from_residual.result c.from_residual.ensures.1 in
-    rw (p.1, p.2) (heard_faulty c.args.others c.in-Some.code.now c.in-Some.trext.now c.in-Some.expect.now _ _ c.in-Some.ensures.value
-    (weaker_front _ _ c.are_filled.ensures.0 c.are_filled.ensures.1 _ _ c.in_err-reply.ensures.refused))
+    rw (p.1, p.2, c.in-Some.ensures.value)
+    (heard_faulty c.in-Some.code.now c.in-Some.trext.now c.in-Some.expect.now _ c.are_filled.result _ c.are_filled.ensures c.in_err-reply.ensures.refused)
 
 pub returns-in_default-heard_as-clause-refused : goal.returns-in_default-heard_as-clause-refused
 returns-in_default-heard_as-clause-refused c =
