@@ -172,25 +172,7 @@ begun tag =
       stands = (tables, stands_wordless WithLiberties tag [] _ (stands_first WithLiberties tag []));
     }
 
--- ... where the verdict and the line are told
-pub heard_so : (tag : LoggedTag) (log : List LogEntry) (verdict : Verdict) (known : Known) (line : ℕ) (heard : Option Command) (seen : Option Seen) (shown_then : Shown) (behind : Known) (new_verdict : Verdict) (new_line : ℕ)
-    → IsLegalEntry (Exchange heard seen) → new_line ≡ line + 2 → new_verdict ≡ verdict_noted verdict shown_then new_line → HasHeard tag log (record { verdict = verdict; known = known; line = line })
-    → Shows known heard seen shown_then behind → HasHeard tag (log ++ Exchange heard seen ∷ []) (record { verdict = new_verdict; known = behind; line = new_line })
-heard_so tag log verdict known line heard seen shown_then behind new_verdict new_line legal line_is verdict_is has shows =
-    subst (λ (v : Verdict). HasHeard tag (log ++ Exchange heard seen ∷ []) (record { verdict = v; known = behind; line = new_line })) (sym verdict_is)
-    (subst (λ (n : ℕ). HasHeard tag (log ++ Exchange heard seen ∷ []) (record { verdict = verdict_noted verdict shown_then n; known = behind; line = n })) (sym line_is)
-    (heard_on tag log verdict known line heard seen shown_then behind legal has shows))
-
-pub befallen_so : (tag : LoggedTag) (log : List LogEntry) (verdict : Verdict) (known : Known) (line : ℕ) (event : Event) (behind : Known) (new_verdict : Verdict) (new_line : ℕ)
-    → new_line ≡ line + 1 → new_verdict ≡ verdict → HasHeard tag log (record { verdict = verdict; known = known; line = line }) → Goes ByTables known (Befalls event) behind
-    → HasHeard tag (log ++ Befalls event ∷ []) (record { verdict = new_verdict; known = behind; line = new_line })
-befallen_so tag log verdict known line event behind new_verdict new_line line_is verdict_is has goes =
-    subst (λ (v : Verdict). HasHeard tag (log ++ Befalls event ∷ []) (record { verdict = v; known = behind; line = new_line })) (sym verdict_is)
-    (subst (λ (n : ℕ). HasHeard tag (log ++ Befalls event ∷ []) (record { verdict = verdict; known = behind; line = n })) (sym line_is)
-    (befallen_on tag log verdict known line event behind has goes))
-
-pub begun_so : (tag : LoggedTag) (verdict : Verdict) (known : Known) (line : ℕ) → verdict ≡ Yes → known ≡ known_of (tag_with tag []) None → line ≡ 2 → HasHeard tag [] (record { verdict = verdict; known = known; line = line })
-begun_so tag verdict known line verdict_is known_is line_is =
-    subst (λ (v : Verdict). HasHeard tag [] (record { verdict = v; known = known; line = line })) (sym verdict_is)
-    (subst (λ (k : Known). HasHeard tag [] (record { verdict = Yes; known = k; line = line })) (sym known_is)
-    (subst (λ (n : ℕ). HasHeard tag [] (record { verdict = Yes; known = known_of (tag_with tag []) None; line = n })) (sym line_is) (begun tag)))
+-- ... where the verdict, what is known and the line are told
+pub heard_so : (tag : LoggedTag) (log : List LogEntry) (verdict new_verdict : Verdict) (known new_known : Known) (line new_line : ℕ) → new_verdict ≡ verdict → new_known ≡ known → new_line ≡ line
+    → HasHeard tag log (record { verdict = verdict; known = known; line = line }) → HasHeard tag log (record { verdict = new_verdict; known = new_known; line = new_line })
+heard_so tag log verdict new_verdict known new_known line new_line verdict_is known_is line_is has = rw (verdict_is, known_is, line_is) has

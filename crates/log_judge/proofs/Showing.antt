@@ -174,6 +174,13 @@ no_slots : (state : StateValue) → slots_behind draws.Nothing state None ≡ No
 no_slots (ArbitrateState session q slot) = refl
 no_slots state = refl
 
+pub event_keeps_words : (event : Event) (state : StateValue) (body : BodyValue) → (tag_after_event event state body).body.words ≡ body.words
+event_keeps_words events.Timeout ReadyState body = refl
+event_keeps_words events.Off ReadyState body = refl
+event_keeps_words events.On ReadyState body = refl
+event_keeps_words (events.Expire flag) ReadyState body = refl
+event_keeps_words event state body = refl
+
 abbrev pub befallen_to : Event → TagValue → Option ℕ → Option ℕ
 befallen_to event tag most = slots_behind draws.Nothing (tag_after_event event tag.state tag.body).state most
 

@@ -1,8 +1,8 @@
-use Rattle.std.proofs.Common.{◌+◌, ◌∙◌, None, ap, subst, sym}
+use Rattle.std.proofs.Common.{◌+◌, ◌∙◌, None, ap, refl, subst, sym}
 use Rattle.log_judge.specs.declared.judge.Findings.{Findings}
 use Rattle.log_judge.specs.Answers.{seen_in, verdict_in}
 use Rattle.log_judge.specs.Judging.{HasHeard, JudgeValue, verdict_noted}
-use Rattle.log_judge.proofs.Judged.{heard_so}
+use Rattle.log_judge.proofs.Judged.{heard_on, heard_so}
 use Rattle.log_judge.proofs.judge.Judge.hear_no_command.Goals as goal
 
 pub returns-clause-heard : goal.returns-clause-heard
@@ -10,7 +10,9 @@ returns-clause-heard c =
     let old = c.self.inside.findings.value in
     let shown = c.hear_no_command-shown.result in
     let line = c.note.ensures.line ∙ ap (λ (f : Findings). f.line + 2) c.deref_mut.ensures.value in
-    let verdict = c.note.ensures.verdict ∙ ap (λ (f : Findings). verdict_noted (verdict_in f.verdict) shown c.note.new.self.line) c.deref_mut.ensures.value in
+    let verdict = c.note.ensures.verdict ∙ ap (λ (f : Findings). verdict_noted (verdict_in f.verdict) shown c.note.new.self.line) c.deref_mut.ensures.value
+    ∙ ap (verdict_noted (verdict_in old.verdict) shown) line in
     λ tag log has.
-    heard_so tag log (verdict_in old.verdict) c.self.inside.known old.line None (seen_in c.args.seen.now) shown c.self.inside.known (verdict_in c.note.new.self.verdict) c.note.new.self.line
-    (record { heard_is = tt; seen_is = c.number.ensures.small }) line verdict (subst (λ (j : JudgeValue). HasHeard tag log j) (sym c.self.view_is) has) c.hear_no_command-shown.ensures
+    heard_so tag _ (verdict_noted (verdict_in old.verdict) shown (old.line + 2)) _ c.self.inside.known _ (old.line + 2) _ verdict refl line
+    (heard_on tag log (verdict_in old.verdict) c.self.inside.known old.line None (seen_in c.args.seen.now) shown c.self.inside.known
+    (record { heard_is = tt; seen_is = c.number.ensures.small }) (subst (λ (j : JudgeValue). HasHeard tag log j) (sym c.self.view_is) has) c.hear_no_command-shown.ensures)

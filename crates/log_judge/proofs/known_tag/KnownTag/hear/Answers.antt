@@ -1,7 +1,7 @@
-use Rattle.std.proofs.Common.{◌≡◌, ℕ, ◌∷◌, List, [], true, false, is_some, Option, Some, None, sym, ◌∙◌, ap, rules, subst}
+use Rattle.std.proofs.Common.{◌≡◌, ℕ, ◌∷◌, List, [], length, true, false, is_some, Option, Some, None, sym, ◌∙◌, ap, rules, subst}
 use Rattle.tag_machine.specs.Hearing.{tag_value_of}
 use Rattle.tag_machine.specs.StateNumbers.{numbers_of}
-use Rattle.tag_machine.specs.TagValue.{TagValue}
+use Rattle.tag_machine.specs.TagValue.{StateValue, TagValue}
 use Rattle.log_verdicts.specs.Log.{Exchange, Seen}
 use Rattle.log_verdicts.specs.Explaining.{ByTables}
 use Rattle.log_verdicts.specs.laws.Kinds.{reworded}
@@ -10,7 +10,7 @@ use Rattle.log_judge.specs.declared.draws.Draws.{Draws}
 use Rattle.log_judge.specs.Answers.{seen_in}
 use Rattle.log_judge.specs.Drawing.{draws_at, fallen, first_word, words_given}
 use Rattle.log_judge.specs.Optional.{answers_now}
-use Rattle.log_judge.specs.KnownTag.{Goes, IsExcusedHere, known_of}
+use Rattle.log_judge.specs.KnownTag.{Goes, HasFirstSlot, IsExcusedHere, known_of}
 use Rattle.log_judge.proofs.Asked.{lacks, lacks_want}
 use Rattle.log_judge.proofs.Moving.{falls}
 use Rattle.log_judge.proofs.Tests.{nothing_seen}
@@ -25,6 +25,11 @@ returns-in-Some g c =
     let to = sym (c.fallen.ensures ∙ ap (λ (d : Draws). fallen d (is_some seen) (numbers_of tag.state) most) c.draws_at.ensures) ∙ c.in-Some.is in
     subst (λ (k : Known). Goes ByTables k (Exchange (Some command) seen) (known_of tag (Some c.in-Some.most))) c.self.view_is
     (falls command tag most seen c.in-Some.most c.self.invariant.1 to).goes
+
+pub invariant_of-result-then-answers_optional : goal.invariant_of-result-then-answers_optional
+invariant_of-result-then-answers_optional g c =
+    let given = c.ask-tag.ensures.tag ∙ c.give_words.ensures in
+    (ap (λ (t : TagValue). length t.body.words) given, subst (λ (s : StateValue). HasFirstSlot c.self.inside.most s) (sym (ap (λ (t : TagValue). t.state) given)) c.self.invariant.1)
 
 pub returns-then-answers_optional : goal.returns-then-answers_optional
 returns-then-answers_optional g c =
