@@ -28,8 +28,9 @@ use Rattle.epc_sgtin.specs.declared.encoding.EpcFault.{EpcFault}
 use Rattle.epc_sgtin.specs.declared.tag_uri.UriFault.{UriFault}
 use Rattle.epc_sgtin.proofs.EpcAnswers.{one_words, one_sgtin, apart, one_fault as one_epc_fault}
 use Rattle.epc_sgtin.proofs.UriAnswers.{one_sgtin as uri_one_sgtin, apart as uri_apart, one_fault as one_uri_fault}
+use Rattle.checked_lines.specs.laws.OneLine.{HaveOneAnswer}
 use Rattle.decode_lines.specs.Request.{IsWithinDecodeLimits}
-use Rattle.decode_lines.specs.Answer.{Answer, IsLineAnswer, StreamAnswer, SamplesAnswer, ReplyAnswer, HeardAnswer, PieAnswer, CommandAnswer, SgtinAnswer, UriAnswer}
+use Rattle.decode_lines.specs.Answer.{Answer, IsLineAnswer, decode_rules, StreamAnswer, SamplesAnswer, ReplyAnswer, HeardAnswer, PieAnswer, CommandAnswer, SgtinAnswer, UriAnswer}
 use Rattle.decode_lines.specs.declared.request.Request.{Request}
 use Rattle.decode_lines.specs.declared.request.Request.TheVariants.{Stream, Samples, Reply as ReplyLine, Heard, Pie, Command as CommandLine, Sgtin as SgtinLine, Uri as UriLine}
 
@@ -104,7 +105,7 @@ same_worded text one (UriAnswer other) left right =
 same_worded text one other left right = absurd right
 
 -- a request within its limits has one answer: samples need a level that has samples
-pub same_answer : (request : Request) (one other : Answer) → IsWithinDecodeLimits request → IsLineAnswer request one → IsLineAnswer request other → one ≡ other
+same_answer : (request : Request) (one other : Answer) → IsWithinDecodeLimits request → IsLineAnswer request one → IsLineAnswer request other → one ≡ other
 same_answer (Stream code trext levels) (StreamAnswer one) other within left right = same_streamed code trext levels one other left right
 same_answer (Samples threshold per_level samples) (SamplesAnswer one) other within left right = same_sliced threshold per_level samples within.1 one other left right
 same_answer (ReplyLine expect bits) (ReplyAnswer one) other within left right = same_replied expect bits one other left right
@@ -114,3 +115,6 @@ same_answer (CommandLine bits) (CommandAnswer one) other within left right = sam
 same_answer (SgtinLine words) (SgtinAnswer one) other within left right = same_named words one other left right
 same_answer (UriLine text) (UriAnswer one) other within left right = same_worded text one other left right
 same_answer request one other within left right = absurd left
+
+pub one_answer : HaveOneAnswer decode_rules
+one_answer line request one other asks left right = same_answer request one other asks.asks.limits left right

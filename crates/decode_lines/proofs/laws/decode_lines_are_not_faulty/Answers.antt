@@ -1,6 +1,6 @@
 use Rattle.checked_lines.specs.laws.FirstFault.{asked_not_faulty}
 use Rattle.decode_lines.specs.Answer.{decode_rules}
-use Rattle.decode_lines.proofs.OneText.{tell_lines}
+use Rattle.decode_lines.proofs.OneReading.{tell_lines}
 use Rattle.decode_lines.proofs.laws.decode_lines_are_not_faulty.Goals as goal
 
 pub returns : goal.returns
