@@ -1,5 +1,4 @@
 pub mod OneReading
-pub mod OneLine
-pub mod SomeLine
-pub mod ReadFields
 pub mod Shapes
+pub mod OneLine
+pub mod ReadFields

@@ -1,4 +1,4 @@
-use Rattle.encode_lines.proofs.SomeLine.{some_line}
+use Rattle.encode_lines.proofs.OneLine.{some_line}
 use Rattle.encode_lines.proofs.laws.requests_have_a_line.Goals as goal
 
 pub returns : goal.returns
