@@ -1,17 +1,10 @@
 -- An exchange, put together from its steps.
 use Rattle.std.proofs.Common.{◌≡◌, ℕ, ◌+◌, ◌*◌, ◌≤◌, Bool, List, [], length, Some, refl, ap, ◌∙◌, subst, arith}
-use Rattle.std.specs.List.{All}
+use Rattle.air_channel.proofs.Names.{All, Outcome, IsSent, TagValue, outcomes_in, replies_in, Replied, replies_from, tags_after, IsQueryRep, busy_from, AnswersValue, AnswerValue, answers_of, given_in, wave_for, heard_levels, AirValue, air_after, next_exchange, AreSentAnswers}
 use Rattle.air_events.specs.declared.Entry.{Entry}
 use Rattle.air_events.specs.declared.Event.{Event}
 use Rattle.command_grammar.specs.declared.commands.Command.{Command}
-use Rattle.tag_machine.specs.Answers.{Outcome, IsSent}
-use Rattle.tag_machine.specs.TagValue.{TagValue}
-use Rattle.tag_machine.specs.TagsInExchange.{outcomes_in, replies_in, Replied, replies_from, tags_after, IsQueryRep, busy_from}
-use Rattle.tag_population.specs.Answers.{AnswersValue, AnswerValue, answers_of}
 use Rattle.tag_population.specs.Hearing.{tags_after_events, hearing_from}
-use Rattle.air_model.specs.Channel.{given_in, wave_for, heard_levels}
-use Rattle.air_channel.specs.Air.{AirValue, air_after, next_exchange}
-use Rattle.air_channel.specs.Giving.{AreSentAnswers}
 use Rattle.tag_population.proofs.TagsBefallen.{length-befallen, one_exchange}
 
 -- what is known of an exchange: the command that the tags heard is the one that was sent, after each event befell its tag

@@ -1,10 +1,9 @@
 -- What the channel gives of answers, by the answer at a place.
 use Rattle.std.proofs.Common.{◌≡◌, ℕ, ◌<◌, ◌≤◌, ◌||◌, List, [], ◌∷◌, length, Option, Some, None, refl, ap, ◌∙◌, subst, arith}
 use Rattle.std.specs.Prelude.{slice_get}
-use Rattle.std.specs.Option.{option_map}
-use Rattle.std.proofs.lemmas.List.{length-map}
 use Rattle.std.proofs.lemmas.List.Elements.{All-get_or}
 use Rattle.std.proofs.lemmas.Option.{slice_get-map, slice_get_within, get_or_from_slice_get}
+use Rattle.air_channel.proofs.Names.{option_map, length-map, IsSent, Replied, AnswerValue, answer_of, answer_value_of, Answer, whole_or_silence, first_broken, first_of_several, default_given, silence, broken, levels_of, AreSentAnswers, IsAnswer, answer_levels}
 use Rattle.air_events.specs.declared.Several.{Several}
 use Rattle.air_events.specs.declared.Several.TheVariants as severals
 use Rattle.line_code.specs.Stream.{stream_of}
@@ -12,13 +11,7 @@ use Rattle.line_codes.specs.Codes.{table_of}
 use Rattle.pie_line.specs.Link.{LinkValue}
 use Rattle.reply_grammar.specs.Replies.{longest_reply}
 use Rattle.reply_grammar.proofs.Suiting.{spelling-within}
-use Rattle.tag_machine.specs.Answers.{IsSent}
-use Rattle.tag_machine.specs.TagsInExchange.{Replied}
-use Rattle.tag_population.specs.Answers.{AnswerValue, answer_of, answer_value_of}
-use Rattle.tag_population.specs.declared.answers.Answer.{Answer}
-use Rattle.air_model.specs.Channel.{whole_or_silence, first_broken, first_of_several, default_given, silence, broken, levels_of}
 use Rattle.air_model.proofs.ReceptionLaws.{few_words}
-use Rattle.air_channel.specs.Giving.{AreSentAnswers, IsAnswer, answer_levels}
 
 -- an answer stands where a reply does
 reply_at : (items : List AnswerValue) (replies : List Replied) (at : ℕ) → AreSentAnswers items replies → slice_get items at ≡ option_map answer_of (slice_get replies at)

@@ -1,2 +1,3 @@
 pub mod GivenAnswers
 pub mod ExchangeFacts
+pub mod Names

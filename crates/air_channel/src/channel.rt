@@ -6,7 +6,7 @@ ghost use Rattle.reply_grammar.specs.Replies.{longest_reply};
 ghost use Rattle.tag_machine.specs.TagsInExchange.{Replied};
 ghost use Rattle.air_model.specs.Channel.{HasFewLevels, default_given, first_broken, given_of, got_of, heard_levels, whole_or_silence};
 ghost use Rattle.air_model.specs.declared.got.Got.TheVariants as Got;
-ghost use Rattle.air_channel.specs.Giving.{AreSentAnswers, answer_levels};
+ghost use Rattle.air_channel.specs.Giving.{AreSentAnswers, CanGive, KeepsRoom, answer_levels};
 ghost use Rattle.air_channel.specs.BufferSizes.{room_for_frames, room_for_streams};
 
 use air_model::Got;
@@ -27,16 +27,12 @@ pub(crate) fn give(
     stream: &mut Levels,
 ) -> Got
     requires few { HasFewLevels choice.now }
-    requires answers { (replies : List Replied) × AreSentAnswers answers.now.items replies }
-    requires bits_room { room_for_frames ≤ bits.old.capacity }
-    requires room { room_for_streams ≤ stream.old.capacity }
+    requires answers { CanGive answers.now.items bits.old stream.old }
     ensures stream { (replies : List Replied) → AreSentAnswers answers.now.items replies
         → stream.new.items ≡ heard_levels link.now (given_of link.now replies choice.now several) }
     ensures got { (replies : List Replied) → AreSentAnswers answers.now.items replies
         → result ≡ got_of link.now (given_of link.now replies choice.now several) }
-    ensures most { length stream.new.items ≤ longest_stream }
-    ensures capacity { stream.new.capacity ≡ stream.old.capacity }
-    ensures bits_capacity { bits.new.capacity ≡ bits.old.capacity }
+    ensures room { KeepsRoom bits.old bits.new stream.old stream.new }
 {
     match choice {
         Some(Choice::Pick(number)) => give_whole(link, answers, *number, bits, stream),
@@ -55,16 +51,12 @@ fn give_default(
     bits: &mut Bits,
     stream: &mut Levels,
 ) -> Got
-    requires answers { (replies : List Replied) × AreSentAnswers answers.now.items replies }
-    requires bits_room { room_for_frames ≤ bits.old.capacity }
-    requires room { room_for_streams ≤ stream.old.capacity }
+    requires answers { CanGive answers.now.items bits.old stream.old }
     ensures stream { (replies : List Replied) → AreSentAnswers answers.now.items replies
         → stream.new.items ≡ heard_levels link.now (default_given several replies) }
     ensures got { (replies : List Replied) → AreSentAnswers answers.now.items replies
         → result ≡ got_of link.now (default_given several replies) }
-    ensures most { length stream.new.items ≤ longest_stream }
-    ensures capacity { stream.new.capacity ≡ stream.old.capacity }
-    ensures bits_capacity { bits.new.capacity ≡ bits.old.capacity }
+    ensures room { KeepsRoom bits.old bits.new stream.old stream.new }
 {
     if answers.len() <= 1 {
         return give_whole(link, answers, 0, bits, stream);
@@ -77,16 +69,12 @@ fn give_default(
 
 /// Gives the answer at a place, counted from 0, whole, if there is one.
 fn give_whole(link: &Link, answers: &Answers, at: u32, bits: &mut Bits, stream: &mut Levels) -> Got
-    requires answers { (replies : List Replied) × AreSentAnswers answers.now.items replies }
-    requires bits_room { room_for_frames ≤ bits.old.capacity }
-    requires room { room_for_streams ≤ stream.old.capacity }
+    requires answers { CanGive answers.now.items bits.old stream.old }
     ensures stream { (replies : List Replied) → AreSentAnswers answers.now.items replies
         → stream.new.items ≡ heard_levels link.now (whole_or_silence (slice_get replies at)) }
     ensures got { (replies : List Replied) → AreSentAnswers answers.now.items replies
         → result ≡ got_of link.now (whole_or_silence (slice_get replies at)) }
-    ensures most { length stream.new.items ≤ longest_stream }
-    ensures capacity { stream.new.capacity ≡ stream.old.capacity }
-    ensures bits_capacity { bits.new.capacity ≡ bits.old.capacity }
+    ensures room { KeepsRoom bits.old bits.new stream.old stream.new }
 {
     let Some(answer) = answers.get(at) else {
         return give_nothing(stream);
@@ -103,16 +91,12 @@ fn give_broken(
     bits: &mut Bits,
     stream: &mut Levels,
 ) -> Got
-    requires answers { (replies : List Replied) × AreSentAnswers answers.now.items replies }
-    requires bits_room { room_for_frames ≤ bits.old.capacity }
-    requires room { room_for_streams ≤ stream.old.capacity }
+    requires answers { CanGive answers.now.items bits.old stream.old }
     ensures stream { (replies : List Replied) → AreSentAnswers answers.now.items replies
         → stream.new.items ≡ heard_levels link.now (first_broken replies number) }
     ensures got { (replies : List Replied) → AreSentAnswers answers.now.items replies
         → result ≡ got_of link.now (first_broken replies number) }
-    ensures most { length stream.new.items ≤ longest_stream }
-    ensures capacity { stream.new.capacity ≡ stream.old.capacity }
-    ensures bits_capacity { bits.new.capacity ≡ bits.old.capacity }
+    ensures room { KeepsRoom bits.old bits.new stream.old stream.new }
 {
     let Some(answer) = answers.get(0) else {
         return give_nothing(stream);

@@ -1,19 +1,13 @@
 use Rattle.std.proofs.Common.{◌≡◌, ◌%◌, ◌∙◌, Bool, List, Option, length, ap, sym, arith}
-use Rattle.std.specs.Option.{option_map}
-use Rattle.std.proofs.lemmas.List.{length-set}
-use Rattle.bit_strings.specs.BitString.{BitString}
+use Rattle.air_channel.proofs.Names.{option_map, length-set, BitString, answer_value_of, Answer, Given, heard_levels, answer_levels}
 use Rattle.line_code.specs.TableFacts.{with_level_flipped}
-use Rattle.tag_population.specs.Answers.{answer_value_of}
-use Rattle.tag_population.specs.declared.answers.Answer.{Answer}
-use Rattle.air_model.specs.Channel.{Given, heard_levels}
-use Rattle.air_channel.specs.Giving.{answer_levels}
 use Rattle.air_channel.proofs.GivenAnswers.{some_given, answer_short, levels_answered, first_given}
 use Rattle.air_channel.proofs.channel.give_broken.Goals as goal
 
 pub encode-requires-clause-short : goal.encode-requires-clause-short
 encode-requires-clause-short c =
     let some = ap (λ (o : Option Answer). option_map answer_value_of o) (sym c.in-Some.is) ∙ c.get.ensures in
-    let found = some_given c.args.answers.now.items c.requires.answers.0 0 c.in-Some.answer c.requires.answers.1 some in
+    let found = some_given c.args.answers.now.items c.requires.answers.0.0 0 c.in-Some.answer c.requires.answers.0.1 some in
     answer_short c.in-Some.answer found.0 found.2
 
 pub returns-clause-stream : goal.returns-clause-stream
@@ -27,5 +21,9 @@ returns-clause-stream c = λ replies are.
     ∙ ap (λ (levels : List Bool). with_level_flipped levels (c.args.number % length levels)) (written ∙ levels_answered link c.in-Some.answer found.0 found.2)
     ∙ ap (λ (given : Given). heard_levels link given) (sym (first_given replies c.args.number found.0 found.1))
 
-pub returns-clause-most : goal.returns-clause-most
-returns-clause-most c = omega (arith, ap (λ (o : BitString). length o.items) c.invert_level.ensures, length-set {A = Bool}, c.encode.ensures.most)
+pub returns-clause-room : goal.returns-clause-room
+returns-clause-room c = (
+  omega (arith, ap (λ (o : BitString). length o.items) c.invert_level.ensures, length-set {A = Bool}, c.encode.ensures.most),
+  ap (λ (o : BitString). o.capacity) c.invert_level.ensures ∙ ap (λ (o : BitString). o.capacity) c.encode.ensures.stream,
+  c.encode.ensures.bits_capacity,
+)

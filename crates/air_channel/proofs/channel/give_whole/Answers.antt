@@ -1,10 +1,5 @@
 use Rattle.std.proofs.Common.{◌∙◌, Option, ap, sym}
-use Rattle.std.specs.Option.{option_map}
-use Rattle.bit_strings.specs.BitString.{BitString}
-use Rattle.tag_machine.specs.TagsInExchange.{Replied}
-use Rattle.tag_population.specs.Answers.{AnswerValue, answer_value_of}
-use Rattle.tag_population.specs.declared.answers.Answer.{Answer}
-use Rattle.air_model.specs.Channel.{got_of, heard_levels, whole_or_silence}
+use Rattle.air_channel.proofs.Names.{option_map, BitString, Replied, AnswerValue, answer_value_of, Answer, got_of, heard_levels, whole_or_silence}
 use Rattle.air_model.specs.declared.got.Got.TheVariants as Got
 use Rattle.air_channel.proofs.GivenAnswers.{some_given, answer_short, levels_answered}
 use Rattle.air_channel.proofs.channel.give_whole.Goals as goal
@@ -12,7 +7,7 @@ use Rattle.air_channel.proofs.channel.give_whole.Goals as goal
 pub encode-requires-clause-short : goal.encode-requires-clause-short
 encode-requires-clause-short c =
     let some = ap (λ (o : Option Answer). option_map answer_value_of o) (sym c.in-Some.is) ∙ c.get.ensures in
-    let found = some_given c.args.answers.now.items c.requires.answers.0 c.args.at c.in-Some.answer c.requires.answers.1 some in
+    let found = some_given c.args.answers.now.items c.requires.answers.0.0 c.args.at c.in-Some.answer c.requires.answers.0.1 some in
     answer_short c.in-Some.answer found.0 found.2
 
 pub returns-clause-stream : goal.returns-clause-stream

@@ -1,5 +1,5 @@
 use Rattle.std.proofs.Common.{◌≤◌, List, length, ap, arith}
-use Rattle.tag_machine.specs.TagValue.{TagValue}
+use Rattle.air_channel.proofs.Names.{TagValue}
 use Rattle.tag_population.proofs.EventsOnTags.{length-tags_after_event}
 use Rattle.air_channel.proofs.air.Air.event_counted.Goals as goal
 

@@ -1,10 +1,6 @@
 use Rattle.std.proofs.Common.{◌<◌, ◌≤◌, length, ap, sym, subst, arith}
-use Rattle.std.specs.List.{All}
 use Rattle.std.specs.Prelude.{Some}
-use Rattle.tag_machine.specs.Answers.{IsSent}
-use Rattle.tag_machine.specs.TagsInExchange.{replies_in}
-use Rattle.tag_population.specs.Answers.{AnswersValue}
-use Rattle.air_channel.specs.Air.{AirValue}
+use Rattle.air_channel.proofs.Names.{All, IsSent, replies_in, AnswersValue, AirValue}
 use Rattle.air_channel.proofs.ExchangeFacts.{Exchanged, exchange_answers, exchange_air, exchange_steps, exchange_bound, as_many_befallen}
 use Rattle.air_channel.proofs.air.Air.exchange.Goals as goal
 
@@ -23,7 +19,7 @@ invariant_of-self g c =
     let many = as_many_befallen c.self.inside.population c.as_slice.result.now c.befall_all.new.self c.befall_all.ensures.tags in
     let before = c.self.invariant in
     let room : length c.hear-2.new.self ≤ c.hear-2.new.answers.tags = omega (arith, before.5, many, c.hear-2.ensures.count, ap (λ (a : AnswersValue). a.tags) c.hear-2.ensures.answers) in
-    (omega (arith, before.0, c.give.ensures.bits_capacity, c.hear.ensures.bits_capacity), omega (arith, before.1, c.hear.ensures.capacity), c.hear.ensures.short, omega (arith, before.3, c.give.ensures.capacity), c.give.ensures.most, room)
+    (omega (arith, before.0, c.give.ensures.room.2, c.hear.ensures.bits_capacity), omega (arith, before.1, c.hear.ensures.capacity), c.hear.ensures.short, omega (arith, before.3, c.give.ensures.room.1), c.give.ensures.room.0, room)
 
 pub returns-clause-air : goal.returns-clause-air
 returns-clause-air g c =

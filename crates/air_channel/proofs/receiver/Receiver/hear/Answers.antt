@@ -1,5 +1,5 @@
 use Rattle.std.proofs.Common.{Bool, List, ap, refl, subst}
-use Rattle.bit_strings.specs.BitString.{BitString}
+use Rattle.air_channel.proofs.Names.{BitString}
 use Rattle.command_grammar.specs.Commands.{spelling_of}
 use Rattle.command_grammar.specs.reading.Framing.{FramerStandsFor}
 use Rattle.air_channel.proofs.receiver.Receiver.hear.Goals as goal
