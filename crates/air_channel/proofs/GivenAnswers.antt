@@ -1,11 +1,9 @@
 -- What the channel gives of answers, by the answer at a place.
-use Rattle.std.proofs.Common.{◌≡◌, ℕ, ◌<◌, ◌≤◌, ◌||◌, List, [], ◌∷◌, length, Option, Some, None, refl, ap, ◌∙◌, subst, arith}
+use Rattle.std.proofs.Common.{◌≡◌, ℕ, ◌≤◌, ◌||◌, List, [], ◌∷◌, length, Option, Some, None, refl, ap, ◌∙◌, subst, arith}
 use Rattle.std.specs.Prelude.{slice_get}
 use Rattle.std.proofs.lemmas.List.Elements.{All-get_or}
 use Rattle.std.proofs.lemmas.Option.{slice_get-map, slice_get_within, get_or_from_slice_get}
-use Rattle.air_channel.proofs.Names.{option_map, length-map, IsSent, Replied, AnswerValue, answer_of, answer_value_of, Answer, whole_or_silence, first_broken, first_of_several, default_given, silence, broken, levels_of, AreSentAnswers, IsAnswer, answer_levels}
-use Rattle.air_events.specs.declared.Several.{Several}
-use Rattle.air_events.specs.declared.Several.TheVariants as severals
+use Rattle.air_channel.proofs.Names.{option_map, IsSent, Replied, AnswerValue, answer_of, answer_value_of, Answer, first_broken, broken, levels_of, AreSentAnswers, IsAnswer, answer_levels}
 use Rattle.line_code.specs.Stream.{stream_of}
 use Rattle.line_codes.specs.Codes.{table_of}
 use Rattle.pie_line.specs.Link.{LinkValue}
@@ -17,17 +15,9 @@ use Rattle.air_model.proofs.ReceptionLaws.{few_words}
 reply_at : (items : List AnswerValue) (replies : List Replied) (at : ℕ) → AreSentAnswers items replies → slice_get items at ≡ option_map answer_of (slice_get replies at)
 reply_at items replies at are = ap (λ (l : List AnswerValue). slice_get l at) are.same ∙ slice_get-map answer_of replies at
 
-no_reply : (picked : Option Replied) → None ≡ option_map answer_of picked → picked ≡ None
-no_reply None none = refl
-no_reply (Some replied) none = absurd (cc)
-
 some_reply : (picked : Option Replied) (value : AnswerValue) → Some value ≡ option_map answer_of picked → (replied : Replied) × (picked ≡ Some replied) × (value ≡ answer_of replied)
 some_reply None value some = absurd (cc)
 some_reply (Some replied) value some = (replied, refl, cc)
-
--- where there is no answer, no tag replied
-pub none_given : (items : List AnswerValue) (replies : List Replied) (at : ℕ) → AreSentAnswers items replies → None ≡ slice_get items at → slice_get replies at ≡ None
-none_given items replies at are none = no_reply (slice_get replies at) (none ∙ reply_at items replies at are)
 
 -- an answer is the reply that stands in its place
 pub some_given : (items : List AnswerValue) (replies : List Replied) (at : ℕ) (answer : Answer) → AreSentAnswers items replies → Some (answer_value_of answer) ≡ slice_get items at
@@ -50,27 +40,3 @@ levels_answered link answer replied is = ap (λ (v : AnswerValue). stream_of (ta
 pub first_given : (replies : List Replied) (place : ℕ) (replied : Replied) → slice_get replies 0 ≡ Some replied → first_broken replies place ≡ broken replied place
 first_given [] place replied first = absurd (cc)
 first_given (other ∷ others) place replied first = cc
-
-pub none_broken : (replies : List Replied) (place : ℕ) → slice_get replies 0 ≡ None → first_broken replies place ≡ silence
-none_broken [] place none = refl
-none_broken (replied ∷ replies) place none = absurd (cc)
-
--- what is given where nothing is chosen
-pub default_few : (several : Several) (replies : List Replied) → length replies ≤ 1 → default_given several replies ≡ whole_or_silence (slice_get replies 0)
-default_few several [] few = refl
-default_few several (replied ∷ []) few = refl
-default_few several (replied ∷ other ∷ others) few = absurd (omega (arith, few))
-
-pub default_broken : (several : Several) (replies : List Replied) → several ≡ severals.Break → 1 < length replies → default_given several replies ≡ first_broken replies 0
-default_broken several [] breaks some = absurd (omega (arith, some))
-default_broken several (replied ∷ []) breaks some = absurd (omega (arith, some))
-default_broken several (replied ∷ other ∷ others) breaks some = ap (λ (s : Several). first_of_several s replied) breaks
-
-pub default_captured : (several : Several) (replies : List Replied) → several ≡ severals.Capture → 1 < length replies → default_given several replies ≡ whole_or_silence (slice_get replies 0)
-default_captured several [] captures some = absurd (omega (arith, some))
-default_captured several (replied ∷ []) captures some = absurd (omega (arith, some))
-default_captured several (replied ∷ other ∷ others) captures some = ap (λ (s : Several). first_of_several s replied) captures
-
--- there are as many answers as replies
-pub as_many : (items : List AnswerValue) (replies : List Replied) → AreSentAnswers items replies → length items ≡ length replies
-as_many items replies are = ap (λ (l : List AnswerValue). length l) are.same ∙ length-map replies answer_of

@@ -1,9 +1,9 @@
 -- The names of definitions and lemmas that several proofs of this crate cite.
 pub use Rattle.air_channel.specs.Air.{AirValue, air_after, next_exchange}
 pub use Rattle.air_channel.specs.Giving.{AreSentAnswers, IsAnswer, answer_levels}
-pub use Rattle.air_model.specs.Channel.{Given, broken, default_given, first_broken, first_of_several, given_in, got_of, heard_levels, levels_of, silence, wave_for, whole_or_silence}
+pub use Rattle.air_model.specs.Channel.{Given, broken, first_broken, given_in, got_of, heard_levels, levels_of, wave_for, whole_or_silence}
 pub use Rattle.bit_strings.specs.BitString.{BitString}
-pub use Rattle.std.proofs.lemmas.List.{length-map, length-set}
+pub use Rattle.std.proofs.lemmas.List.{length-set}
 pub use Rattle.std.specs.List.{All}
 pub use Rattle.std.specs.Option.{option_map}
 pub use Rattle.tag_machine.specs.Answers.{IsSent, Outcome}
