@@ -1,8 +1,5 @@
 -- A text is cut behind its first line `end`, line by line.
-use Rattle.std.proofs.Common.{◌≡◌, ℕ, ◌+◌, ◌-◌, ◌≤◌, Bool, true, false, List, [], ◌∷◌, ◌++◌, length, if◌then◌else◌, codes, ap, arith, length-append}
-use Rattle.std.specs.Str.{bytes_eq}
-use Rattle.text_fields.specs.Lines.{line_feed, lines_of}
-use Rattle.text_fields.proofs.LineLaws.{some_line}
+use Rattle.air_audit.proofs.Names.{◌≡◌, ℕ, ◌+◌, ◌-◌, ◌≤◌, Bool, true, false, List, [], ◌∷◌, ◌++◌, length, if◌then◌else◌, codes, ap, arith, length-append, bytes_eq, some_line, line_feed, lines_of}
 use Rattle.air_audit.specs.TraceBehind.{count_to_end}
 
 -- the lines before the rest are of the scenario, and none is `end`

@@ -1,19 +1,8 @@
 -- Each standing that lines lead to can be completed to the end of a trace, so that a refused line is the first with which none
 -- goes on.
-use Rattle.std.proofs.Common.{◌≡◌, ◌+◌, ◌<◌, ◌≤◌, ℕ, zero, suc, List, [], ◌∷◌, ◌++◌, map, take, drop, Option, Some, None, slice_get, arith, ap, inl, inr, refl, ◌∙◌, subst}
-use Rattle.text_fields.specs.Lines.{lines_of}
-use Rattle.air_model.specs.Past.{Start, Item, exchanged, tags_behind}
-use Rattle.checked_lines.specs.TextRules.{Faulty, HasOutcomeFrom, Lead}
-use Rattle.report_lines.specs.ReportLine.{TagLine, DoneLine}
-use Rattle.report_lines.specs.ReadLines.{text_of}
-use Rattle.runs.specs.Listing.{Listed, listed_by}
-use Rattle.runs.specs.Report.{list_line, tag_lines}
-use Rattle.tag_machine.specs.TagValue.{TagValue}
-use Rattle.air_audit.specs.AuditedTrace.{trace_rules}
-use Rattle.air_audit.specs.FirstRefusal.{BeginTrace, IsFirstRefusal, IsFirstThatBeginsNone}
-use Rattle.air_audit.specs.Standing.{TraceStanding, begun, between, sending, listing, telling, ended, behind_exchange, link_line, rx_line, told_line, behind_told, next_tag, TellsNextTag, TraceGoesOn}
+use Rattle.air_audit.proofs.Names.{◌≡◌, ◌+◌, ◌≤◌, ℕ, zero, suc, List, [], ◌∷◌, ◌++◌, map, take, drop, Option, Some, None, slice_get, arith, ap, inl, inr, refl, ◌∙◌, subst, trace_rules, BeginTrace, IsFirstRefusal, IsFirstThatBeginsNone, TraceStanding, begun, between, sending, listing, telling, behind_exchange, link_line, rx_line, told_line, behind_told, next_tag, TellsNextTag, TraceGoesOn, AuditReason, Start, Item, exchanged, tags_behind, Faulty, HasOutcomeFrom, Lead, text_of, TagLine, DoneLine, Listed, listed_by, list_line, tag_lines, TagValue, lines_of}
 use Rattle.air_audit.specs.declared.trace_line_words.Word.TheVariants as words
-use Rattle.air_audit.specs.declared.verdict.AuditReason.{AuditReason}
+use Rattle.air_audit.specs.Standing.{ended}
 use Rattle.air_audit.proofs.OneStanding.{Laws}
 use Rattle.air_audit.proofs.OneVerdict.{unambiguous}
 use Rattle.air_audit.proofs.Words.{goes-as, rx-is-rx, told-goes}

@@ -1,26 +1,9 @@
 -- What an exchange makes of an auditor.
-use Rattle.std.proofs.Common.{◌≡◌, ℕ, ◌+◌, ◌<◌, List, ◌∷◌, length, Result, Ok, Err, refl, sym, ap, ◌∙◌, subst}
 use Rattle.std.specs.List.{All}
-use Rattle.std.specs.Prelude.{IfErr, IsErrAnd}
-use Rattle.air_events.specs.Cursor.{AreEntriesLeft}
-use Rattle.air_events.specs.Entries.{entry_at}
-use Rattle.air_events.specs.declared.Entry.{Entry}
-use Rattle.air_events.specs.declared.Event.{Event}
-use Rattle.air_events.specs.declared.Several.{Several}
-use Rattle.command_grammar.specs.declared.commands.Command.{Command}
-use Rattle.pie_line.specs.Link.{LinkValue}
-use Rattle.tag_machine.specs.Answers.{Outcome}
-use Rattle.tag_machine.specs.TagsInExchange.{AreLegalTags, outcomes_in, replies_from, tags_after}
-use Rattle.tag_machine.specs.TagValue.{TagValue}
-use Rattle.air_model.specs.Channel.{given_of, heard_levels}
-use Rattle.air_model.specs.Past.{Start, Item, exchanged, exchanges_in, next_entry, tags_behind}
-use Rattle.runs.proofs.Tags.{length-tags, tags-exchanged}
-use Rattle.tag_population.specs.Hearing.{tags_after_events}
-use Rattle.air_audit.specs.Auditing.{AreAsGiven, AuditorValue, IsHearing, KeepsUp}
-use Rattle.air_audit.specs.Standing.{Place, place_in, place_of_command, record_of}
+use Rattle.air_audit.proofs.Names.{◌≡◌, ℕ, ◌+◌, ◌<◌, List, ◌∷◌, length, Result, Ok, Err, refl, sym, ap, ◌∙◌, subst, IfErr, IsErrAnd, AreAsGiven, AuditorValue, IsHearing, KeepsUp, Place, place_in, place_of_command, record_of, AuditReason, AreEntriesLeft, Entry, Several, given_of, heard_levels, Start, Item, exchanged, exchanges_in, next_entry, tags_behind, Command, LinkValue, length-tags, tags-exchanged, Outcome, TagValue, AreLegalTags, outcomes_in, replies_from, tags_after, length-befallen, tags_after_events}
 use Rattle.air_audit.specs.declared.auditor.Position.TheVariants as positions
-use Rattle.tag_population.proofs.TagsBefallen.{length-befallen}
-use Rattle.air_audit.specs.declared.verdict.AuditReason.{AuditReason}
+use Rattle.air_events.specs.Entries.{entry_at}
+use Rattle.air_events.specs.declared.Event.{Event}
 
 -- the entry of the next exchange names tags that there are, and chooses few levels
 pub record NextEntry (start : Start) (past : List Item) (tags : List TagValue) (entry : Entry) : Type 0 where

@@ -1,7 +1,5 @@
 -- Parts that are looked for one after another: one alone is the first that fails, and none is where each holds.
-use Rattle.std.proofs.Common.{◌≡◌, inl, inr, List, [], ◌∷◌, sym, ◌∙◌}
-use Rattle.air_audit.specs.LineRefusals.{LinePart, FirstFails}
-use Rattle.air_audit.specs.declared.verdict.AuditReason.{AuditReason}
+use Rattle.air_audit.proofs.Names.{◌≡◌, inl, inr, List, [], ◌∷◌, sym, ◌∙◌, LinePart, FirstFails, AuditReason}
 
 pub one-first : (parts : List LinePart) (one other : AuditReason) → FirstFails parts one → FirstFails parts other → one ≡ other
 one-first [] one other a b = absurd a

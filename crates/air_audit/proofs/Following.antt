@@ -1,31 +1,10 @@
 -- How a trace goes on with a line, or why it doesn't, from what is known of the auditor.
-use Rattle.std.proofs.Common.{◌≡◌, ◌≢◌, ℕ, ◌+◌, ◌≤◌, Bool, List, [], ◌∷◌, ◌++◌, length, Option, Some, None, slice_get, Result, Ok, Err, codes, refl, sym, ap, ◌∙◌, subst, arith}
-use Rattle.std.specs.Prelude.{IfErr, IsOk}
-use Rattle.std.proofs.lemmas.List.{append_cancel_right}
-use Rattle.text_fields.specs.Lines.{line_feed}
-use Rattle.pie_line.specs.Link.{LinkValue}
-use Rattle.tag_machine.specs.Answers.{Sent, IsSent}
-use Rattle.tag_machine.specs.TagValue.{TagValue}
-use Rattle.air_model.specs.Channel.{Given, heard_levels}
-use Rattle.air_model.specs.Past.{Start, Record, Item, exchanged, exchanges_in, next_entry, tags_behind}
-use Rattle.air_model.specs.Reception.{IsGiven}
-use Rattle.air_model.proofs.ReceptionLaws.{heard_most}
-use Rattle.report_lines.specs.ReadLines.{first_field, most_rx_levels, text_of}
-use Rattle.report_lines.specs.ReportLine.{ReportLine, ListLine, RxLine, report_line_text}
-use Rattle.runs.proofs.Answering.{TagLaws, given-of-answers}
-use Rattle.runs.specs.Listing.{Listed, listed_by}
-use Rattle.air_audit.specs.Auditing.{AuditorValue, GoesOnOrStops, GoesOnWith, AuditorIsAt, IsHearing, KeepsUp, SendsTo, AuditorStandsAt, AuditStopsAt, TellsLine, TellsOther, position_behind}
-use Rattle.air_audit.specs.TraceLineWords.{word_of_line, word_of}
-use Rattle.air_audit.specs.LineRefusals.{DiffersFirst, IsNoTxLine, IsOther, IsRefusedAs, IsRefusedHere}
-use Rattle.air_audit.specs.Standing.{GoesOnAs, TraceStanding, begun, between, sending, telling, TellsNextTag, behind_exchange, behind_told, link_line, next_tag, record_of, rx_line, told_line}
-use Rattle.air_audit.specs.declared.auditor.Position.{Position}
+use Rattle.air_audit.proofs.Names.{◌≡◌, ◌≢◌, ℕ, ◌+◌, ◌≤◌, Bool, List, [], ◌∷◌, ◌++◌, length, Option, Some, None, slice_get, Result, Ok, Err, codes, refl, sym, ap, ◌∙◌, subst, arith, IfErr, IsOk, AuditorValue, GoesOnOrStops, GoesOnWith, AuditorIsAt, IsHearing, KeepsUp, SendsTo, AuditorStandsAt, AuditStopsAt, TellsLine, TellsOther, position_behind, DiffersFirst, IsNoTxLine, IsOther, IsRefusedAs, IsRefusedHere, GoesOnAs, TraceStanding, begun, between, sending, telling, TellsNextTag, behind_exchange, behind_told, link_line, next_tag, record_of, rx_line, told_line, word_of_line, word_of, Stop, Word, AuditReason, heard_most, Given, heard_levels, Start, Record, Item, exchanged, exchanges_in, next_entry, tags_behind, IsGiven, LinkValue, first_field, most_rx_levels, text_of, ReportLine, ListLine, RxLine, report_line_text, TagLaws, given-of-answers, Listed, listed_by, append_cancel_right, Sent, IsSent, TagValue, line_feed}
 use Rattle.air_audit.specs.declared.auditor.Position.TheVariants as positions
-use Rattle.air_audit.specs.declared.trace_line_words.Word.{Word}
 use Rattle.air_audit.specs.declared.trace_line_words.Word.TheVariants as words
-use Rattle.air_audit.specs.declared.stop.Stop.{Stop}
-use Rattle.air_audit.specs.declared.stop.Stop.TheVariants as stops
-use Rattle.air_audit.specs.declared.verdict.AuditReason.{AuditReason}
 use Rattle.air_audit.specs.declared.verdict.AuditReason.TheVariants as reasons
+use Rattle.air_audit.specs.declared.auditor.Position.{Position}
+use Rattle.air_audit.specs.declared.stop.Stop.TheVariants as stops
 use Rattle.air_audit.proofs.Received.{made-length}
 use Rattle.air_audit.proofs.RxLines.{IsReadable, rx-differs}
 use Rattle.air_audit.proofs.Words.{goes-as}

@@ -18,3 +18,4 @@ pub mod SentFrames
 pub mod Walks
 pub mod ReceivedLists
 pub mod SomeVerdict
+pub mod Names

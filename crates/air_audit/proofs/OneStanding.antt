@@ -1,20 +1,6 @@
 -- A line that follows leads to one standing: a tx line sends one command.
-use Rattle.std.proofs.Common.{◌≡◌, ◌+◌, ◌≤◌, ℕ, Bool, List, [], ◌∷◌, map, get_or, codes, arith, ap, refl, sym, ◌∙◌, subst}
 use Rattle.std.specs.Prelude.{All}
-use Rattle.std.specs.Fmt.{decimal}
-use Rattle.text_fields.specs.Binary.{binary}
-use Rattle.std.proofs.lemmas.List.Elements.{All-head, All-tail}
-use Rattle.text_fields.proofs.ToldApart.{binary_told, decimal_told}
-use Rattle.command_grammar.specs.Commands.{SpellsCommand}
-use Rattle.command_grammar.specs.declared.commands.Command.{Command}
-use Rattle.pie_line.specs.Pie.{IsFrame, longest_interval}
-use Rattle.pie_line.specs.declared.frame.FrameKind.{FrameKind}
-use Rattle.air_model.specs.Past.{Start, exchanges_in}
-use Rattle.report_lines.specs.ReadLines.{TxFields, RxFields}
-use Rattle.air_audit.specs.TraceLineWords.{word_of_line, word_of}
-use Rattle.air_audit.specs.Standing.{GoesOnAs, TraceStanding, begun, between, sending, listing, telling, record_of}
-use Rattle.air_audit.specs.TraceLines.{AreFrameOf, Sends}
-use Rattle.air_audit.specs.declared.trace_line_words.Word.{Word}
+use Rattle.air_audit.proofs.Names.{◌≡◌, ◌+◌, ◌≤◌, ℕ, Bool, List, [], ◌∷◌, map, get_or, codes, arith, ap, refl, sym, ◌∙◌, subst, GoesOnAs, TraceStanding, begun, between, sending, listing, telling, record_of, word_of_line, word_of, AreFrameOf, Sends, Word, Start, exchanges_in, SpellsCommand, Command, IsFrame, longest_interval, FrameKind, TxFields, RxFields, All-head, All-tail, decimal, binary_told, decimal_told, binary}
 use Rattle.air_audit.specs.declared.trace_line_words.Word.TheVariants as words
 
 -- the laws of frames and of commands that this goes by

@@ -1,24 +1,7 @@
 -- A line follows or is refused, and is refused for one first reason: so at most one verdict on a trace is right.
-use Rattle.std.proofs.Common.{◌≡◌, ◌+◌, ◌≤◌, ℕ, List, ◌∷◌, length, map, codes, arith, ap, ap₂, refl, sym, ◌∙◌}
-use Rattle.std.specs.Fmt.{decimal}
-use Rattle.std.proofs.lemmas.List.{length-map}
-use Rattle.text_fields.specs.Lines.{fields_of}
-use Rattle.checked_lines.specs.laws.OneOutcome.{AreUnambiguous, one_fault, text_not_faulty}
-use Rattle.command_grammar.specs.declared.commands.Command.{Command}
-use Rattle.air_model.specs.Channel.{heard_levels}
-use Rattle.air_model.specs.Past.{Start, exchanges_in}
-use Rattle.report_lines.specs.ReadLines.{HasTxShape, TxFields}
-use Rattle.air_audit.specs.AuditedTrace.{trace_rules}
-use Rattle.air_audit.specs.FirstRefusal.{IsAuditVerdict}
-use Rattle.air_audit.specs.TraceLineWords.{word_of_line}
-use Rattle.air_audit.specs.LineRefusals.{IsNoTxLine, IsRefusedAs, tx_parts, rx_parts}
-use Rattle.air_audit.specs.Standing.{GoesOnAs, TraceStanding, begun, between, sending, listing, telling, ended}
-use Rattle.air_audit.specs.TraceLines.{Sends}
-use Rattle.air_audit.specs.declared.trace_line_words.Word.{Word}
+use Rattle.air_audit.proofs.Names.{◌≡◌, ◌+◌, ◌≤◌, ℕ, List, ◌∷◌, length, map, codes, arith, ap, ap₂, refl, sym, ◌∙◌, trace_rules, IsAuditVerdict, IsNoTxLine, IsRefusedAs, tx_parts, rx_parts, GoesOnAs, TraceStanding, begun, between, sending, listing, telling, word_of_line, Sends, Word, AuditReason, Verdict, Yes, No, heard_levels, Start, exchanges_in, AreUnambiguous, one_fault, text_not_faulty, Command, HasTxShape, TxFields, length-map, decimal, fields_of}
 use Rattle.air_audit.specs.declared.trace_line_words.Word.TheVariants as words
-use Rattle.air_audit.specs.declared.verdict.AuditReason.{AuditReason}
-use Rattle.air_audit.specs.declared.verdict.Verdict.{Verdict}
-use Rattle.air_audit.specs.declared.verdict.Verdict.TheVariants.{Yes, No}
+use Rattle.air_audit.specs.Standing.{ended}
 use Rattle.air_audit.proofs.FirstPart.{none-fails, one-first}
 use Rattle.air_audit.proofs.OneStanding.{Laws, goes-one}
 

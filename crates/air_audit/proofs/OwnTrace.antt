@@ -1,42 +1,14 @@
 -- The trace of a run without events is audited: its lines follow one another, and lead to the end.
-use Rattle.std.proofs.Common.{◌≡◌, ◌+◌, ◌*◌, ◌^◌, ◌<◌, ◌≤◌, ℕ, false, filter, List, [], ◌∷◌, ◌++◌, length, map, slice_get, arith, ap, ap₂, refl, sym, ◌∙◌, subst, append_assoc}
-use Rattle.std.specs.List.{AllByRecursion}
-use Rattle.std.proofs.lemmas.List.{map-append}
-use Rattle.std.proofs.lemmas.List.Elements.{filter-append}
-use Rattle.air_events.specs.declared.Entry.{Entry}
-use Rattle.air_model.specs.Channel.{wave_for}
-use Rattle.air_model.specs.Past.{Start, Record, Item, befell, exchanged, operated, ended as round_ended, exchanges_in, next_entry, next_record, tag_behind, tags_behind, tags_behind_from}
-use Rattle.command_grammar.specs.Commands.{IsLegalCommand}
-use Rattle.command_grammar.specs.declared.commands.Command.{Command}
+use Rattle.air_audit.proofs.Names.{◌≡◌, ◌+◌, ◌*◌, ◌^◌, ◌<◌, ◌≤◌, ℕ, false, filter, List, [], ◌∷◌, ◌++◌, length, map, slice_get, arith, ap, ap₂, refl, sym, ◌∙◌, subst, append_assoc, IsAudited, trace_rules, HasNoEventStep, Place, TraceStanding, begun, between, sending, behind_exchange, place_in, place_of_command, record_of, rx_line, word_of_line, Sends, Entry, wave_for, Start, Record, Item, befell, exchanged, operated, round_ended, exchanges_in, next_entry, next_record, tag_behind, tags_behind, tags_behind_from, HasOutcomeFrom, Lead, Whole, outcome_behind, IsLegalCommand, Command, LinkValue, IsLegalLink, Reception, whole_reply, keeps, text_of, ReportLine, MissedLine, GivenLine, TxLine, OpLine, RoundLine, SeenLine, DoneLine, Trace, AreLegalSteps, IsRecordOf, Listed, listed_by, listed_from, listing_of, reception_of_ack, GrowsByNext, exchange_lines, item_lines, last_lines, list_line, past_lines, report_of, report_text_of, run_lines, seen_lines, tag_lines, wave_lines, history, start_of, Step, map-append, filter-append, AllByRecursion, TagValue, outcome_in}
 use Rattle.command_grammar.specs.declared.commands.Command.TheVariants as commands
-use Rattle.pie_line.specs.Link.{LinkValue, IsLegalLink}
-use Rattle.reply_grammar.specs.Reception.{Reception, whole_reply}
 use Rattle.reply_grammar.specs.declared.expected.Reply.TheVariants as replies
-use Rattle.report_lines.specs.ModeLines.{keeps}
-use Rattle.report_lines.specs.ReportLine.{ReportLine, MissedLine, GivenLine, TxLine, OpLine, RoundLine, SeenLine, DoneLine}
+use Rattle.air_audit.specs.declared.trace_line_words.Word.TheVariants as words
+use Rattle.air_audit.specs.Standing.{ended}
 use Rattle.report_lines.specs.SeenCounts.{SeenCount}
-use Rattle.report_lines.specs.declared.mode.Mode.TheVariants.{Trace}
-use Rattle.runs.specs.Headline.{AreLegalSteps, IsRecordOf}
 use Rattle.runs.specs.History.{history_of}
-use Rattle.runs.specs.Listing.{Listed, listed_by, listed_from, listing_of, reception_of_ack}
-use Rattle.runs.specs.NextItem.{GrowsByNext}
-use Rattle.runs.specs.Report.{exchange_lines, item_lines, last_lines, list_line, past_lines, report_of, report_text_of, run_lines, seen_lines, tag_lines, wave_lines}
 use Rattle.runs.specs.Said.{answer_line, exchanged_by, said_lines}
-use Rattle.runs.specs.ScenarioStart.{history, start_of}
 use Rattle.scenario.specs.Limits.{IsScenario}
 use Rattle.scenario.specs.declared.values.Scenario.{Scenario}
-use Rattle.scenario.specs.declared.values.Step.{Step}
-use Rattle.tag_machine.specs.TagsInExchange.{outcome_in}
-use Rattle.tag_machine.specs.TagValue.{TagValue}
-use Rattle.report_lines.specs.ReadLines.{text_of}
-use Rattle.checked_lines.specs.TextRules.{HasOutcomeFrom, Lead, Whole}
-use Rattle.checked_lines.specs.laws.ReadingOn.{outcome_behind}
-use Rattle.air_audit.specs.AuditedTrace.{IsAudited, trace_rules}
-use Rattle.air_audit.specs.TraceLineWords.{word_of_line}
-use Rattle.air_audit.specs.OwnTraces.{HasNoEventStep}
-use Rattle.air_audit.specs.Standing.{Place, TraceStanding, begun, between, sending, ended, behind_exchange, place_in, place_of_command, record_of, rx_line}
-use Rattle.air_audit.specs.TraceLines.{Sends}
-use Rattle.air_audit.specs.declared.trace_line_words.Word.TheVariants as words
 use Rattle.air_audit.proofs.Completed.{rest_lines, rest-leads}
 use Rattle.air_audit.proofs.OneStanding.{tx-is-tx}
 use Rattle.air_audit.proofs.Places.{IsAck, IsInPlace, stands-in-place}

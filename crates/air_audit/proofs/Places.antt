@@ -1,34 +1,23 @@
 -- The round and the slot of a run are the counts that an auditor keeps of its commands: at each ACK they are those of its record.
-use Rattle.std.proofs.Common.{◌≡◌, ◌≢◌, ◌+◌, ◌^◌, ◌<◌, ◌≤◌, ◌==◌, ◌&&◌, ℕ, Bool, true, false, zero, suc, List, [], ◌∷◌, length, Option, Some, None, slice_get, arith, ap, refl, sym, ◌∙◌, subst, ne_eqb, eq-eqb}
 use Rattle.std.specs.Prelude.{if◌then◌else◌}
-use Rattle.std.proofs.lemmas.List.{length-map}
+use Rattle.air_audit.proofs.Names.{◌≡◌, ◌≢◌, ◌+◌, ◌^◌, ◌<◌, ◌≤◌, ◌==◌, ◌&&◌, ℕ, Bool, true, false, zero, suc, List, [], ◌∷◌, length, Option, Some, None, slice_get, arith, ap, refl, sym, ◌∙◌, subst, ne_eqb, eq-eqb, OpResult, IsToldByLines, HasNoEventStep, Place, next_slot, place_in, place_of_command, Start, Record, Item, befell, exchanged, operated, ended, next_record, rounds_in, Command, LinkValue, RoundEnd, IsSelect, IsLegalStep, AreLegalSteps, begins_slot, slot_records, GrowsByNext, dialogue_left, dialogue_behind_exchange, dialogue_behind_record, dialogue_behind_result, item_by_rule, item_in_round, item_of_slots, item_of_step, outcomes_of_round, reception_of_slot, rn_of, rn_received, finished_in, Step, length-map}
+use Rattle.command_grammar.specs.declared.commands.Command.TheVariants as commands
 use Rattle.access_ops.specs.declared.OpList.{OpList}
-use Rattle.access_ops.specs.declared.op_next.OpResult.{OpResult}
 use Rattle.access_ops.proofs.DialogueLaws.{AwaitsReplies}
 use Rattle.access_ops.specs.laws.OperationLaws.{Expects}
 use Rattle.access_ops.specs.Operations.{Dialogue, sends, tells, done}
-use Rattle.air_model.specs.Past.{Start, Record, Item, befell, exchanged, operated, ended, next_record, rounds_in}
-use Rattle.command_grammar.specs.declared.commands.Command.{Command}
-use Rattle.command_grammar.specs.declared.commands.Command.TheVariants as commands
-use Rattle.pie_line.specs.Link.{LinkValue}
 use Rattle.command_fields.specs.declared.choices.UpDn.TheVariants.{Up, Same, Down}
 use Rattle.q_round.specs.Rounds.{adjust, rep, quiet, limit, all_silent, next_of_turn, course_of, goes_down, goes_up, next_command, qfp_of, refused_in}
 use Rattle.q_round.specs.SpecValue.{SpecValue}
 use Rattle.q_round.specs.declared.frame.Outcome.{Outcome}
 use Rattle.q_round.specs.declared.round.Next.{Next}
 use Rattle.q_round.specs.declared.round.Next.TheVariants as nexts
-use Rattle.q_round.specs.declared.round.RoundEnd.{RoundEnd}
 use Rattle.reply_grammar.specs.declared.expected.Expect.{Expect}
-use Rattle.runs.specs.Headline.{IsSelect, IsLegalStep, AreLegalSteps, begins_slot, slot_records}
-use Rattle.runs.specs.NextItem.{GrowsByNext, dialogue_left, dialogue_behind_exchange, dialogue_behind_record, dialogue_behind_result, item_by_rule, item_in_round, item_of_slots, item_of_step, outcomes_of_round, reception_of_slot, rn_of, rn_received, finished_in}
 use Rattle.runs.proofs.Growth.{begun-awaits}
 use Rattle.runs.proofs.HeadlineLines.{and-false, and-true}
 use Rattle.runs.proofs.HeadlineNext.{select-begins-none}
 use Rattle.runs.proofs.HeadlineSlots.{expects-begins-none, next-begins}
-use Rattle.scenario.specs.declared.values.Step.{Step}
 use Rattle.scenario.specs.declared.values.Step.TheVariants as steps
-use Rattle.air_audit.specs.OwnTraces.{IsToldByLines, HasNoEventStep}
-use Rattle.air_audit.specs.Standing.{Place, next_slot, place_in, place_of_command}
 
 -- the command is an ACK
 abbrev pub IsAck : Command → Type 0

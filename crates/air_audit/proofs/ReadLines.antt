@@ -1,17 +1,9 @@
 -- The lines of exchanges, as they were read.
-use Rattle.std.proofs.Common.{◌≡◌, ◌≢◌, ℕ, Bool, inl, inr, List, [], ◌∷◌, length, refl, sym, ap, ◌∙◌, subst, codes}
-use Rattle.std.specs.Fmt.{decimal}
 use Rattle.std.proofs.lemmas.List.Splits.{join_with_byte-slice_split}
-use Rattle.text_fields.specs.Binary.{binary}
-use Rattle.text_fields.specs.Lines.{line_with, space}
+use Rattle.air_audit.proofs.Names.{◌≡◌, ◌≢◌, ℕ, Bool, inl, inr, List, [], ◌∷◌, length, refl, sym, ap, ◌∙◌, subst, codes, DiffersFirst, IsNoTxLine, audit_reason_of, AreFrameOf, Command, IsNoRx, IsNoTx, RxFields, TxFields, first_field, text_of, RxLine, decimal, binary, line_with, space}
+use Rattle.air_audit.specs.declared.verdict.AuditReason.TheVariants as reasons
 use Rattle.text_fields.specs.declared.fields_fault.FieldsFault.{FieldsFault}
 use Rattle.text_fields.specs.declared.fields_fault.FieldsFault.TheVariants.{Word, Shape, Number}
-use Rattle.command_grammar.specs.declared.commands.Command.{Command}
-use Rattle.report_lines.specs.ReadLines.{IsNoRx, IsNoTx, RxFields, TxFields, first_field, text_of}
-use Rattle.report_lines.specs.ReportLine.{RxLine}
-use Rattle.air_audit.specs.LineRefusals.{DiffersFirst, IsNoTxLine, audit_reason_of}
-use Rattle.air_audit.specs.TraceLines.{AreFrameOf}
-use Rattle.air_audit.specs.declared.verdict.AuditReason.TheVariants as reasons
 use Rattle.air_audit.proofs.OneStanding.{rx-same, tx-same}
 use Rattle.air_audit.proofs.OneVerdict.{tx-shape}
 

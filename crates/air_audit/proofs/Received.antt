@@ -1,31 +1,13 @@
 -- What an exchange lists, by what is received of its levels.
-use Rattle.std.proofs.Common.{◌≡◌, ◌≢◌, ℕ, Bool, List, [], ◌∷◌, Option, Some, None, Ok, slice_get, refl, sym, ap, ◌∙◌, subst}
+use Rattle.air_audit.proofs.Names.{◌≡◌, ◌≢◌, ℕ, Bool, List, [], ◌∷◌, Option, Some, None, Ok, slice_get, refl, sym, ap, ◌∙◌, subst, AuditorValue, GivesStream, IsHearing, Lists, place_in, place_of_command, record_of, Several, stream_reception, Given, IsOfStreamLength, whole_or_silence, first_broken, default_given, given_of, got_of, heard_levels, silence, Start, Record, Item, next_entry, next_record, tags_behind, IsGivenFor, reception_of, Command, table_of, LinkValue, Reception, no_stream, whole_reply, no_such_reply, reception_from, Received, IsReceived, TagLaws, given-in-expected, made-read, listed_by, listed_from, reception_of_ack, expectation_of, Replied}
+use Rattle.air_events.specs.declared.Several.TheVariants as severals
+use Rattle.command_grammar.specs.declared.commands.Command.TheVariants as commands
+use Rattle.reply_grammar.specs.declared.expected.Expect.TheVariants as expects
+use Rattle.reply_grammar.specs.declared.expected.Reply.TheVariants as replies
 use Rattle.air_events.specs.declared.Choice.{Choice}
 use Rattle.air_events.specs.declared.Choice.TheVariants as choices
-use Rattle.air_events.specs.declared.Several.{Several}
-use Rattle.air_events.specs.declared.Several.TheVariants as severals
-use Rattle.command_grammar.specs.declared.commands.Command.{Command}
-use Rattle.command_grammar.specs.declared.commands.Command.TheVariants as commands
-use Rattle.line_codes.specs.Codes.{table_of}
-use Rattle.pie_line.specs.Link.{LinkValue}
-use Rattle.reply_grammar.specs.Reception.{Reception, no_stream, whole_reply, no_such_reply, reception_from}
-use Rattle.reply_grammar.specs.declared.expected.Expect.TheVariants as expects
-use Rattle.reply_grammar.specs.declared.expected.Received.{Received}
-use Rattle.reply_grammar.specs.declared.expected.Reply.TheVariants as replies
 use Rattle.reply_wire.specs.Heard.{pair_received}
-use Rattle.reply_wire.specs.Received.{IsReceived}
-use Rattle.tag_machine.specs.TagsInExchange.{Replied}
-use Rattle.air_model.specs.Channel.{Given, IsOfStreamLength, whole_or_silence, first_broken, default_given, given_of, got_of, heard_levels, silence, broken}
-use Rattle.air_model.specs.Past.{Start, Record, Item, next_entry, next_record, tags_behind}
-use Rattle.air_model.specs.Reception.{IsGivenFor, reception_of}
 use Rattle.air_model.specs.declared.got.Got.TheVariants.{Silence}
-use Rattle.air_model.proofs.ReceptionLaws.{stream_reception}
-use Rattle.runs.proofs.Answering.{TagLaws, given-in-expected}
-use Rattle.runs.proofs.MadeRecords.{made-read}
-use Rattle.runs.specs.Listing.{listed_by, listed_from, reception_of_ack}
-use Rattle.runs.specs.NextItem.{expectation_of}
-use Rattle.air_audit.specs.Auditing.{AuditorValue, GivesStream, IsHearing, Lists}
-use Rattle.air_audit.specs.Standing.{place_in, place_of_command, record_of}
 
 -- a raw stream that is given has a length of streams
 picked-length : (picked : Option Replied) → IsOfStreamLength (whole_or_silence picked)

@@ -1,38 +1,12 @@
 -- The list lines of an audited trace are what is received of the levels before them.
-use Rattle.std.proofs.Common.{◌≡◌, ℕ, ◌+◌, inl, inr, List, [], ◌∷◌, ◌++◌, Option, Some, None, codes, refl, sym, ap, ◌∙◌, subst, length, append_assoc}
-use Rattle.std.proofs.lemmas.List.{append-nil}
-use Rattle.command_grammar.specs.declared.commands.Command.{Command}
+use Rattle.air_audit.proofs.Names.{◌≡◌, ℕ, ◌+◌, inl, inr, List, [], ◌∷◌, ◌++◌, Option, Some, None, codes, refl, sym, ap, ◌∙◌, subst, length, append_assoc, IsAudited, trace_rules, IsReceivedBefore, ListsWhatIsReceived, GoesOnAs, TraceStanding, begun, between, sending, listing, telling, TraceGoesOn, behind_exchange, behind_told, link_line, next_tag, record_of, rx_line, word_of_line, word_of, Sends, Word, whole_is_heard, Given, heard_levels, Start, Record, Item, exchanged, exchanges_in, next_entry, tags_behind, IsGivenFor, reception_of, HasOutcomeFrom, Whole, Command, table_of, LinkValue, Reception, whole_reply, IsReceived, first_field, text_of, TagLaws, given-in-expected, made-read, tags-exchanged, Listed, listed_by, listed_from, reception_of_ack, expectation_of, list_line, append-nil, TagValue, AreLegalTags, lines_of}
 use Rattle.command_grammar.specs.declared.commands.Command.TheVariants as commands
-use Rattle.line_codes.specs.Codes.{table_of}
-use Rattle.pie_line.specs.Link.{LinkValue}
-use Rattle.reply_grammar.specs.Reception.{Reception, whole_reply}
 use Rattle.reply_grammar.specs.declared.expected.Expect.TheVariants as expects
-use Rattle.reply_grammar.specs.declared.expected.Received.TheVariants.{Whole}
 use Rattle.reply_grammar.specs.declared.expected.Reply.TheVariants as replies
-use Rattle.reply_wire.specs.Received.{IsReceived}
-use Rattle.tag_machine.specs.TagsInExchange.{AreLegalTags}
-use Rattle.tag_machine.specs.TagValue.{TagValue}
-use Rattle.air_model.specs.Channel.{Given, heard_levels}
-use Rattle.air_model.specs.Past.{Start, Record, Item, exchanged, exchanges_in, next_entry, tags_behind}
-use Rattle.air_model.specs.Reception.{IsGivenFor, reception_of}
-use Rattle.air_model.proofs.ReceptionLaws.{whole_is_heard}
-use Rattle.report_lines.specs.ReadLines.{first_field, text_of}
-use Rattle.runs.proofs.Answering.{TagLaws, given-in-expected}
-use Rattle.runs.proofs.LegalPasts.{HeardLegal, first-legal, outcomes-legal}
-use Rattle.runs.proofs.MadeRecords.{made-read}
-use Rattle.runs.specs.Listing.{Listed, listed_by, listed_from, reception_of_ack}
-use Rattle.runs.specs.NextItem.{expectation_of}
-use Rattle.runs.specs.Report.{list_line}
-use Rattle.runs.proofs.Tags.{tags-exchanged}
-use Rattle.text_fields.specs.Lines.{lines_of}
-use Rattle.checked_lines.specs.TextRules.{HasOutcomeFrom, Whole}
-use Rattle.air_audit.specs.AuditedTrace.{IsAudited, trace_rules}
-use Rattle.air_audit.specs.TraceLineWords.{word_of_line, word_of}
-use Rattle.air_audit.specs.ReceivedLists.{IsReceivedBefore, ListsWhatIsReceived}
-use Rattle.air_audit.specs.Standing.{GoesOnAs, TraceStanding, begun, between, sending, listing, telling, ended, TraceGoesOn, behind_exchange, behind_told, link_line, next_tag, record_of, rx_line}
-use Rattle.air_audit.specs.TraceLines.{Sends}
-use Rattle.air_audit.specs.declared.trace_line_words.Word.{Word}
 use Rattle.air_audit.specs.declared.trace_line_words.Word.TheVariants as words
+use Rattle.air_audit.specs.Standing.{ended}
+use Rattle.reply_grammar.specs.declared.expected.Received.TheVariants.{Whole}
+use Rattle.runs.proofs.LegalPasts.{HeardLegal, first-legal, outcomes-legal}
 use Rattle.air_audit.proofs.Received.{made-again}
 use Rattle.air_audit.proofs.Words.{link-is-other}
 

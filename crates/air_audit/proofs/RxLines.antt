@@ -1,14 +1,5 @@
 -- The rx line of a record is read back, so that a line that differs from it in some part is another.
-use Rattle.std.proofs.Common.{◌≡◌, ◌≢◌, ◌^◌, ◌<◌, ◌≤◌, ℕ, Bool, List, length, codes, arith, ap, refl, subst}
-use Rattle.std.specs.Fmt.{decimal}
-use Rattle.std.proofs.lemmas.List.Elements.{All-from_recursion}
-use Rattle.report_lines.specs.ReportLine.{RxLine, report_fields}
-use Rattle.text_fields.specs.Lines.{Lacks, fields_of, space}
-use Rattle.text_fields.proofs.FieldTextLaws.{IsFieldText-binary}
-use Rattle.text_fields.proofs.LineLaws.{fields_come_back}
-use Rattle.air_audit.specs.LineRefusals.{DiffersFirst, rx_parts}
-use Rattle.report_lines.specs.ReadLines.{text_of, most_rx_levels, RxFields}
-use Rattle.air_audit.specs.declared.verdict.AuditReason.{AuditReason}
+use Rattle.air_audit.proofs.Names.{◌≡◌, ◌≢◌, ◌^◌, ◌<◌, ◌≤◌, ℕ, Bool, List, length, codes, arith, ap, refl, subst, DiffersFirst, rx_parts, AuditReason, text_of, most_rx_levels, RxFields, RxLine, report_fields, All-from_recursion, decimal, IsFieldText-binary, fields_come_back, Lacks, fields_of, space}
 use Rattle.air_audit.proofs.FirstPart.{none-fails}
 use Rattle.air_audit.proofs.SentLines.{number-is}
 use Rattle.air_audit.proofs.Spelled.{decimal-lacks}

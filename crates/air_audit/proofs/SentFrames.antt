@@ -1,19 +1,8 @@
 -- What is read from the intervals of a frame is what they are.
-use Rattle.std.proofs.Common.{◌≡◌, ℕ, Bool, List, Result, Ok, Err, refl, sym, subst}
-use Rattle.std.specs.Fmt.{decimal}
-use Rattle.command_grammar.specs.Commands.{SpellsCommand}
-use Rattle.command_grammar.specs.declared.commands.Command.{Command}
-use Rattle.command_grammar.specs.declared.refusal.CommandRefusal.{CommandRefusal}
-use Rattle.pie_line.specs.Pie.{IsFrame}
-use Rattle.pie_line.specs.declared.frame.FrameKind.{FrameKind}
-use Rattle.pie_line.specs.declared.frame.PieRefusal.{PieRefusal}
-use Rattle.air_model.specs.Channel.{lead_of}
-use Rattle.air_audit.specs.LineRefusals.{IsNoTxLine}
-use Rattle.air_audit.specs.SentFrame.{IsNoFrame, ReadsCommand, ReadsFrame}
-use Rattle.report_lines.specs.ReadLines.{TxFields}
-use Rattle.air_audit.specs.TraceLines.{AreFrameOf, FrameBeginsWith}
-use Rattle.air_audit.specs.declared.verdict.AuditReason.{AuditReason}
+use Rattle.air_audit.proofs.Names.{◌≡◌, ℕ, Bool, List, Result, Ok, Err, refl, sym, subst, IsNoTxLine, IsNoFrame, ReadsCommand, ReadsFrame, AreFrameOf, FrameBeginsWith, AuditReason, lead_of, SpellsCommand, Command, IsFrame, FrameKind, TxFields, decimal}
 use Rattle.air_audit.specs.declared.verdict.AuditReason.TheVariants as reasons
+use Rattle.command_grammar.specs.declared.refusal.CommandRefusal.{CommandRefusal}
+use Rattle.pie_line.specs.declared.frame.PieRefusal.{PieRefusal}
 use Rattle.air_audit.proofs.ReadLines.{tx-no-frame}
 
 -- what a decoder answers of intervals that are a frame, where these bits are read from them

@@ -1,22 +1,9 @@
 -- The tx line of a command is read back: the frame over a link sends it.
-use Rattle.std.proofs.Common.{◌≡◌, ◌≢◌, ◌^◌, ◌<◌, ◌≤◌, ◌⊎◌, ℕ, Bool, zero, suc, List, [], ◌∷◌, inl, inr, length, map, get_or, codes, arith, ap, refl}
 use Rattle.std.specs.Prelude.{All}
-use Rattle.std.specs.Fmt.{decimal}
-use Rattle.std.proofs.lemmas.Fmt.{decimal_digit, decimal_nonempty, first_decimal}
-use Rattle.std.proofs.lemmas.List.Elements.{All-from_recursion}
-use Rattle.text_fields.specs.Lines.{Lacks, fields_of, space}
-use Rattle.text_fields.proofs.LineLaws.{fields_come_back}
-use Rattle.air_model.specs.Channel.{lead_of, wave_for}
-use Rattle.command_grammar.specs.Commands.{IsLegalCommand, SpellsCommand, spelling_of}
-use Rattle.command_grammar.specs.declared.commands.Command.{Command}
-use Rattle.pie_line.specs.Link.{LinkValue, IsLegalLink}
-use Rattle.pie_line.specs.Pie.{IsFrame, frame_kind_of, longest_interval, wave_of}
+use Rattle.air_audit.proofs.Names.{◌≡◌, ◌≢◌, ◌^◌, ◌<◌, ◌≤◌, ◌⊎◌, ℕ, Bool, zero, suc, List, [], ◌∷◌, inl, inr, length, map, get_or, codes, arith, ap, refl, FrameBeginsWith, Sends, lead_of, wave_for, IsLegalCommand, SpellsCommand, spelling_of, Command, LinkValue, IsLegalLink, IsFrame, frame_kind_of, longest_interval, wave_of, text_of, IsDecimal, TxLine, report_fields, decimal_digit, decimal_nonempty, first_decimal, All-from_recursion, decimal, fields_come_back, Lacks, fields_of, space}
 use Rattle.pie_line.specs.declared.frame.Lead.{Lead}
 use Rattle.pie_line.specs.declared.frame.Lead.TheVariants.{Preamble, FrameSync}
 use Rattle.pie_text.proofs.WaveLength.{length-wave}
-use Rattle.report_lines.specs.ReportLine.{TxLine, report_fields}
-use Rattle.report_lines.specs.ReadLines.{text_of, IsDecimal}
-use Rattle.air_audit.specs.TraceLines.{FrameBeginsWith, Sends}
 use Rattle.air_audit.proofs.Spelled.{decimal-digits, decimal-lacks, numbers-lack}
 use Rattle.air_audit.proofs.Words.{word-text}
 

@@ -1,50 +1,18 @@
 -- Each trace has a verdict: each line goes on from where a trace stands, or is refused there for some reason.
-use Rattle.std.proofs.Common.{◌≡◌, ◌≢◌, ◌⊎◌, ◌+◌, ◌<◌, ◌≤◌, ◌^◌, ℕ, Bool, true, false, inl, inr, List, [], ◌∷◌, All, length, map, get_or, codes, arith, refl, sym, ap, ◌∙◌, subst}
-use Rattle.std.specs.Cmp.{booleans_Decides}
-use Rattle.std.specs.Fmt.{decimal}
-use Rattle.std.specs.Prelude.{Decides}
-use Rattle.std.proofs.lemmas.Bool.{cases_eq, cases_lt}
-use Rattle.std.proofs.lemmas.Bool.Decides.{Decides-eqb, not_from_Decides}
-use Rattle.std.proofs.lemmas.Fmt.{decimal_is_IsNumeral}
-use Rattle.std.proofs.lemmas.List.{length-map}
-use Rattle.std.proofs.lemmas.List.Elements.{All-nil, All-cons, All-head, All-tail}
-use Rattle.std.proofs.lemmas.Slice.Eq.{slice_eq-Decides}
+use Rattle.air_audit.proofs.Names.{◌≡◌, ◌≢◌, ◌⊎◌, ◌+◌, ◌<◌, ◌≤◌, ◌^◌, ℕ, Bool, true, false, inl, inr, List, [], ◌∷◌, All, length, map, get_or, codes, arith, refl, sym, ap, ◌∙◌, subst, Decides, TraceMayEnd, trace_rules, IsAuditVerdict, DiffersFirst, IsOther, IsRefusedAs, GoesOnAs, IsTheLine, TraceStanding, begun, between, sending, listing, telling, behind_exchange, behind_told, link_line, next_tag, record_of, rx_line, told_line, word_of_line, AreFrameOf, FrameBeginsWith, Word, AuditReason, Verdict, Yes, No, heard_levels, lead_of, Start, Record, Item, exchanges_in, Faulty, HasOutcome, TextOutcome, Whole, some_outcome, SpellsCommand, Spellings, Command, IsFrame, longest_interval, FrameKind, IsDecimal, HasTxShape, RxFields, TxFields, most_tx_intervals, most_rx_levels, text_of, ReportLine, RxLine, list_line, cases_eq, cases_lt, Decides-eqb, not_from_Decides, decimal_is_IsNumeral, length-map, All-nil, All-cons, All-head, All-tail, slice_eq-Decides, booleans_Decides, decimal, binary_told, binary, bits_of_digits, hyphen, fields_of, lines_of}
+use Rattle.air_audit.specs.declared.trace_line_words.Word.TheVariants as words
+use Rattle.air_audit.specs.declared.verdict.AuditReason.TheVariants as reasons
+use Rattle.air_audit.specs.Standing.{ended}
 use Rattle.bit_strings.specs.Family.{IsBadAt, IsShortAt}
-use Rattle.text_fields.specs.Binary.{binary, bits_of_digits, hyphen}
-use Rattle.text_fields.specs.Lines.{fields_of, lines_of}
 use Rattle.text_fields.proofs.BinaryLaws.{bits_of_digits-map}
-use Rattle.text_fields.proofs.ToldApart.{binary_told}
-use Rattle.checked_lines.specs.TextRules.{Faulty, HasOutcome, TextOutcome, Whole}
-use Rattle.checked_lines.specs.laws.OneOutcome.{some_outcome}
 use Rattle.checked_lines.specs.laws.TextLaws.{whole_ends}
-use Rattle.command_grammar.specs.Commands.{SpellsCommand, Spellings}
-use Rattle.command_grammar.specs.declared.commands.Command.{Command}
 use Rattle.pie_line.specs.FrameAnswer.{HasOneAnswer}
-use Rattle.pie_line.specs.Pie.{IsFrame, longest_interval}
-use Rattle.pie_line.specs.declared.frame.FrameKind.{FrameKind}
 use Rattle.pie_line.specs.declared.frame.FrameKind.TheVariants as kinds
 use Rattle.pie_line.specs.declared.frame.Lead.{Lead}
 use Rattle.pie_line.specs.declared.frame.Lead.TheVariants as leads
 use Rattle.pie_text.specs.NumberLists.{RefusesNumbers, SpellsNumbers}
 use Rattle.pie_text.specs.declared.number_lists.NotNumbers.{NotNumbers}
 use Rattle.pie_text.specs.declared.number_lists.NotNumbers.TheVariants as faults
-use Rattle.air_model.specs.Channel.{heard_levels, lead_of}
-use Rattle.air_model.specs.Past.{Start, Record, Item, exchanges_in}
-use Rattle.report_lines.specs.ReadLines.{IsDecimal, HasTxShape, RxFields, TxFields, most_tx_intervals, most_rx_levels, text_of}
-use Rattle.report_lines.specs.ReportLine.{ReportLine, RxLine}
-use Rattle.runs.specs.Report.{list_line}
-use Rattle.air_audit.specs.AuditedTrace.{TraceMayEnd, trace_rules}
-use Rattle.air_audit.specs.FirstRefusal.{IsAuditVerdict}
-use Rattle.air_audit.specs.TraceLineWords.{word_of_line}
-use Rattle.air_audit.specs.LineRefusals.{DiffersFirst, IsOther, IsRefusedAs}
-use Rattle.air_audit.specs.Standing.{GoesOnAs, IsTheLine, TraceStanding, begun, between, sending, listing, telling, ended, behind_exchange, behind_told, link_line, next_tag, record_of, rx_line, told_line}
-use Rattle.air_audit.specs.TraceLines.{AreFrameOf, FrameBeginsWith}
-use Rattle.air_audit.specs.declared.trace_line_words.Word.{Word}
-use Rattle.air_audit.specs.declared.trace_line_words.Word.TheVariants as words
-use Rattle.air_audit.specs.declared.verdict.AuditReason.{AuditReason}
-use Rattle.air_audit.specs.declared.verdict.AuditReason.TheVariants as reasons
-use Rattle.air_audit.specs.declared.verdict.Verdict.{Verdict}
-use Rattle.air_audit.specs.declared.verdict.Verdict.TheVariants.{Yes, No}
 use Rattle.air_audit.proofs.ReadLines.{rx-other-count, rx-other-levels, rx-other-number, rx-text, tx-no-frame, tx-other}
 
 -- it holds, or it doesn't

@@ -1,34 +1,21 @@
 -- The lines that a run tells have no line feed in them, so that the lines of its trace are these.
-use Rattle.std.proofs.Common.{◌≡◌, ◌≢◌, ◌+◌, ◌<◌, ◌≤◌, ◌/◌, ◌%◌, ◌==◌, ℕ, Bool, true, false, cond, zero, suc, List, [], ◌∷◌, ◌++◌, map, filter, codes, arith, ap, refl, ◌∙◌, lt-ltb}
 use Rattle.std.specs.Prelude.{All}
-use Rattle.std.specs.Fmt.{decimal, digits, digits_onto, digit_glyph}
-use Rattle.std.specs.List.{AllByRecursion}
-use Rattle.std.proofs.lemmas.List.Elements.{All-append, All-cons, All-from_recursion, All-head, All-nil, All-tail, All-weaker, filter_passes}
-use Rattle.access_ops.specs.declared.op_next.OpResult.{OpResult}
+use Rattle.std.specs.Fmt.{digits}
+use Rattle.air_audit.proofs.Names.{◌≡◌, ◌≢◌, ◌+◌, ◌<◌, ◌≤◌, ◌/◌, ◌%◌, ◌==◌, ℕ, Bool, true, false, cond, zero, suc, List, [], ◌∷◌, ◌++◌, map, filter, codes, arith, ap, refl, ◌∙◌, lt-ltb, OpResult, LinkValue, RoundEnd, keeps, line_text_of, text_of, ReportLine, BlfLine, TxLine, RxLine, ListLine, OpLine, RoundLine, SeenLine, TagLine, DoneLine, end_word, state_word, flags_word, result_fields, report_fields, text_by, Trace, All-append, All-cons, All-from_recursion, All-head, All-nil, All-tail, All-weaker, filter_passes, decimal, digits_onto, digit_glyph, AllByRecursion, IsFieldText-binary, IsFieldText-hex_byte, IsFieldText-hex_word, IsFieldText-hex_words, line_lacks, lines_come_back, binary_digit, Lacks, line_feed, lines_of, text_with}
 use Rattle.access_ops.specs.declared.op_next.OpResult.TheVariants as results
 use Rattle.command_fields.specs.declared.choices.Side.{Side}
 use Rattle.command_fields.specs.declared.choices.Side.TheVariants.{A, B}
 use Rattle.command_text.specs.CommandText.{side_letter}
 use Rattle.lock_rules.specs.declared.locks.Locks.{Locks}
 use Rattle.lock_rules.specs.declared.locks.Pair.{Pair}
-use Rattle.pie_line.specs.Link.{LinkValue}
-use Rattle.q_round.specs.declared.round.RoundEnd.{RoundEnd}
 use Rattle.q_round.specs.declared.round.RoundEnd.TheVariants as ends
-use Rattle.report_lines.specs.ModeLines.{keeps, line_text_of}
-use Rattle.report_lines.specs.ReportLine.{ReportLine, BlfLine, TxLine, RxLine, ListLine, OpLine, RoundLine, SeenLine, TagLine, DoneLine, end_word, state_word, flags_word, result_fields, report_fields, text_by}
 use Rattle.report_lines.specs.ModeReport.{text_in}
-use Rattle.report_lines.specs.declared.mode.Mode.TheVariants.{Trace}
 use Rattle.session_flags.specs.declared.flags.Flags.{Flags}
 use Rattle.tag_machine.specs.StateNames.{name_of}
 use Rattle.tag_machine.specs.declared.states.StateName.{StateName}
 use Rattle.tag_machine.specs.declared.states.StateName.TheVariants as names
-use Rattle.text_fields.specs.Binary.{binary_digit}
 use Rattle.text_fields.specs.Hexadecimal.{hex_words}
-use Rattle.text_fields.specs.Lines.{Lacks, line_feed, lines_of, text_with}
-use Rattle.text_fields.proofs.FieldTextLaws.{IsFieldText-binary, IsFieldText-hex_byte, IsFieldText-hex_word, IsFieldText-hex_words}
-use Rattle.text_fields.proofs.LineLaws.{line_lacks, lines_come_back}
 use Rattle.value_text.specs.ValueText.{locks_text, pair_text}
-use Rattle.report_lines.specs.ReadLines.{text_of}
 use Rattle.air_audit.proofs.Words.{all_visible, word-text}
 
 -- a decimal digit

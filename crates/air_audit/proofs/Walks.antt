@@ -1,21 +1,8 @@
 -- Over the lines of a trace, up to the first that is refused.
-use Rattle.std.proofs.Common.{◌≡◌, ◌≢◌, ℕ, ◌+◌, ◌≤◌, List, [], ◌∷◌, length, refl, sym, ap, ◌∙◌, subst, arith}
-use Rattle.text_fields.specs.Lines.{lines_of}
-use Rattle.air_events.specs.Cursor.{AreEntriesLeft}
-use Rattle.air_events.specs.declared.Entry.{Entry}
-use Rattle.tag_machine.specs.TagsInExchange.{AreLegalTags}
-use Rattle.tag_machine.specs.TagValue.{TagValue}
-use Rattle.air_model.specs.Past.{Start, Item, tags_behind_from}
-use Rattle.checked_lines.specs.TextRules.{IsText}
-use Rattle.checked_lines.specs.laws.ReadingOn.{HasReadTo, NextLine, all_read, fault_read, none_read, one_read, unended_read}
-use Rattle.air_audit.specs.Auditing.{AreAsGiven, AuditorValue, GoesOnWith, AuditorIsBegun, IsEarly, AuditorStandsAt}
-use Rattle.air_audit.specs.AuditedTrace.{IsAudited, TraceMayEnd, trace_rules}
-use Rattle.air_audit.specs.FirstRefusal.{IsFirstRefusal}
-use Rattle.air_audit.specs.LineRefusals.{IsRefusedHere}
-use Rattle.air_audit.specs.Standing.{TraceStanding, begun, ended}
+use Rattle.air_audit.proofs.Names.{◌≡◌, ◌≢◌, ℕ, ◌+◌, ◌≤◌, List, [], ◌∷◌, length, refl, sym, ap, ◌∙◌, subst, arith, IsAudited, TraceMayEnd, trace_rules, AreAsGiven, AuditorValue, GoesOnWith, AuditorIsBegun, IsEarly, AuditorStandsAt, IsFirstRefusal, IsRefusedHere, TraceStanding, begun, AuditReason, AreEntriesLeft, Entry, Start, Item, tags_behind_from, IsText, HasReadTo, NextLine, all_read, fault_read, none_read, one_read, unended_read, TagValue, AreLegalTags, lines_of}
 use Rattle.air_audit.specs.declared.auditor.Position.TheVariants as positions
-use Rattle.air_audit.specs.declared.verdict.AuditReason.{AuditReason}
 use Rattle.air_audit.specs.declared.verdict.AuditReason.TheVariants as reasons
+use Rattle.air_audit.specs.Standing.{ended}
 
 -- the lines before the rest lead to where the auditor stands; the next line has this number
 pub record Walked (start : Start) (trace rest : List ℕ) (number : ℕ) (auditor : AuditorValue) : Type 0 where

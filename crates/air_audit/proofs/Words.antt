@@ -1,21 +1,5 @@
 -- The words that lines begin with: each line of a report begins with its own.
-use Rattle.std.proofs.Common.{◌≡◌, ◌&&◌, ◌||◌, ltb, if◌then◌else◌, ℕ, Bool, true, false, List, [], ◌∷◌, Option, Some, None, codes, get_or, ap, refl, sym, subst, ◌∙◌, ltb-true}
-use Rattle.std.proofs.lemmas.Bool.{and_parts}
-use Rattle.std.proofs.lemmas.Slice.Eq.{bytes_eq-Decides}
-use Rattle.std.specs.Str.{bytes_eq}
-use Rattle.access_ops.specs.declared.op_next.OpResult.{OpResult}
-use Rattle.air_model.specs.Past.{Start, Record, Item}
-use Rattle.pie_line.specs.Link.{LinkValue}
-use Rattle.q_round.specs.declared.round.RoundEnd.{RoundEnd}
-use Rattle.text_fields.specs.Lines.{IsFieldText, line_with, space}
-use Rattle.text_fields.proofs.FieldTextLaws.{IsFieldText-cons, IsFieldText-one}
-use Rattle.text_fields.proofs.LineLaws.{pieces_between-cut, whole_piece}
-use Rattle.report_lines.specs.ReadLines.{text_of, first_field}
-use Rattle.report_lines.specs.ReportLine.{ReportLine, OpLine, RoundLine, SeenLine, TagLine, DoneLine, report_fields}
-use Rattle.tag_machine.specs.TagValue.{TagValue}
-use Rattle.air_audit.specs.TraceLineWords.{word_of_line, word_of}
-use Rattle.air_audit.specs.Standing.{GoesOnAs, TellsNextTag, TraceGoesOn, TraceStanding, link_line, next_tag, rx_line, told_line}
-use Rattle.air_audit.specs.declared.trace_line_words.Word.{Word}
+use Rattle.air_audit.proofs.Names.{◌≡◌, ◌&&◌, ◌||◌, ltb, if◌then◌else◌, ℕ, Bool, true, false, List, [], ◌∷◌, Option, Some, None, codes, get_or, ap, refl, sym, subst, ◌∙◌, ltb-true, OpResult, GoesOnAs, TellsNextTag, TraceGoesOn, TraceStanding, link_line, next_tag, rx_line, told_line, word_of_line, word_of, Word, Start, Record, Item, LinkValue, RoundEnd, text_of, first_field, ReportLine, OpLine, RoundLine, SeenLine, TagLine, DoneLine, report_fields, and_parts, bytes_eq-Decides, bytes_eq, TagValue, IsFieldText-cons, IsFieldText-one, pieces_between-cut, whole_piece, IsFieldText, line_with, space}
 use Rattle.air_audit.specs.declared.trace_line_words.Word.TheVariants as words
 
 -- all of the bytes stand above the space
@@ -68,38 +52,29 @@ read_as : (tx rx list unjudged of_tags : Bool) → Word
 read_as tx rx list unjudged of_tags =
     if tx then words.Tx else if rx then words.Rx else if list then words.List else if unjudged then words.Unjudged else if of_tags then words.OfTags else words.Other
 
-tx_read : (tx rx list unjudged of_tags : Bool) → read_as tx rx list unjudged of_tags ≡ words.Tx → tx ≡ true
+-- the words `tx` and `rx` are read by their own tests alone
+read_by : (tx rx list unjudged of_tags : Bool)
+    → (read_as tx rx list unjudged of_tags ≡ words.Tx → tx ≡ true) × (read_as tx rx list unjudged of_tags ≡ words.Rx → rx ≡ true)
 unfolding read_as
-tx_read true rx list unjudged of_tags is = refl
-tx_read false true list unjudged of_tags is = absurd cc
-tx_read false false true unjudged of_tags is = absurd cc
-tx_read false false false true of_tags is = absurd cc
-tx_read false false false false true is = absurd cc
-tx_read false false false false false is = absurd cc
+read_by true rx list unjudged of_tags = (λ is. refl, λ is. absurd cc)
+read_by false true list unjudged of_tags = (λ is. absurd cc, λ is. refl)
+read_by false false true unjudged of_tags = (λ is. absurd cc, λ is. absurd cc)
+read_by false false false true of_tags = (λ is. absurd cc, λ is. absurd cc)
+read_by false false false false true = (λ is. absurd cc, λ is. absurd cc)
+read_by false false false false false = (λ is. absurd cc, λ is. absurd cc)
 
-rx_read : (tx rx list unjudged of_tags : Bool) → read_as tx rx list unjudged of_tags ≡ words.Rx → rx ≡ true
+word-read : (word : List ℕ) → (word_of word ≡ words.Tx → bytes_eq word (codes "tx") ≡ true) × (word_of word ≡ words.Rx → bytes_eq word (codes "rx") ≡ true)
 unfolding read_as
-rx_read true rx list unjudged of_tags is = absurd cc
-rx_read false true list unjudged of_tags is = refl
-rx_read false false true unjudged of_tags is = absurd cc
-rx_read false false false true of_tags is = absurd cc
-rx_read false false false false true is = absurd cc
-rx_read false false false false false is = absurd cc
+word-read word =
+    read_by (bytes_eq word (codes "tx")) (bytes_eq word (codes "rx")) (bytes_eq word (codes "list"))
+    (bytes_eq word (codes "op") || bytes_eq word (codes "round") || bytes_eq word (codes "seen")) (bytes_eq word (codes "tag") || bytes_eq word (codes "done"))
 
 -- no other word is taken for `tx` or for `rx`
 pub tx-only : (word : List ℕ) → word_of word ≡ words.Tx → word ≡ codes "tx"
-unfolding read_as
-tx-only word is =
-    (bytes_eq-Decides word (codes "tx")).0
-    (tx_read (bytes_eq word (codes "tx")) (bytes_eq word (codes "rx")) (bytes_eq word (codes "list"))
-    (bytes_eq word (codes "op") || bytes_eq word (codes "round") || bytes_eq word (codes "seen")) (bytes_eq word (codes "tag") || bytes_eq word (codes "done")) is)
+tx-only word is = (bytes_eq-Decides word (codes "tx")).0 ((word-read word).0 is)
 
 pub rx-only : (word : List ℕ) → word_of word ≡ words.Rx → word ≡ codes "rx"
-unfolding read_as
-rx-only word is =
-    (bytes_eq-Decides word (codes "rx")).0
-    (rx_read (bytes_eq word (codes "tx")) (bytes_eq word (codes "rx")) (bytes_eq word (codes "list"))
-    (bytes_eq word (codes "op") || bytes_eq word (codes "round") || bytes_eq word (codes "seen")) (bytes_eq word (codes "tag") || bytes_eq word (codes "done")) is)
+rx-only word is = (bytes_eq-Decides word (codes "rx")).0 ((word-read word).1 is)
 
 -- a line goes on by the word that it begins with
 pub goes-as : (start : Start) (from : TraceStanding) (line : List ℕ) (to : TraceStanding) (word : Word) → word_of_line line ≡ word → GoesOnAs start from word line to → TraceGoesOn start from line to

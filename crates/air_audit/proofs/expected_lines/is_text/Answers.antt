@@ -1,7 +1,4 @@
-use Rattle.std.proofs.Common.{◌≡◌, ℕ, true, List, ◌++◌, ◌∷◌, [], sym, ap, ◌∙◌, true≢false}
-use Rattle.std.proofs.lemmas.Bool.Decides.{Decides-eqb}
-use Rattle.std.proofs.lemmas.List.{append_cancel_right}
-use Rattle.std.proofs.lemmas.Slice.Eq.{slice_eq-Decides, strip_suffix_is}
+use Rattle.air_audit.proofs.Names.{◌≡◌, ℕ, true, List, ◌++◌, ◌∷◌, [], sym, ap, ◌∙◌, true≢false, Decides-eqb, append_cancel_right, slice_eq-Decides, strip_suffix_is}
 use Rattle.air_audit.proofs.expected_lines.is_text.Goals as goal
 
 pub returns-in-Some-clause-yes : goal.returns-in-Some-clause-yes

@@ -1,4 +1,4 @@
-use Rattle.runs.specs.ScenarioStart.{start_of}
+use Rattle.air_audit.proofs.Names.{start_of}
 use Rattle.air_audit.proofs.OwnTrace.{own-audited}
 use Rattle.air_audit.proofs.laws.own_traces_are_audited.Goals as goal
 

@@ -1,8 +1,4 @@
-use Rattle.std.proofs.Common.{◌≡◌, ◌∙◌, Bool, true, false, not, refl, sym, subst}
-use Rattle.std.proofs.lemmas.Slice.Eq.{slice_eq-Decides}
-use Rattle.std.specs.Cmp.{booleans_Decides}
-use Rattle.air_audit.specs.LineRefusals.{DiffersFirst}
-use Rattle.air_audit.specs.declared.verdict.AuditReason.{AuditReason}
+use Rattle.air_audit.proofs.Names.{◌≡◌, ◌∙◌, Bool, true, false, not, refl, sym, subst, DiffersFirst, AuditReason, slice_eq-Decides, booleans_Decides}
 use Rattle.air_audit.proofs.ReadLines.{rx-faulty, rx-other-count, rx-other-levels, rx-other-number, rx-text}
 use Rattle.air_audit.proofs.rx_line.compare_rx_line.Goals as goal
 

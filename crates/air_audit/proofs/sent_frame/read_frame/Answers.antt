@@ -1,5 +1,4 @@
-use Rattle.std.proofs.Common.{◌∙◌, Bool, List, sym, subst, true≢false}
-use Rattle.command_grammar.specs.Commands.{SpellsCommand}
+use Rattle.air_audit.proofs.Names.{◌∙◌, Bool, List, sym, subst, true≢false, SpellsCommand}
 use Rattle.air_audit.proofs.SentFrames.{no-frame, no-command, other-lead}
 use Rattle.air_audit.proofs.sent_frame.read_frame.Goals as goal
 

@@ -1,5 +1,4 @@
-use Rattle.std.proofs.Common.{take}
-use Rattle.air_audit.specs.OwnTraces.{HasNoEventStep}
+use Rattle.air_audit.proofs.Names.{take, HasNoEventStep}
 use Rattle.air_audit.proofs.trace_behind.has_event_step.Given as goal
 
 abbrev pub invariant-loop-step : goal.invariant-loop-step

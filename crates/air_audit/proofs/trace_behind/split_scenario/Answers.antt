@@ -1,5 +1,4 @@
-use Rattle.std.proofs.Common.{◌≡◌, true, false, codes, drop, take, ap, sym, ◌∙◌, arith}
-use Rattle.std.specs.Str.{bytes_eq}
+use Rattle.air_audit.proofs.Names.{◌≡◌, true, false, codes, drop, take, ap, sym, ◌∙◌, arith, bytes_eq}
 use Rattle.air_audit.proofs.Behind.{cut-end, cut-more, cut-none}
 use Rattle.air_audit.proofs.trace_behind.split_scenario.Goals as goal
 

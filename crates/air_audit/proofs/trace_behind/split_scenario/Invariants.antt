@@ -1,4 +1,4 @@
-use Rattle.std.proofs.Common.{length}
+use Rattle.air_audit.proofs.Names.{length}
 use Rattle.air_audit.proofs.Behind.{CutSoFar}
 use Rattle.air_audit.proofs.trace_behind.split_scenario.Given as goal
 

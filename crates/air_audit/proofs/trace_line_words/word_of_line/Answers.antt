@@ -1,4 +1,4 @@
-use Rattle.std.proofs.Common.{sym, ◌∙◌}
+use Rattle.air_audit.proofs.Names.{sym, ◌∙◌}
 use Rattle.air_audit.proofs.Words.{rx-only, tx-only}
 use Rattle.air_audit.proofs.trace_line_words.word_of_line.Goals as goal
 

@@ -1,14 +1,5 @@
-use Rattle.std.proofs.Common.{◌≡◌, ◌∙◌, length, map, sym, subst}
-use Rattle.std.proofs.lemmas.List.{length-map}
-use Rattle.std.proofs.lemmas.Result.{IfOk-weaker}
-use Rattle.tag_machine.specs.TagsInExchange.{AreLegalTags}
-use Rattle.air_audit.specs.FirstRefusal.{IsAuditVerdict}
-use Rattle.air_audit.specs.ReceivedLists.{ListsWhatIsReceived}
-use Rattle.air_audit.specs.declared.verdict.Verdict.{Verdict}
-use Rattle.air_audit.specs.declared.verdict.Verdict.TheVariants.{Yes}
-use Rattle.air_model.specs.Past.{Start}
+use Rattle.air_audit.proofs.Names.{◌≡◌, ◌∙◌, length, map, sym, subst, AreAsGiven, IsAuditVerdict, ListsWhatIsReceived, Verdict, Yes, Start, length-map, IfOk-weaker, AreLegalTags}
 use Rattle.tag_machine.specs.Hearing.{tag_value_of}
-use Rattle.air_audit.specs.Auditing.{AreAsGiven}
 use Rattle.air_audit.proofs.Walks.{begun-stands}
 use Rattle.air_audit.proofs.traces.audit_counted.Goals as goal
 

@@ -1,7 +1,4 @@
-use Rattle.std.proofs.Common.{◌+◌, ◌≤◌, length}
-use Rattle.air_model.specs.Past.{Start}
-use Rattle.air_audit.specs.Auditing.{IsEarly, AuditorStandsAt}
-use Rattle.air_audit.specs.Standing.{begun}
+use Rattle.air_audit.proofs.Names.{◌+◌, ◌≤◌, length, IsEarly, AuditorStandsAt, begun, Start}
 use Rattle.air_audit.proofs.Walks.{Walked}
 use Rattle.air_audit.proofs.traces.walk.Given as goal
 

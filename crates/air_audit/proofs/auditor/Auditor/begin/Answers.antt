@@ -1,10 +1,4 @@
-use Rattle.std.proofs.Common.{◌≡◌, ℕ, List, ◌++◌, refl, ap, ◌∙◌}
-use Rattle.std.specs.String.{string_bytes}
-use Rattle.pie_line.specs.Link.{LinkValue, blf_of}
-use Rattle.report_lines.specs.ReadLines.{text_of}
-use Rattle.report_lines.specs.ReportLine.{BlfLine, report_line_text}
-use Rattle.air_audit.specs.Auditing.{AuditorValue}
-use Rattle.air_audit.specs.Standing.{link_line}
+use Rattle.air_audit.proofs.Names.{◌≡◌, ℕ, List, ◌++◌, refl, ap, ◌∙◌, AuditorValue, link_line, LinkValue, blf_of, text_of, BlfLine, report_line_text, string_bytes}
 use Rattle.air_audit.specs.declared.auditor.Position.TheVariants as positions
 use Rattle.air_audit.proofs.Following.{begins, begins-not, other-text, same-text}
 use Rattle.air_audit.proofs.auditor.Auditor.begin.Goals as goal

@@ -1,4 +1,4 @@
-use Rattle.std.proofs.Common.{◌+◌, refl, ap, sym}
+use Rattle.air_audit.proofs.Names.{◌+◌, refl, ap, sym}
 use Rattle.air_audit.proofs.Following.{passes-by, sends-not, sends-on, tags-first, tells-or-stops}
 use Rattle.air_audit.proofs.auditor.Auditor.go_on.Goals as goal
 

@@ -1,11 +1,6 @@
-use Rattle.std.proofs.Common.{◌≡◌, ◌∙◌, Bool, List, ap, subst}
-use Rattle.bit_strings.specs.declared.code.Code.{Code}
-use Rattle.line_codes.specs.Codes.{table_of}
-use Rattle.pie_line.specs.Link.{LinkValue}
+use Rattle.air_audit.proofs.Names.{◌≡◌, ◌∙◌, Bool, List, ap, subst, AuditorValue, table_of, LinkValue, Received, IsReceived}
 use Rattle.reply_grammar.specs.declared.expected.Expect.TheVariants as expects
-use Rattle.reply_grammar.specs.declared.expected.Received.{Received}
-use Rattle.reply_wire.specs.Received.{IsReceived}
-use Rattle.air_audit.specs.Auditing.{AuditorValue}
+use Rattle.bit_strings.specs.declared.code.Code.{Code}
 use Rattle.air_audit.proofs.auditor.Auditor.hear_epc.Goals as goal
 
 pub returns-clause-received : goal.returns-clause-received

@@ -1,10 +1,4 @@
-use Rattle.std.proofs.Common.{◌≡◌, ◌<◌, ◌^◌, List, [], ◌∷◌, Bool, ap, refl, subst, sym, ◌∙◌, arith}
-use Rattle.std.specs.String.{string_bytes}
-use Rattle.air_model.specs.Past.{exchanged}
-use Rattle.runs.proofs.Answering.{TagLaws}
-use Rattle.air_audit.specs.Auditing.{AuditorValue, IsHearing}
-use Rattle.air_audit.specs.TraceLineWords.{word_of}
-use Rattle.air_audit.specs.LineRefusals.{DiffersFirst}
+use Rattle.air_audit.proofs.Names.{◌≡◌, ◌<◌, ◌^◌, List, [], ◌∷◌, Bool, ap, refl, subst, sym, ◌∙◌, arith, AuditorValue, IsHearing, DiffersFirst, word_of, exchanged, TagLaws, string_bytes}
 use Rattle.air_audit.specs.declared.auditor.Position.TheVariants as positions
 use Rattle.air_audit.proofs.Following.{heard-on, keeps-moved, levels-few, list-written, rx-alike, rx-not}
 use Rattle.air_audit.proofs.auditor.Auditor.hear_levels.Goals as goal

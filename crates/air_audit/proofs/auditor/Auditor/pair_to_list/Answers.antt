@@ -1,6 +1,4 @@
-use Rattle.std.proofs.Common.{◌≢◌, [], refl, sym, ap, ◌∙◌}
-use Rattle.runs.proofs.Answering.{TagLaws}
-use Rattle.air_audit.specs.Auditing.{AuditorValue}
+use Rattle.air_audit.proofs.Names.{◌≢◌, [], refl, sym, ap, ◌∙◌, AuditorValue, TagLaws}
 use Rattle.air_audit.proofs.Received.{lists-received}
 use Rattle.air_audit.proofs.auditor.Auditor.pair_to_list.Goals as goal
 

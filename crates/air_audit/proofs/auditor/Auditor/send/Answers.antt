@@ -1,24 +1,7 @@
-use Rattle.std.proofs.Common.{◌≡◌, ◌+◌, List, Ok, arith, length, refl, ap, sym, ◌∙◌, subst}
 use Rattle.std.specs.List.{All}
-use Rattle.std.proofs.lemmas.List.{length-map}
-use Rattle.air_events.specs.Cursor.{AreEntriesLeft}
-use Rattle.command_grammar.specs.declared.commands.Command.{Command}
-use Rattle.air_events.specs.declared.Several.{Several}
-use Rattle.pie_line.specs.Link.{LinkValue}
-use Rattle.tag_machine.specs.TagsInExchange.{Replied, outcomes_in, replies_from}
-use Rattle.tag_machine.specs.TagValue.{TagValue}
-use Rattle.tag_population.specs.Answers.{AnswerValue, AnswersValue, answer_of, answers_of}
-use Rattle.tag_population.specs.Hearing.{hearing_from}
-use Rattle.air_model.specs.Channel.{given_of, heard_levels}
-use Rattle.air_model.specs.Past.{exchanges_in}
-use Rattle.air_audit.specs.Auditing.{AuditorValue}
-use Rattle.air_audit.specs.LineRefusals.{IsNoTxLine}
-use Rattle.air_audit.specs.HeardLevels.{IsShortAnswer}
-use Rattle.air_audit.specs.Standing.{Place}
-use Rattle.air_audit.specs.TraceLines.{Sends}
+use Rattle.air_audit.proofs.Names.{◌≡◌, ◌+◌, List, Ok, arith, length, refl, ap, sym, ◌∙◌, subst, AuditorValue, IsShortAnswer, IsNoTxLine, Place, Sends, AreEntriesLeft, Several, given_of, heard_levels, exchanges_in, Command, LinkValue, length-map, TagValue, Replied, outcomes_in, replies_from, length-befallen, one_exchange, AnswerValue, AnswersValue, answer_of, answers_of, hearing_from}
 use Rattle.air_audit.proofs.Exchanges.{Parts, parts-of, events-there, handed-on, hearing, left-before, missed-there, next-known, next-number, same-next}
 use Rattle.air_audit.proofs.HeardAnswers.{short-answers}
-use Rattle.tag_population.proofs.TagsBefallen.{length-befallen, one_exchange}
 use Rattle.air_audit.proofs.auditor.Auditor.send.Goals as goal
 
 pub befall_all-requires : goal.befall_all-requires

@@ -1,4 +1,4 @@
-use Rattle.std.proofs.Common.{sym}
+use Rattle.air_audit.proofs.Names.{sym}
 use Rattle.air_audit.proofs.Following.{tags-next, tells-or-stops}
 use Rattle.air_audit.proofs.auditor.Auditor.tell_on.Goals as goal
 

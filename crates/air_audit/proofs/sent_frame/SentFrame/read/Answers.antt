@@ -1,8 +1,4 @@
-use Rattle.std.proofs.Common.{◌∙◌, refl, sym, subst}
-use Rattle.std.proofs.lemmas.Result.{IfErr-weaker}
-use Rattle.air_audit.specs.LineRefusals.{IsNoTxLine}
-use Rattle.air_audit.specs.SentFrame.{IsNoFrame}
-use Rattle.air_audit.specs.declared.verdict.AuditReason.{AuditReason}
+use Rattle.air_audit.proofs.Names.{◌∙◌, refl, sym, subst, IsNoTxLine, IsNoFrame, AuditReason, IfErr-weaker}
 use Rattle.air_audit.proofs.ReadLines.{tx-faulty, tx-other}
 use Rattle.air_audit.proofs.SentFrames.{line-refused, line-sends}
 use Rattle.air_audit.proofs.sent_frame.SentFrame.read.Goals as goal
