@@ -1,41 +1,7 @@
 -- A run as it begins and as it ends.
-use Rattle.std.proofs.Common.{◌≡◌, inl, inr, append-nil, ℕ, ◌+◌, ◌<◌, ◌≤◌, ◌==◌, Bool, true, false, List, [], ◌∷◌, ◌++◌, length, map, Option, Some, None, Result, Ok, Err, refl, sym, ◌∙◌, ap, subst, arith}
-use Rattle.std.proofs.lemmas.List.{length-map}
-use Rattle.std.proofs.lemmas.List.Elements.{All-head, All-tail, All-nil, All-weaker}
-use Rattle.std.specs.Prelude.{All, IfSome, if◌then◌else◌}
-use Rattle.std.specs.Result.{IfErr, OnOk}
-use Rattle.air_channel.specs.Air.{AirValue, NamesTags}
-use Rattle.air_events.specs.Cursor.{AreEntriesLeft}
-use Rattle.air_events.specs.Entries.{entry_at}
-use Rattle.air_events.specs.TagNumbers.{most_tags}
-use Rattle.air_events.specs.declared.Choice.{Choice}
+use Rattle.air_world.proofs.Names.{◌≡◌, inl, inr, append-nil, ℕ, ◌+◌, ◌<◌, ◌≤◌, ◌==◌, Bool, true, false, List, ◌∷◌, ◌++◌, length, map, Option, Some, None, Result, Ok, Err, refl, sym, ◌∙◌, ap, subst, arith, [], All, IfSome, if◌then◌else◌, no_entry, entry_at, AirValue, NamesTags, AreEntriesLeft, most_tags, Choice, Entry, Event, HasFewLevels, tags_behind_from, new_air, RunValue, RunIsAt, IsPlayable, StandsAt, IsBetweenSteps, NamesItsTags, begun_with, IsCutShort, PlaysOrFails, ReportLine, DoneLine, SeenCount, seen_counts, seen_line, PlayFault, OutOfMemory, RoundsKeepLimit, few-exchanges, steps-exchanges, legal-steps, last_lines, run_lines, tag_lines, start_of, history, scenario_tag, pairs_in, tags_of, IsScenario, IsEntry, IsStep, most_tags_of, Scenario, Step, Version, One, Two, length-map, All-head, All-tail, All-nil, All-weaker, IfErr, OnOk, TagValue, AreLegalTags}
 use Rattle.air_events.specs.declared.Choice.TheVariants as choices
-use Rattle.air_events.specs.declared.Entry.{Entry}
-use Rattle.air_events.specs.declared.Event.{Event}
-use Rattle.air_model.specs.Channel.{HasFewLevels}
-use Rattle.tag_machine.specs.TagsInExchange.{AreLegalTags}
-use Rattle.air_model.specs.Past.{tags_behind_from}
-use Rattle.air_world.specs.NewAir.{new_air}
-use Rattle.air_world.specs.Playing.{RunValue, RunIsAt, IsPlayable, StandsAt, IsBetweenSteps, NamesItsTags, begun_with}
-use Rattle.air_world.specs.Telling.{IsCutShort, PlaysOrFails}
-use Rattle.report_lines.specs.ReportLine.{ReportLine, DoneLine}
-use Rattle.report_lines.specs.SeenCounts.{SeenCount, seen_counts, seen_line}
-use Rattle.report_lines.specs.declared.mode.PlayFault.{PlayFault}
-use Rattle.report_lines.specs.declared.mode.PlayFault.TheVariants.{OutOfMemory}
-use Rattle.runs.specs.Report.{last_lines, run_lines, tag_lines}
-use Rattle.runs.specs.ScenarioStart.{start_of, history, scenario_tag}
-use Rattle.runs.specs.Summary.{pairs_in}
-use Rattle.runs.proofs.Growth.{RoundsKeepLimit}
-use Rattle.runs.proofs.HeadlineCounts.{few-exchanges, steps-exchanges}
-use Rattle.runs.proofs.HeadlineLegal.{legal-steps}
-use Rattle.scenario.specs.Groups.{tags_of}
-use Rattle.scenario.specs.Limits.{IsScenario, IsEntry, IsStep, most_tags_of}
-use Rattle.scenario.specs.declared.values.Scenario.{Scenario}
-use Rattle.scenario.specs.declared.values.Step.{Step}
 use Rattle.scenario_lines.specs.LineForm.{IsChoice, IsEvent, IsPlace}
-use Rattle.scenario_lines.specs.declared.version.Version.{Version}
-use Rattle.scenario_lines.specs.declared.version.Version.TheVariants.{One, Two}
-use Rattle.tag_machine.specs.TagValue.{TagValue}
 
 names-one : (tags : ℕ) (entry : ℕ × Entry) → IsEntry tags entry → NamesTags tags entry.1
 names-one tags entry is = record {
@@ -43,20 +9,23 @@ names-one tags entry is = record {
   missed = All-weaker (λ (tag : ℕ). IsPlace tag × (tag < tags)) (λ (tag : ℕ). tag < tags) (λ tag named. named.1) entry.1.missed is.missed;
 }
 
-names-if : (b : Bool) (tags : ℕ) (one other : Entry) → NamesTags tags one → NamesTags tags other → NamesTags tags (if b then one else other)
-names-if true tags one other is are = is
-names-if false tags one other is are = are
+holds-if : (P : Entry → Type 0) (b : Bool) (one other : Entry) → P one → P other → P (if b then one else other)
+holds-if P true one other is are = is
+holds-if P false one other is are = are
 
-names-all : (tags : ℕ) (entries : List (ℕ × Entry)) → All (IsEntry tags) entries → (exchange : ℕ) → NamesTags tags (entry_at entries exchange)
-names-all tags [] are exchange = record { events = All-nil _; missed = All-nil _ }
-names-all tags (entry ∷ entries) are exchange =
-    names-if (entry.0 == exchange) tags entry.1 (entry_at entries exchange) (names-one tags entry (All-head (IsEntry tags) entry entries are))
-    (names-all tags entries (All-tail (IsEntry tags) entry entries are) exchange)
+-- what holds where nothing is said of an exchange, and of each entry that is given, holds of what is said of any
+holds-all : (P : Entry → Type 0) (tags : ℕ) (entries : List (ℕ × Entry)) → P no_entry → ((entry : ℕ × Entry) → IsEntry tags entry → P entry.1) → All (IsEntry tags) entries
+    → (exchange : ℕ) → P (entry_at entries exchange)
+holds-all P tags [] none each are exchange = none
+holds-all P tags (entry ∷ entries) none each are exchange =
+    holds-if P (entry.0 == exchange) entry.1 (entry_at entries exchange) (each entry (All-head (IsEntry tags) entry entries are))
+    (holds-all P tags entries none each (All-tail (IsEntry tags) entry entries are) exchange)
 
 pub scenario-names : (scenario : Scenario) → IsScenario scenario → NamesItsTags (start_of scenario)
 scenario-names scenario is exchange =
     let tags = tags_of scenario.groups in
-    subst (λ n. NamesTags n (entry_at scenario.entries exchange)) (sym (length-map tags scenario_tag)) (names-all (length tags) scenario.entries is.entries exchange)
+    subst (λ n. NamesTags n (entry_at scenario.entries exchange)) (sym (length-map tags scenario_tag))
+    (holds-all (NamesTags (length tags)) (length tags) scenario.entries (record { events = All-nil _; missed = All-nil _ }) (names-one (length tags)) is.entries exchange)
 
 -- its steps can be played on its air
 pub scenario-playable : (scenario : Scenario) (air : AirValue) (steps : List Step) → IsScenario scenario → air ≡ new_air (start_of scenario) → steps ≡ scenario.steps
@@ -84,16 +53,6 @@ chosen-few (Some choices.Silent) is = tt
 chosen-few (Some (choices.Break place)) is = tt
 chosen-few (Some (choices.Raw levels)) is = is.1
 
-few-if : (b : Bool) (one other : Entry) → HasFewLevels one.choice → HasFewLevels other.choice → HasFewLevels (if b then one else other).choice
-few-if true one other is are = is
-few-if false one other is are = are
-
-few-all : (tags : ℕ) (entries : List (ℕ × Entry)) → All (IsEntry tags) entries → (exchange : ℕ) → HasFewLevels (entry_at entries exchange).choice
-few-all tags [] are exchange = tt
-few-all tags (entry ∷ entries) are exchange =
-    few-if (entry.0 == exchange) entry.1 (entry_at entries exchange) (chosen-few entry.1.choice (All-head (IsEntry tags) entry entries are).choice)
-    (few-all tags entries (All-tail (IsEntry tags) entry entries are) exchange)
-
 pub tags-before : (number : ℕ) (starts : List TagValue) → tags_behind_from number starts [] ≡ starts
 tags-before number [] = refl
 tags-before number (start ∷ starts) = ap (λ (t : List TagValue). start ∷ t) (tags-before (number + 1) starts)
@@ -103,7 +62,8 @@ pub at-first : (scenario : Scenario) (air : AirValue) (run : RunValue) → IsSce
     → AreEntriesLeft left scenario.entries 0 → run ≡ record { entries = left; exchanges = 0; rounds = 0 } → RunIsAt (start_of scenario) 0 [] air run
 at-first scenario air run is fresh legal left left_is run_is = record {
   names = scenario-names scenario is;
-  few = few-all (length (tags_of scenario.groups)) scenario.entries is.entries;
+  few = holds-all (λ (entry : Entry). HasFewLevels entry.choice) (length (tags_of scenario.groups)) scenario.entries tt
+      (λ entry legal. chosen-few entry.1.choice legal.choice) is.entries;
   link = ap (λ (a : AirValue). a.link) fresh;
   several = ap (λ (a : AirValue). a.several) fresh;
   tags = ap (λ (a : AirValue). a.tags) fresh ∙ sym (tags-before 0 (start_of scenario).tags);

@@ -1,24 +1,8 @@
 -- The copies of a group, one after another, and the groups of a scenario.
-use Rattle.std.proofs.Common.{◌≡◌, ℕ, zero, suc, ◌+◌, ◌<◌, ◌≤◌, List, [], ◌∷◌, ◌++◌, length, map, take, get_or, sym, ◌∙◌, ap, append_assoc, arith}
-use Rattle.std.proofs.Math.Seq.{take-suc}
-use Rattle.std.proofs.lemmas.List.{length-map, map-append}
-use Rattle.std.proofs.lemmas.List.Elements.{All-weaker}
-use Rattle.std.specs.Prelude.{All}
-use Rattle.air_events.specs.TagNumbers.{most_tags}
+use Rattle.air_world.proofs.Names.{◌≡◌, ℕ, zero, suc, ◌+◌, ◌<◌, ◌≤◌, List, ◌∷◌, ◌++◌, length, map, take, get_or, sym, ◌∙◌, ap, append_assoc, arith, [], All, most_tags, IsGroupOfTags, scenario_tag, copies, copies_from, copies_of, copy_of, tags_of, IsCount, IsGroup, IsScenario, Scenario, TagGroup, Version, One, Two, take-suc, length-map, map-append, All-weaker, tag_value_of, TagValue, AnyTag}
 use Rattle.air_world.proofs.Beginning.{scenario-few}
-use Rattle.air_world.specs.NewAir.{IsGroupOfTags}
-use Rattle.runs.specs.ScenarioStart.{scenario_tag}
 use Rattle.scenario.proofs.Groups.{one_group_more}
-use Rattle.scenario.specs.Groups.{copies, copies_from, copies_of, copy_of, tags_of}
-use Rattle.scenario.specs.Limits.{IsCount, IsGroup, IsScenario}
-use Rattle.scenario.specs.declared.values.Scenario.{Scenario}
-use Rattle.scenario.specs.declared.values.TagGroup.{TagGroup}
 use Rattle.scenario_lines.specs.declared.tag.TagSpec.{TagSpec}
-use Rattle.scenario_lines.specs.declared.version.Version.{Version}
-use Rattle.scenario_lines.specs.declared.version.Version.TheVariants.{One, Two}
-use Rattle.tag_machine.specs.Hearing.{tag_value_of}
-use Rattle.tag_machine.specs.TagValue.{TagValue}
-use Rattle.tag_machine.specs.declared.any_tag.AnyTag.{AnyTag}
 
 -- one copy more
 copies_from-more : (number left : ℕ) (tag : TagSpec) → copies_from number (suc left) tag ≡ copies_from number left tag ++ copy_of (number + left) tag ∷ []

@@ -1,44 +1,12 @@
 -- What is counted of all that a run tells, of the history of its scenario.
-use Rattle.std.proofs.Common.{◌≡◌, ℕ, suc, ◌+◌, ◌*◌, ◌≤◌, Bool, not, List, [], ◌∷◌, ◌++◌, length, length-append, map, refl, sym, ◌∙◌, ap, subst, arith}
-use Rattle.std.proofs.lemmas.List.{length-map}
 use Rattle.std.proofs.lemmas.List.Sums.{count_by-le-length, length-filter}
-use Rattle.std.specs.Borrow.{Bor}
-use Rattle.access_ops.specs.declared.OpList.{OpList}
-use Rattle.air_model.specs.Past.{Start, Record, Item, befell, exchanged, operated, ended, past_behind_command, exchanges_in, rounds_in, tags_behind}
+use Rattle.air_world.proofs.Names.{◌≡◌, ℕ, suc, ◌+◌, ◌*◌, ◌≤◌, Bool, not, List, ◌∷◌, ◌++◌, length, length-append, map, refl, sym, ◌∙◌, ap, subst, arith, [], OpList, Start, Record, Item, befell, exchanged, operated, ended, past_behind_command, exchanges_in, rounds_in, tags_behind, CountsLines, Fits, counted_line, counted_lines, nothing_counted, most_slots, lines_to_tell, counted-append, Command, LinkValue, RoundEnd, line_of, ReportLine, MissedLine, GivenLine, OpLine, RoundLine, SeenLine, DoneLine, SeenCount, distinct, seen_among, seen_counts, Line, RoundsKeepLimit, answer-keeps, few-outcomes, round-holds, steps-exchanges, few-exchanges, legal-steps, length-tags, AreLegalSteps, IsLegalStep, past_behind, past_behind_slot, past_behind_step, slot_reception, Listed, listed_by, listing_of, exchange_lines, item_lines, last_lines, list_line, run_lines, tag_lines, wave_lines, answer_line, exchanged_by, said_lines, history, start_of, scenario_tag, all_quiet, pairs_in, slots_past, summary_of, tags_of, IsScenario, Scenario, Step, length-map, Bor, TagValue, AnyTag}
+use Rattle.scenario.specs.declared.values.Step.TheVariants as steps
 use Rattle.air_world.proofs.Beginning.{scenario-few}
 use Rattle.air_world.proofs.Listings.{few-listed}
-use Rattle.air_world.specs.Counting.{CountsLines, Fits, counted_line, counted_lines, nothing_counted}
-use Rattle.air_world.specs.laws.CountingLaws.{counted-append}
-use Rattle.air_world.specs.Playing.{most_slots}
-use Rattle.air_world.specs.Telling.{lines_to_tell}
-use Rattle.command_grammar.specs.declared.commands.Command.{Command}
-use Rattle.pie_line.specs.Link.{LinkValue}
-use Rattle.q_round.specs.declared.round.RoundEnd.{RoundEnd}
-use Rattle.report_lines.specs.Line.{line_of}
-use Rattle.report_lines.specs.ReportLine.{ReportLine, MissedLine, GivenLine, OpLine, RoundLine, SeenLine, DoneLine}
 use Rattle.reply_grammar.specs.PcAndEpc.{same_pair}
-use Rattle.report_lines.specs.SeenCounts.{SeenCount, distinct, seen_among, seen_counts}
-use Rattle.report_lines.specs.declared.line.Line.{Line}
 use Rattle.report_lines.specs.declared.line.Line.TheVariants as lines
-use Rattle.runs.proofs.Growth.{RoundsKeepLimit, answer-keeps, few-outcomes, round-holds}
-use Rattle.runs.proofs.HeadlineCounts.{steps-exchanges, few-exchanges}
-use Rattle.runs.proofs.HeadlineLegal.{legal-steps}
-use Rattle.runs.proofs.Tags.{length-tags}
-use Rattle.runs.specs.Headline.{AreLegalSteps, IsLegalStep}
-use Rattle.runs.specs.History.{past_behind, past_behind_slot, past_behind_step, slot_reception}
-use Rattle.runs.specs.Listing.{Listed, listed_by, listing_of}
-use Rattle.runs.specs.Report.{exchange_lines, item_lines, last_lines, list_line, run_lines, tag_lines, wave_lines}
-use Rattle.runs.specs.Said.{answer_line, exchanged_by, said_lines}
-use Rattle.runs.specs.ScenarioStart.{history, start_of, scenario_tag}
-use Rattle.runs.specs.Summary.{all_quiet, pairs_in, slots_past, summary_of}
 use Rattle.runs.specs.declared.summary.Summary.{Summary}
-use Rattle.scenario.specs.Groups.{tags_of}
-use Rattle.scenario.specs.Limits.{IsScenario}
-use Rattle.scenario.specs.declared.values.Scenario.{Scenario}
-use Rattle.scenario.specs.declared.values.Step.{Step}
-use Rattle.scenario.specs.declared.values.Step.TheVariants as steps
-use Rattle.tag_machine.specs.TagValue.{TagValue}
-use Rattle.tag_machine.specs.declared.any_tag.AnyTag.{AnyTag}
 
 -- the lines of what was listed
 counted-listed : (counted : Summary) (listed : List Listed) → counted_lines counted (map list_line listed) ≡ record counted { listed = counted.listed + length listed }
@@ -173,11 +141,9 @@ summary-fits keeps scenario is =
     }
 
 -- who counted all that is told has the summary
-pub summary-counted : RoundsKeepLimit → (scenario : Scenario) (first later : Summary) → IsScenario scenario → first ≡ nothing_counted → CountsLines (run_lines (start_of scenario) scenario.steps) first later → later ≡ summary_of scenario
-summary-counted keeps scenario first later is fresh counts =
-    let whole : counted_lines first (run_lines (start_of scenario) scenario.steps) ≡ summary_of scenario =
-    ap (λ (s : Summary). counted_lines s (run_lines (start_of scenario) scenario.steps)) fresh ∙ counted-whole scenario in
-    counts.counted (subst Fits (sym whole) (summary-fits keeps scenario is)) ∙ whole
+pub summary-counted : RoundsKeepLimit → (scenario : Scenario) (later : Summary) → IsScenario scenario → CountsLines (run_lines (start_of scenario) scenario.steps) nothing_counted later → later ≡ summary_of scenario
+summary-counted keeps scenario later is counts =
+    let whole = counted-whole scenario in counts.counted (subst Fits (sym whole) (summary-fits keeps scenario is)) ∙ whole
 
 -- a line that isn't counted
 pub other-line : (counted : Summary) (line : Line) → ((round slot pc : ℕ) (epc : Bor (List ℕ)) → line ≡ lines.List round slot pc epc → ⊥)

@@ -1,30 +1,9 @@
 -- The one round of a run in which nothing is said of any exchange.
-use Rattle.std.proofs.Common.{◌≡◌, ℕ, suc, ◌+◌, ◌≤◌, ◌<◌, List, [], ◌∷◌, ◌++◌, length, map, refl, sym, ◌∙◌, ap, subst, arith}
-use Rattle.std.proofs.lemmas.List.{length-map}
-use Rattle.std.proofs.lemmas.List.Elements.{All-nil}
-use Rattle.std.proofs.lemmas.Option.{slice_get_within}
-use Rattle.std.specs.List.{AllByRecursion, AllZip}
-use Rattle.air_channel.specs.Air.{AirValue, last_exchange}
-use Rattle.air_events.specs.Cursor.{AreEntriesLeft}
-use Rattle.air_events.specs.declared.Entry.{Entry}
+use Rattle.air_world.proofs.Names.{◌≡◌, ℕ, suc, ◌+◌, ◌≤◌, ◌<◌, List, ◌∷◌, ◌++◌, length, map, refl, sym, ◌∙◌, ap, subst, arith, [], AirValue, last_exchange, AreEntriesLeft, Entry, Start, Item, befell, exchanged, operated, ended, rounds_in, tags_behind, RunValue, RunIsAt, IsEndedBy, SpecValue, IsLegalSpec, RoundEnd, RoundsKeepLimit, round-holds, PlayedRound, number_of, past_behind_played, past_behind_round, listed_by, listing_of, GoesByTags, pair_listed, pairs_listed_by, pairs_since, played_of, round_ended, rounds_told, pairs_in, no_operations, length-map, map-append, All-nil, slice_get_within, AllByRecursion, AllZip, TagValue, AreLegalTags}
 use Rattle.air_events.specs.declared.Several.TheVariants as severals
-use Rattle.air_model.specs.Past.{Start, Item, befell, exchanged, operated, ended, rounds_in, tags_behind}
 use Rattle.air_world.proofs.Beginning.{tags-before}
 use Rattle.air_world.proofs.Rounds.{rounds-slot}
-use Rattle.air_world.specs.Playing.{RunValue, RunIsAt, IsEndedBy}
-use Rattle.q_round.specs.SpecValue.{SpecValue, IsLegalSpec}
-use Rattle.q_round.specs.declared.round.RoundEnd.{RoundEnd}
 use Rattle.runs.proofs.Totals.{few-once}
-use Rattle.runs.specs.History.{past_behind_round}
-use Rattle.runs.specs.Listing.{listed_by, listing_of}
-use Rattle.runs.specs.RoundsTold.{GoesByTags, pair_listed, pairs_listed_by, pairs_since, played_of, round_ended, rounds_told}
-use Rattle.runs.specs.Summary.{pairs_in}
-use Rattle.runs.proofs.Growth.{RoundsKeepLimit, round-holds}
-use Rattle.runs.proofs.PlayedRounds.{PlayedRound, number_of, past_behind_played}
-use Rattle.scenario.specs.Limits.{no_operations}
-use Rattle.std.proofs.lemmas.List.{map-append}
-use Rattle.tag_machine.specs.TagsInExchange.{AreLegalTags}
-use Rattle.tag_machine.specs.TagValue.{TagValue}
 use Rattle.two_portals.specs.Played.{IsPairOf, ListsItsTags, Played, pc_and_epc_of}
 
 -- the run of a round that is played over this air

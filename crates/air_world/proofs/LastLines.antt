@@ -1,8 +1,5 @@
 -- The lines behind those of the steps, one after another.
-use Rattle.std.proofs.Common.{◌≡◌, ℕ, zero, suc, ◌+◌, List, [], ◌∷◌, ◌++◌, take, Some, sym, ◌∙◌, ap, arith, slice_get}
-use Rattle.report_lines.specs.ReportLine.{ReportLine, TagLine}
-use Rattle.runs.specs.Report.{tag_lines}
-use Rattle.tag_machine.specs.TagValue.{TagValue}
+use Rattle.air_world.proofs.Names.{◌≡◌, ℕ, zero, suc, ◌+◌, List, ◌∷◌, ◌++◌, take, Some, sym, ◌∙◌, ap, arith, slice_get, [], ReportLine, TagLine, tag_lines, TagValue}
 
 tags-more : (tags : List TagValue) (from number : ℕ) (tag : TagValue) → slice_get tags number ≡ Some tag
     → tag_lines from (take (suc number) tags) ≡ tag_lines from (take number tags) ++ TagLine (from + number) tag ∷ []

@@ -14,3 +14,4 @@ pub mod Slots
 pub mod Steps
 pub mod Written
 pub mod Halls
+pub mod Names

@@ -1,26 +1,8 @@
 -- What the lines of a past list.
-use Rattle.std.specs.Borrow.{Bor}
-use Rattle.std.proofs.Common.{◌≡◌, ◌⊎◌, inl, inr, ℕ, ◌+◌, ◌≤◌, Bool, true, false, List, [], ◌∷◌, ◌++◌, length, map, Option, Some, None, refl, sym, ◌∙◌, ap, subst, arith, append_assoc, length-append}
-use Rattle.std.proofs.lemmas.List.{append-nil, map-append}
-use Rattle.air_model.specs.Past.{Start, Record, Item, befell, exchanged, operated, ended, exchanges_in}
-use Rattle.air_world.specs.Listing.{HearsPairs, first_fault_of, pair_told, pairs_told}
-use Rattle.air_world.specs.Telling.{lines_to_tell}
-use Rattle.pie_line.specs.Link.{LinkValue}
-use Rattle.reply_grammar.specs.Reception.{Reception, no_stream, whole_reply, no_such_reply}
+use Rattle.std.proofs.lemmas.List.{append-nil}
+use Rattle.air_world.proofs.Names.{◌≡◌, ◌⊎◌, inl, inr, ℕ, ◌+◌, ◌≤◌, Bool, true, false, List, ◌∷◌, ◌++◌, length, map, Option, Some, None, refl, sym, ◌∙◌, ap, subst, arith, append_assoc, length-append, [], Start, Record, Item, befell, exchanged, operated, ended, exchanges_in, HearsPairs, first_fault_of, pair_told, pairs_told, lines_to_tell, ItemList, LinkValue, Reception, no_stream, whole_reply, no_such_reply, line_of, is_of_exchanges, is_of_trace, ReportLine, BlfLine, ExchangeLine, MissedLine, AnswerLine, TxLine, RxLine, GivenLine, OpLine, RoundLine, Line, PlayFault, OutOfMemory, Listed, reception_of_ack, listed_by, listed_from, listing_of, exchange_lines, item_lines, list_line, wave_lines, pair_listed, answer_line, exchanged_by, said_lines, pairs_in, map-append, Bor}
 use Rattle.reply_grammar.specs.declared.expected.Reply.TheVariants as replies
-use Rattle.bounded_list.specs.ItemList.{ItemList}
-use Rattle.report_lines.specs.ModeLines.{is_of_exchanges, is_of_trace}
-use Rattle.report_lines.specs.Line.{line_of}
-use Rattle.report_lines.specs.declared.line.Line.{Line}
 use Rattle.report_lines.specs.declared.line.Line.TheVariants as told
-use Rattle.report_lines.specs.ReportLine.{ReportLine, BlfLine, ExchangeLine, MissedLine, AnswerLine, TxLine, RxLine, GivenLine, OpLine, RoundLine}
-use Rattle.report_lines.specs.declared.mode.PlayFault.{PlayFault}
-use Rattle.report_lines.specs.declared.mode.PlayFault.TheVariants.{OutOfMemory}
-use Rattle.runs.specs.Listing.{Listed, reception_of_ack, listed_by, listed_from, listing_of}
-use Rattle.runs.specs.Report.{exchange_lines, item_lines, list_line, wave_lines}
-use Rattle.runs.specs.RoundsTold.{pair_listed}
-use Rattle.runs.specs.Said.{answer_line, exchanged_by, said_lines}
-use Rattle.runs.specs.Summary.{pairs_in}
 
 -- what lines list, and lines behind them
 pub pairs-append : (lines more : List ReportLine) → pairs_told (lines ++ more) ≡ pairs_told lines ++ pairs_told more
@@ -49,7 +31,7 @@ frame-untold (RxLine exchange count levels) is = refl
 frame-untold line is = absurd (cc)
 
 -- nor does any line but one that lists a tag
-line-untold : (line : Line) → ((round slot pc : ℕ) (epc : Bor (List ℕ)) → line ≡ told.List round slot pc epc → ⊥) → pair_told (line_of line) ≡ []
+pub line-untold : (line : Line) → ((round slot pc : ℕ) (epc : Bor (List ℕ)) → line ≡ told.List round slot pc epc → ⊥) → pair_told (line_of line) ≡ []
 line-untold (told.Blf numerator denominator) other = refl
 line-untold (told.Exchange exchange command) other = refl
 line-untold (told.Missed exchange missed) other = refl
@@ -150,8 +132,3 @@ hears-then lines more first old new before behind =
 pub hears-skipped : (lines : List ReportLine) (line : ReportLine) (first now : ItemList (ℕ × List ℕ)) → pair_told line ≡ [] → HearsPairs lines first now → HearsPairs (lines ++ line ∷ []) first now
 hears-skipped lines line first now none heard =
     subst (λ (pairs : List (ℕ × List ℕ)). length first.items + length pairs ≤ first.capacity → now ≡ record first { items = first.items ++ pairs }) (sym (pairs-skipped lines line none)) heard
-
-pub hears-other : (line : Line) (list : ItemList (ℕ × List ℕ)) → ((round slot pc : ℕ) (epc : Bor (List ℕ)) → line ≡ told.List round slot pc epc → ⊥) → HearsPairs (line_of line ∷ []) list list
-hears-other line list other =
-    λ room. ap (λ (items : List (ℕ × List ℕ)). record list { items = items })
-    (sym (append-nil list.items) ∙ ap (λ (pairs : List (ℕ × List ℕ)). list.items ++ pairs) (sym (pairs-other [] line other)))

@@ -1,23 +1,10 @@
 -- The moves of a dialogue with a tag, one after another.
-use Rattle.std.proofs.Common.{◌≡◌, ℕ, ◌+◌, ◌≤◌, ◌*◌, ◌-◌, List, [], ◌∷◌, length, Bool, Option, Some, None, refl, sym, ◌∙◌, ap, subst, arith}
+use Rattle.air_world.proofs.Names.{◌≡◌, ℕ, ◌+◌, ◌≤◌, ◌*◌, ◌-◌, List, ◌∷◌, length, Bool, Option, Some, None, refl, sym, ◌∙◌, ap, subst, arith, [], OpRunValue, OpRunStandsFor, IsNextOperation, last_answer, turns_in, turns_left, Dialogue, sends, done, dialogue_of, Move, answered, told, reception_in, dialogue_behind, dialogue_after, IsAnswerFor, OpList, Expects, AirValue, Item, operated, past_behind_command, exchanges_in, Begun, RunValue, StandsAt, Command, Reception, Expect, ReportLine, SlotOfRun, operation_reception, past_behind_dialogue}
 use Rattle.access_ops.proofs.DialogueLaws.{AwaitsReplies, SendsAtMost, dialogues-await, dialogues-are-few, first-sends, first-tells, first-done}
-use Rattle.access_ops.specs.laws.OperationLaws.{Expects}
-use Rattle.access_ops.specs.Operations.{Dialogue, sends, done, dialogue_of, Move, answered, told, reception_in, dialogue_behind, dialogue_after, IsAnswerFor}
-use Rattle.access_ops.specs.OpRunValue.{OpRunValue, OpRunStandsFor, IsNextOperation, last_answer, turns_in, turns_left}
-use Rattle.access_ops.specs.declared.OpList.{OpList}
 use Rattle.access_ops.specs.declared.op_next.Answer.{Answer}
 use Rattle.access_ops.specs.declared.op_next.OpNext.{OpNext}
 use Rattle.access_ops.specs.declared.op_next.OpNext.TheVariants as nexts
 use Rattle.access_ops.specs.declared.op_next.OpResult.{OpResult}
-use Rattle.air_channel.specs.Air.{AirValue}
-use Rattle.air_model.specs.Past.{Item, operated, past_behind_command, exchanges_in}
-use Rattle.air_world.specs.Playing.{Begun, RunValue, StandsAt}
-use Rattle.command_grammar.specs.declared.commands.Command.{Command}
-use Rattle.reply_grammar.specs.Reception.{Reception}
-use Rattle.reply_grammar.specs.declared.expected.Expect.{Expect}
-use Rattle.report_lines.specs.ReportLine.{ReportLine}
-use Rattle.runs.proofs.PlayedRounds.{SlotOfRun}
-use Rattle.runs.specs.History.{operation_reception, past_behind_dialogue}
 
 -- the operations of a round with a tag that sent this EPC, and this RN16 before it, in a slot, and what was past before them
 pub record TagOperations : Type 0 where

@@ -1,16 +1,6 @@
 -- What is told one after another, and what was heard where a run is cut off.
-use Rattle.std.proofs.Common.{◌≡◌, ℕ, ◌≤◌, List, [], ◌∷◌, ◌++◌, Option, Some, Result, Ok, Err, sym, ◌∙◌, ap, subst, arith, append_assoc}
 use Rattle.std.proofs.lemmas.List.{append-nil}
-use Rattle.std.specs.Result.{IfErr, IsErrAnd}
-use Rattle.air_channel.specs.Air.{AirValue}
-use Rattle.air_events.specs.Cursor.{AreEntriesLeft}
-use Rattle.air_model.specs.Past.{Item, exchanges_in, rounds_in, tags_behind}
-use Rattle.air_world.specs.Playing.{Begun, IsUnderway, RunValue, StandsAt, StandsOrFails, counted_on}
-use Rattle.air_world.specs.Telling.{EndsOrFails, IsCut, IsCutOff, Tells, lines_to_tell}
-use Rattle.report_lines.specs.ReportLine.{ReportLine}
-use Rattle.report_lines.specs.declared.mode.PlayFault.{PlayFault}
-use Rattle.runs.proofs.Growth.{Grows, added_lines, past_lines-more}
-use Rattle.runs.specs.Report.{item_lines}
+use Rattle.air_world.proofs.Names.{◌≡◌, ℕ, ◌≤◌, List, ◌∷◌, ◌++◌, Option, Some, Result, Ok, Err, sym, ◌∙◌, ap, subst, arith, append_assoc, [], AirValue, AreEntriesLeft, Item, exchanges_in, rounds_in, tags_behind, Begun, IsUnderway, RunValue, StandsAt, StandsOrFails, counted_on, EndsOrFails, IsCut, IsCutOff, Tells, lines_to_tell, ReportLine, PlayFault, Grows, added_lines, past_lines-more, item_lines, IfErr, IsErrAnd}
 
 -- fewer exchanges more fit as well
 pub underway-fewer : {A : Type 0} {hears : A → List ReportLine → A → Type 0} {more : ℕ} {air : AirValue} {run : RunValue} {report : A} (few : ℕ) → few ≤ more → IsUnderway hears more air run report

@@ -1,31 +1,15 @@
 -- The slots of a round, one after another.
-use Rattle.std.proofs.Common.{◌≡◌, ℕ, zero, suc, ◌+◌, ◌*◌, ◌≤◌, false, Option, Some, List, [], ◌∷◌, length, refl, sym, ◌∙◌, ap, subst, arith}
-use Rattle.access_ops.specs.declared.OpList.{OpList}
-use Rattle.air_channel.specs.Air.{AirValue}
-use Rattle.air_model.specs.Past.{Start, Item, ended, past_behind_command, exchanges_in, rounds_in}
-use Rattle.air_world.specs.Playing.{Begun, RunValue, StandsAt, most_in_slot}
-use Rattle.command_grammar.specs.declared.commands.Command.{Command}
+use Rattle.air_world.proofs.Names.{◌≡◌, ℕ, zero, suc, ◌+◌, ◌*◌, ◌≤◌, false, Option, Some, List, ◌∷◌, length, refl, sym, ◌∙◌, ap, subst, arith, [], OpList, AirValue, Start, Item, ended, past_behind_command, exchanges_in, rounds_in, Begun, RunValue, StandsAt, most_in_slot, Command, LinkValue, AreOutcomes, Turn, next_of_turn, is_over, slots_of, next_command, turn_of, SpecValue, RoundEnd, ReportLine, Grows, answer-keeps, turns-grow, slot-exchanges, PlayedRound, past_behind_played, most_operating, outcome_of, slot_reception, past_behind_slot, past_behind_turn, past_behind_turns, expectation_of}
 use Rattle.command_grammar.specs.declared.commands.Command.TheVariants as commands
-use Rattle.pie_line.specs.Link.{LinkValue}
 use Rattle.reply_grammar.specs.declared.expected.Expect.TheVariants as expects
-use Rattle.runs.specs.NextItem.{expectation_of}
 use Rattle.q_round.proofs.SlotLaws.{slots-underway}
-use Rattle.q_round.specs.Rounds.{AreOutcomes, Turn, next_of_turn, is_over, slots_of, next_command, turn_of}
 use Rattle.q_round.specs.Rounds as turns
 use Rattle.q_round.specs.NextAnswer.{next_of}
 use Rattle.q_round.specs.RoundValue.{RoundValue, RoundStandsFor, IsNextAnswer}
-use Rattle.q_round.specs.SpecValue.{SpecValue}
 use Rattle.q_round.specs.declared.frame.Outcome.{Outcome}
 use Rattle.q_round.specs.declared.round.Next.{Next}
 use Rattle.q_round.specs.declared.round.Next.TheVariants as nexts
-use Rattle.q_round.specs.declared.round.RoundEnd.{RoundEnd}
 use Rattle.q_round.specs.declared.round.RoundEnd.TheVariants as ends
-use Rattle.report_lines.specs.ReportLine.{ReportLine}
-use Rattle.runs.proofs.Growth.{Grows, answer-keeps, turns-grow}
-use Rattle.runs.proofs.PlayedRounds.{PlayedRound, past_behind_played}
-use Rattle.runs.proofs.HeadlineCounts.{slot-exchanges}
-use Rattle.runs.specs.Headline.{most_operating}
-use Rattle.runs.specs.History.{outcome_of, slot_reception, past_behind_slot, past_behind_turn, past_behind_turns}
 
 -- how far a round has come that is played: its number, the slots that were sent, and the slot command that comes next
 pub record RoundSoFar : Type 0 where

@@ -1,41 +1,24 @@
 -- Who said what in an exchange, told or left out.
-use Rattle.std.proofs.Common.{◌≡◌, ◌≢◌, ◌<◌, ◌≤◌, ◌%◌, ◌==◌, ◌⊎◌, inl, inr, ℕ, zero, suc, ◌+◌, Bool, true, false, Option, Some, None, eq-eqb, List, [], ◌∷◌, ◌++◌, length, map, take, refl, sym, ◌∙◌, ap, arith, subst, append_assoc, append-nil, slice_get}
 use Rattle.std.proofs.lemmas.Bool.{eqb-true}
-use Rattle.std.proofs.lemmas.List.{length-map}
-use Rattle.std.proofs.lemmas.Option.{slice_get-map}
-use Rattle.std.specs.List.{AllByRecursion}
-use Rattle.std.specs.Option.{option_map}
-use Rattle.air_model.specs.Channel.{Given, silence, whole, broken, raw, got_of, levels_of}
-use Rattle.air_model.specs.Past.{Record}
+use Rattle.air_world.proofs.Names.{◌≡◌, ◌≢◌, ◌<◌, ◌≤◌, ◌%◌, ◌==◌, ◌⊎◌, inl, inr, ℕ, zero, suc, ◌+◌, Bool, true, false, Option, Some, None, eq-eqb, List, ◌∷◌, ◌++◌, length, map, take, refl, sym, ◌∙◌, ap, arith, subst, append_assoc, append-nil, slice_get, [], Given, silence, whole, broken, raw, got_of, levels_of, Record, AreShort, IsOneOf, Tells, LinkValue, longest_reply, is_of_exchanges, ReportLine, MissedLine, answer_line, gave_of, said_lines, AreReplies, length-map, slice_get-map, AllByRecursion, option_map, Sent, Replied, AnswerValue, answer_of, answers_of, answer_value_of}
 use Rattle.air_model.specs.declared.got.Got.TheVariants as gots
 use Rattle.air_world.proofs.Passing.{tells-same, tells-then}
 use Rattle.air_world.proofs.Places.{some-at, map-more}
-use Rattle.air_world.specs.Saying.{AreShort, IsOneOf}
-use Rattle.air_world.specs.Telling.{Tells}
-use Rattle.pie_line.specs.Link.{LinkValue}
-use Rattle.reply_grammar.specs.Replies.{longest_reply}
 use Rattle.reply_grammar.specs.declared.expected.Reply.{Reply}
-use Rattle.report_lines.specs.ModeLines.{is_of_exchanges}
-use Rattle.report_lines.specs.ReportLine.{ReportLine, MissedLine}
-use Rattle.runs.specs.Said.{answer_line, gave_of, said_lines}
-use Rattle.runs.specs.laws.Replies.{AreReplies}
-use Rattle.tag_machine.specs.Answers.{Sent}
-use Rattle.tag_machine.specs.TagsInExchange.{Replied}
-use Rattle.tag_population.specs.Answers.{AnswerValue, answer_of, answers_of, answer_value_of}
 use Rattle.tag_population.specs.declared.answers.Answer.{Answer}
 use Rattle.wave_dump.specs.declared.exchanged.Gave.TheVariants as gaves
 
--- what holds of each reply holds of the one at a place
-pub reply-at : (P : Sent → Type 0) (replies : List Replied) (place : ℕ) (replied : Replied) → AreReplies P replies → slice_get replies place ≡ Some replied → P replied.sent
-reply-at P [] place replied all found = absurd (cc)
-reply-at P (first ∷ others) zero replied all found = let same : first ≡ replied = cc in subst (λ (r : Replied). P r.sent) same all.0
-reply-at P (first ∷ others) (suc place) replied all found = reply-at P others place replied all.1 found
+-- what holds of each item holds of the one at a place
+at-place : {A : Type 0} (P : A → Type 0) (items : List A) (place : ℕ) (item : A) → AllByRecursion P items → slice_get items place ≡ Some item → P item
+at-place P [] place item all found = absurd (cc)
+at-place P (first ∷ others) zero item all found = let same : first ≡ item = cc in subst P same all.0
+at-place P (first ∷ others) (suc place) item all found = at-place P others place item all.1 found
 
--- ... and so does what is short
+pub reply-at : (P : Sent → Type 0) (replies : List Replied) (place : ℕ) (replied : Replied) → AreReplies P replies → slice_get replies place ≡ Some replied → P replied.sent
+reply-at P replies place replied all found = at-place (λ (r : Replied). P r.sent) replies place replied all found
+
 pub short-at : (answers : List AnswerValue) (place : ℕ) (answer : AnswerValue) → AreShort answers → slice_get answers place ≡ Some answer → length answer.bits ≤ longest_reply
-short-at [] place answer short found = absurd (cc)
-short-at (first ∷ others) zero answer short found = let same : first ≡ answer = cc in subst (λ (a : AnswerValue). length a.bits ≤ longest_reply) same short.0
-short-at (first ∷ others) (suc place) answer short found = short-at others place answer short.1 found
+short-at answers place answer short found = at-place (λ (a : AnswerValue). length a.bits ≤ longest_reply) answers place answer short found
 
 -- the answer at the place of a reply
 pub answer-at : (answers : List AnswerValue) (replies : List Replied) (place : ℕ) (replied : Replied) → answers ≡ answers_of replies → slice_get replies place ≡ Some replied

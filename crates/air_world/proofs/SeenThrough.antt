@@ -1,16 +1,7 @@
 -- What is told to a listener that counts for another is told to that one.
-use Rattle.std.proofs.Common.{◌≡◌, false, List, [], Option, refl}
+use Rattle.air_world.proofs.Names.{◌≡◌, false, List, Option, refl, [], first_fault_of, pairs_told, IsCutOff, IsCutShort, lines_to_tell, SeenListener, ReportLine, seen_counts, PlayFault, last_lines, run_lines, history, start_of, Scenario}
 use Rattle.air_world.proofs.Listings.{fault-cause}
 use Rattle.air_world.proofs.Passing.{cut-longer}
-use Rattle.air_world.specs.Listing.{first_fault_of, pairs_told}
-use Rattle.air_world.specs.Telling.{IsCutOff, IsCutShort, lines_to_tell}
-use Rattle.air_world.specs.declared.seen_listener.SeenListener.{SeenListener}
-use Rattle.report_lines.specs.ReportLine.{ReportLine}
-use Rattle.report_lines.specs.SeenCounts.{seen_counts}
-use Rattle.report_lines.specs.declared.mode.PlayFault.{PlayFault}
-use Rattle.runs.specs.Report.{last_lines, run_lines}
-use Rattle.runs.specs.ScenarioStart.{history, start_of}
-use Rattle.scenario.specs.declared.values.Scenario.{Scenario}
 
 -- what it hears
 abbrev pub HearsSeen : {A : Type 0} → (A → List ReportLine → A → Type 0) → SeenListener A → List ReportLine → SeenListener A → Type 0

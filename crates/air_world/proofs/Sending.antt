@@ -1,36 +1,14 @@
 -- What an exchange makes of the air and the run.
-use Rattle.std.proofs.Common.{◌≡◌, ℕ, zero, suc, ◌+◌, ◌≤◌, List, [], ◌∷◌, ◌++◌, length, Option, Some, None, refl, sym, ◌∙◌, ap, subst, arith, slice_get}
-use Rattle.air_channel.specs.Air.{AirValue, NamesTags, air_after, next_exchange}
-use Rattle.air_events.specs.Cursor.{AreEntriesLeft}
-use Rattle.air_events.specs.Entries.{entry_at}
-use Rattle.air_events.specs.declared.Choice.{Choice}
+use Rattle.air_world.proofs.Names.{◌≡◌, ℕ, zero, suc, ◌+◌, ◌≤◌, List, ◌∷◌, ◌++◌, length, Option, Some, None, refl, sym, ◌∙◌, ap, subst, arith, slice_get, [], AirValue, NamesTags, air_after, next_exchange, AreEntriesLeft, entry_at, Choice, Entry, few_words, HasFewLevels, given_in, given_of, got_of, heard_levels, wave_for, whole_or_silence, Start, Record, Item, next_entry, next_record, past_behind_command, exchanges_in, tags_behind, Got, RunValue, IsHeard, RunIsAt, counted_on, AnswersCommand, AreOfDifferentTags, AreShort, IsBehind, IsOneOf, Command, LinkValue, AnswersExpected, Carries, Expect, tags-exchanged, length-tags, AnswersSo, AreReplies, StaysLegal, replies-in-answered, IsSomeAnd, Outcome, Sent, bits_sent, BodyValue, IsLegalTag, StateValue, TagValue, AreLegalTags, Replied, outcomes_in, replies_from, replies_in, reply_of, tags_after, expect_of, answers_of}
 use Rattle.air_events.specs.declared.Choice.TheVariants as choices
-use Rattle.air_events.specs.declared.Entry.{Entry}
-use Rattle.air_events.specs.declared.Several.{Several}
 use Rattle.air_events.specs.declared.Several.TheVariants as severals
-use Rattle.air_model.specs.Channel.{HasFewLevels, given_in, given_of, got_of, heard_levels, wave_for, whole_or_silence}
-use Rattle.air_model.specs.Past.{Start, Record, Item, next_entry, next_record, past_behind_command, exchanges_in, tags_behind}
-use Rattle.air_model.specs.declared.got.Got.{Got}
+use Rattle.tag_machine.specs.Answers.{IsSent}
+use Rattle.air_events.specs.declared.Several.{Several}
 use Rattle.air_model.proofs.GivenLaws.{given_is_read}
-use Rattle.air_model.proofs.ReceptionLaws.{few_words}
 use Rattle.air_world.proofs.Slots.{dialogue-heard, inventory-heard}
-use Rattle.air_world.specs.Playing.{RunValue, IsHeard, RunIsAt, counted_on}
-use Rattle.air_world.specs.Saying.{AnswersCommand, AreOfDifferentTags, AreShort, IsBehind, IsOneOf}
-use Rattle.command_grammar.specs.declared.commands.Command.{Command}
-use Rattle.pie_line.specs.Link.{LinkValue}
-use Rattle.reply_grammar.specs.Replies.{AnswersExpected, Carries}
-use Rattle.reply_grammar.specs.declared.expected.Expect.{Expect}
 use Rattle.reply_grammar.proofs.Suiting.{spelling-within}
 use Rattle.runs.proofs.Answering.{SendsInRange, TagLaws, given-in-expected, given-unmistakable}
-use Rattle.runs.specs.laws.Replies.{AnswersSo, AreReplies, StaysLegal, replies-in-answered}
-use Rattle.runs.proofs.Tags.{tags-exchanged, length-tags}
-use Rattle.std.specs.Option.{IsSomeAnd}
-use Rattle.tag_machine.specs.Answers.{IsSent, Outcome, Sent, bits_sent}
-use Rattle.tag_machine.specs.TagsInExchange.{AreLegalTags, Replied, outcomes_in, replies_from, replies_in, reply_of, tags_after}
 use Rattle.tag_machine.specs.Step.{step}
-use Rattle.tag_machine.specs.TagValue.{BodyValue, IsLegalTag, StateValue, TagValue}
-use Rattle.tag_machine.specs.laws.Replies.{expect_of}
-use Rattle.tag_population.specs.Answers.{answers_of}
 
 -- the entry of the next exchange names tags that there are ..
 pub entry-names : {start : Start} {earlier : ℕ} {past : List Item} {air : AirValue} {run : RunValue} (entry : Entry) → RunIsAt start earlier past air run

@@ -1,37 +1,17 @@
 -- What the exchanges of a slot make of a run.
-use Rattle.std.proofs.Common.{◌≡◌, ◌≢◌, ℕ, ◌+◌, ◌||◌, Bool, false, List, [], ◌∷◌, ◌++◌, map, Option, Some, None, refl, sym, ◌∙◌, ap, subst, arith, append_assoc}
 use Rattle.std.proofs.lemmas.List.{append-nil}
-use Rattle.access_ops.specs.Operations.{Dialogue, IsAnswerFor, dialogue_of, done}
-use Rattle.access_ops.specs.declared.OpList.{OpList}
-use Rattle.access_ops.specs.declared.op_next.Answer.TheVariants.{Got}
-use Rattle.air_channel.specs.Air.{AirValue}
-use Rattle.air_model.specs.Channel.{IsReadBy, heard_levels}
-use Rattle.air_model.specs.Past.{Start, Record, Item, exchanged, past_behind_command}
-use Rattle.air_model.specs.Reception.{HoldsOfSent, IsGivenFor, IsUnmistakable, reception_of, reception_with}
-use Rattle.air_model.specs.declared.got.Got.{Got as Gave}
+use Rattle.air_world.proofs.Names.{◌≡◌, ◌≢◌, ℕ, ◌+◌, ◌||◌, Bool, false, List, ◌∷◌, ◌++◌, map, Option, Some, None, refl, sym, ◌∙◌, ap, subst, arith, append_assoc, [], Dialogue, IsAnswerFor, dialogue_of, done, OpList, AirValue, awaited_reception, stream_reception, IsReadBy, heard_levels, Start, Record, Item, exchanged, past_behind_command, Gave, Begun, HasRoomForExchanges, IsSent, RunIsAt, RunValue, StandsAt, IsBehind, Tells, lines_to_tell, Command, LinkValue, Reception, reception_from, no_stream, whole_reply, no_such_reply, Expect, pair_received, rn16_received, ReportLine, ack_reception, dialogue_begun, past_behind_ack, past_behind_answer, past_behind_dialogue, past_behind_slot, slot_reception, Listed, reception_of_ack, listed_from, listed_by, exchange_lines, list_line}
 use Rattle.air_model.specs.declared.got.Got.TheVariants as gots
-use Rattle.air_model.proofs.AwaitedLaws.{awaited_reception}
-use Rattle.air_model.proofs.ReceptionLaws.{stream_reception}
-use Rattle.air_world.specs.Playing.{Begun, HasRoomForExchanges, IsSent, RunIsAt, RunValue, StandsAt}
-use Rattle.air_world.specs.Saying.{IsBehind}
-use Rattle.air_world.specs.Telling.{Tells, lines_to_tell}
-use Rattle.command_grammar.specs.declared.commands.Command.{Command}
 use Rattle.command_grammar.specs.declared.commands.Command.TheVariants as commands
+use Rattle.reply_grammar.specs.declared.expected.Expect.TheVariants as expects
+use Rattle.reply_grammar.specs.declared.expected.Reply.TheVariants as replies
+use Rattle.access_ops.specs.declared.op_next.Answer.TheVariants.{Got}
+use Rattle.air_model.specs.Reception.{HoldsOfSent, IsGivenFor, IsUnmistakable, reception_of, reception_with}
 use Rattle.line_code.specs.Table.{Table}
 use Rattle.line_codes.specs.Codes.{table_of}
-use Rattle.pie_line.specs.Link.{LinkValue}
-use Rattle.reply_grammar.specs.Reception.{Reception, reception_from, no_stream, whole_reply, no_such_reply}
-use Rattle.reply_grammar.specs.declared.expected.Expect.{Expect}
-use Rattle.reply_grammar.specs.declared.expected.Expect.TheVariants as expects
 use Rattle.reply_grammar.specs.declared.expected.Received.{Received}
 use Rattle.reply_grammar.specs.declared.expected.Received.TheVariants as receiveds
-use Rattle.reply_grammar.specs.declared.expected.Reply.TheVariants as replies
-use Rattle.reply_wire.specs.Heard.{pair_received, rn16_received}
 use Rattle.reply_wire.specs.Received.{IsReceived}
-use Rattle.report_lines.specs.ReportLine.{ReportLine}
-use Rattle.runs.specs.History.{ack_reception, dialogue_begun, past_behind_ack, past_behind_answer, past_behind_dialogue, past_behind_slot, slot_reception}
-use Rattle.runs.specs.Listing.{Listed, reception_of_ack, listed_from, listed_by}
-use Rattle.runs.specs.Report.{exchange_lines, list_line}
 
 -- what is heard of levels that came, where this is expected
 pub received-answer : (t : Table) (trext : Bool) (expect : Expect) (levels : List Bool) (received : Received) → IsReceived t trext expect levels received → IsAnswerFor expect (Got received)
@@ -121,39 +101,26 @@ pub other-unlisted : (sent : Record) (reception : Reception) → pair_received r
 other-unlisted sent (whole_reply (replies.Epc pc epc)) is = absurd (cc)
 other-unlisted sent reception is = refl
 
--- what is past behind a slot without an ACK
-pub slot-without : (start : Start) (operations : OpList) (round slot : ℕ) (command : Command) (past : List Item) (reception : Reception) → reception ≡ slot_reception start round slot command past
-    → past_behind_answer start operations round slot reception (past_behind_command start round slot command past) ≡ past_behind_command start round slot command past
-    → past_behind_slot start operations round slot command past ≡ past_behind_command start round slot command past
-slot-without start operations round slot command past reception is none =
-    ap (λ (r : Reception). past_behind_answer start operations round slot r (past_behind_command start round slot command past)) (sym is) ∙ none
-
--- ... and of a slot with one
-pub slot-with : (start : Start) (operations : OpList) (round slot : ℕ) (command : Command) (past : List Item) (rn : ℕ) → whole_reply (replies.Rn16 rn) ≡ slot_reception start round slot command past
-    → past_behind_slot start operations round slot command past ≡ past_behind_ack start operations round slot rn (past_behind_command start round slot command past)
-slot-with start operations round slot command past rn is =
+-- what is past behind a slot, by what its slot command brought
+pub slot-behind : {reception : Reception} (start : Start) (operations : OpList) (round slot : ℕ) (command : Command) (past : List Item) → reception ≡ slot_reception start round slot command past
+    → past_behind_slot start operations round slot command past ≡ past_behind_answer start operations round slot reception (past_behind_command start round slot command past)
+slot-behind start operations round slot command past is =
     ap (λ (r : Reception). past_behind_answer start operations round slot r (past_behind_command start round slot command past)) (sym is)
 
 -- what is done behind an ACK that brought no EPC
-other-begun : (operations : OpList) (rn : ℕ) (reception : Reception) → pair_received reception ≡ None → dialogue_begun operations rn reception ≡ done
+pub other-begun : (operations : OpList) (rn : ℕ) (reception : Reception) → pair_received reception ≡ None → dialogue_begun operations rn reception ≡ done
 other-begun operations rn (whole_reply (replies.Epc pc epc)) is = absurd (cc)
 other-begun operations rn reception is = refl
 
 -- ... and behind one that brought an EPC
-whole-begun : (operations : OpList) (rn : ℕ) (reception : Reception) (pair : ℕ × List ℕ) → pair_received reception ≡ Some pair → dialogue_begun operations rn reception ≡ dialogue_of operations pair.1 rn
+pub whole-begun : (operations : OpList) (rn : ℕ) (reception : Reception) (pair : ℕ × List ℕ) → pair_received reception ≡ Some pair → dialogue_begun operations rn reception ≡ dialogue_of operations pair.1 rn
 whole-begun operations rn (whole_reply (replies.Epc pc epc)) pair is = let same : (pc, epc) ≡ pair = cc in ap (λ (p : ℕ × List ℕ). dialogue_of operations p.1 rn) same
 whole-begun operations rn reception pair is = absurd (cc)
 
--- the past behind an ACK
-pub ack-without : (start : Start) (operations : OpList) (round slot rn : ℕ) (past : List Item) → pair_received (ack_reception start round slot rn past) ≡ None
-    → past_behind_ack start operations round slot rn past ≡ past_behind_command start round slot (commands.Ack rn) past
-ack-without start operations round slot rn past none =
-    ap (λ (d : Dialogue). past_behind_dialogue start round slot 1 d (past_behind_command start round slot (commands.Ack rn) past)) (other-begun operations rn (ack_reception start round slot rn past) none)
-
-pub ack-with : (start : Start) (operations : OpList) (round slot rn : ℕ) (past : List Item) (pair : ℕ × List ℕ) → pair_received (ack_reception start round slot rn past) ≡ Some pair
-    → past_behind_ack start operations round slot rn past ≡ past_behind_dialogue start round slot 1 (dialogue_of operations pair.1 rn) (past_behind_command start round slot (commands.Ack rn) past)
-ack-with start operations round slot rn past pair found =
-    ap (λ (d : Dialogue). past_behind_dialogue start round slot 1 d (past_behind_command start round slot (commands.Ack rn) past)) (whole-begun operations rn (ack_reception start round slot rn past) pair found)
+-- the past behind an ACK, by what is done then
+pub ack-behind : {dialogue : Dialogue} (start : Start) (operations : OpList) (round slot rn : ℕ) (past : List Item) → dialogue_begun operations rn (ack_reception start round slot rn past) ≡ dialogue
+    → past_behind_ack start operations round slot rn past ≡ past_behind_dialogue start round slot 1 dialogue (past_behind_command start round slot (commands.Ack rn) past)
+ack-behind start operations round slot rn past is = ap (λ (d : Dialogue). past_behind_dialogue start round slot 1 d (past_behind_command start round slot (commands.Ack rn) past)) is
 
 -- room for one exchange more
 pub room-behind : (start : Start) (round slot : ℕ) (command : Command) (past : List Item) (more : ℕ) → HasRoomForExchanges (1 + more) past → HasRoomForExchanges more (past_behind_command start round slot command past)

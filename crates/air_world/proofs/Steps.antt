@@ -1,26 +1,9 @@
 -- What the steps of a run make of it.
-use Rattle.std.proofs.Common.{◌≡◌, ℕ, suc, ◌+◌, ◌*◌, ◌≤◌, ◌<◌, List, ◌∷◌, length, drop, get_or, refl, sym, ◌∙◌, ap, subst, arith}
 use Rattle.std.proofs.Math.Nat.{mul-le-mul}
-use Rattle.std.proofs.Math.Seq.{drop-cons}
 use Rattle.std.proofs.lemmas.List.{append-nil}
-use Rattle.std.proofs.lemmas.List.Elements.{All-get_or}
-use Rattle.std.specs.Prelude.{All}
-use Rattle.air_channel.specs.Air.{AirValue, air_after_event}
-use Rattle.air_events.specs.declared.Event.{Event}
-use Rattle.tag_machine.specs.TagsInExchange.{AreLegalTags}
-use Rattle.air_model.specs.Past.{Start, Item, befell, exchanges_in, rounds_in}
-use Rattle.air_world.proofs.Rounds.{rounds-slot}
-use Rattle.air_world.specs.Playing.{Begun, RunValue, RunIsAt, IsPlayable, StandsAt, most_in_round, most_in_slot, most_slots}
-use Rattle.air_world.specs.Telling.{lines_to_tell}
-use Rattle.report_lines.specs.ReportLine.{ReportLine}
-use Rattle.runs.proofs.Growth.{Grows, RoundsKeepLimit, steps-grow, round-holds}
-use Rattle.runs.proofs.HeadlineCounts.{round-exchanges}
-use Rattle.runs.proofs.HeadlineLegal.{legal-step}
-use Rattle.runs.proofs.Tags.{tags-befell, length-tags}
-use Rattle.runs.specs.Headline.{most_operating}
-use Rattle.runs.specs.History.{past_behind, past_behind_step}
-use Rattle.scenario.specs.declared.values.Step.{Step}
+use Rattle.air_world.proofs.Names.{◌≡◌, ℕ, suc, ◌+◌, ◌*◌, ◌≤◌, ◌<◌, List, ◌∷◌, length, drop, get_or, refl, sym, ◌∙◌, ap, subst, arith, All, AirValue, air_after_event, Event, Start, Item, befell, exchanges_in, rounds_in, Begun, RunValue, RunIsAt, IsPlayable, StandsAt, most_in_round, most_in_slot, most_slots, lines_to_tell, ReportLine, Grows, RoundsKeepLimit, steps-grow, round-holds, round-exchanges, legal-step, tags-befell, length-tags, most_operating, past_behind, past_behind_step, Step, drop-cons, All-get_or, AreLegalTags}
 use Rattle.scenario.specs.declared.values.Step.TheVariants as steps
+use Rattle.air_world.proofs.Rounds.{rounds-slot}
 
 -- behind an event
 pub stands-befell : {A : Type 0} {hears : A → List ReportLine → A → Type 0} {begun : Begun A} {past : List Item} {air : AirValue} {run : RunValue} {report : A} (event : Event) (number : ℕ) (next : AirValue)

@@ -1,21 +1,11 @@
 -- What is written of a run that is told to a text.
-use Rattle.std.proofs.Common.{◌≡◌, inl, inr, ℕ, List, ◌++◌, Option, Some, None, Result, Ok, Err, sym, ◌∙◌, ap, subst, append_assoc}
 use Rattle.std.proofs.lemmas.List.{append-nil}
-use Rattle.air_channel.specs.Air.{AirValue}
+use Rattle.air_world.proofs.Names.{◌≡◌, inl, inr, ℕ, List, ◌++◌, Option, Some, None, Result, Ok, Err, sym, ◌∙◌, ap, subst, append_assoc, AirValue, IsWritten, PlaysOrFails, ReportLine, IsAdded, spelling_behind, text_from, PlayFault, Write, ModeSpelling, report_text_of, run_lines, start_of, Scenario}
 use Rattle.air_io.specs.Flow.{Adds}
-use Rattle.air_world.specs.Telling.{IsWritten, PlaysOrFails}
-use Rattle.report_lines.specs.ReportLine.{ReportLine}
 use Rattle.report_lines.specs.ModeReport.{line_of_mode, mode_behind, new_spelling}
-use Rattle.report_lines.specs.TextReport.{IsAdded, spelling_behind, text_from}
 use Rattle.report_lines.proofs.SpelledLaws.{told-in-mode}
 use Rattle.report_lines.specs.laws.TextReportLaws.{text_from-append}
 use Rattle.report_lines.specs.declared.mode.Mode.{Mode}
-use Rattle.report_lines.specs.declared.mode_spelling.ModeSpelling.{ModeSpelling}
-use Rattle.report_lines.specs.declared.mode.PlayFault.{PlayFault}
-use Rattle.report_lines.specs.declared.mode.PlayFault.TheVariants.{Write}
-use Rattle.runs.specs.Report.{report_text_of, run_lines}
-use Rattle.runs.specs.ScenarioStart.{start_of}
-use Rattle.scenario.specs.declared.values.Scenario.{Scenario}
 
 -- without a fault the whole text is added
 all-added : (text : List ℕ) (first written : Option (List ℕ)) (before after : ℕ) (fault : Option PlayFault) → fault ≡ None → IsAdded text first written before after fault → Adds first written text

@@ -1,7 +1,5 @@
 //! Tags that an interrogator reads by whole rounds, on an air of their own.
-ghost use Rattle.std.specs.Prelude.{◌≡◌, ◌+◌, ◌≤◌, ◌++◌, ◌∷◌, [], length, IfOk};
-ghost use Rattle.air_world.specs.Listing.{HearsPairs};
-ghost use Rattle.report_lines.specs.Line.{line_of};
+ghost use Rattle.std.specs.Prelude.{◌≡◌, ◌+◌, ◌≤◌, ◌++◌, [], length, IfOk};
 ghost use Rattle.runs.specs.RoundsTold.{played_of};
 ghost use Rattle.runs.specs.ScenarioStart.{start_of};
 ghost use Rattle.scenario.specs.Limits.{IsScenario, no_operations};
@@ -165,19 +163,6 @@ struct PairListener<'h> {
     heard: &'h mut Pairs,
 }
 
-impl<'h> PairListener<'h> {
-    /// Keeps what a line lists.
-    fn keep(&mut self, line: &Line<'_>)
-        ensures room { self.new.heard.ghost_name ≡ self.old.heard.ghost_name }
-        ensures kept { HearsPairs (line_of line.now ∷ []) self.old.heard.now self.new.heard.now }
-    {
-        let Line::List { pc, epc, .. } = *line else {
-            return;
-        };
-        let _ = self.heard.push((pc, copy_of(epc)));
-    }
-}
-
 impl<'h> Listener for PairListener<'h> {
     ghost use Rattle.std.specs.Prelude.{None, refl};
     ghost use Rattle.air_world.specs.Listing.{HearsPairs};
@@ -188,7 +173,10 @@ impl<'h> Listener for PairListener<'h> {
     ghost failed = { λ listener. None };
 
     fn tell(&mut self, line: &Line<'_>) {
-        self.keep(line);
+        let Line::List { pc, epc, .. } = *line else {
+            return;
+        };
+        let _ = self.heard.push((pc, copy_of(epc)));
     }
 
     fn fault(&self) -> Option<PlayFault> {

@@ -13,14 +13,14 @@ ghost use Rattle.runs.specs.Report.{report_of, report_text_of};
 ghost use Rattle.runs.specs.ScenarioStart.{history, start_of};
 ghost use Rattle.scenario.specs.Limits.{IsScenario};
 
-use crate::run::{Run, check, tell_link};
+use crate::run::{Run, check};
 use crate::seen_listener::SeenListener;
 use air_channel::Air;
 use air_events::{EntryCursor, LONGEST_STREAM, MOST_TAGS, empty_entry};
 use air_io::Sink;
 use bit_strings::Bits;
 use q_round::round_laws;
-use report_lines::{Listener, Mode, ModeSpelling, PlayFault, SeenCounts, TextReport};
+use report_lines::{Line, Listener, Mode, ModeSpelling, PlayFault, SeenCounts, TextReport};
 use runs::{headline, rounds_are_complete};
 use scenario::Scenario;
 use std::alloc::Global;
@@ -137,7 +137,11 @@ fn tell_run<L: Ledger, R: Listener>(
     let entries = EntryCursor::new(scenario.entries.as_slice(), &empty);
     let mut run = Run::<L>::new(entries, Steps::new(blank), bits);
     let mut seen = SeenCounts::new(alloc);
-    let mut listener = SeenListener::new(report, &mut seen);
+    let mut listener = SeenListener {
+        report,
+        seen: &mut seen,
+        out_of_memory: false,
+    };
     tell_whole(scenario, air, &mut run, &mut listener)
 }
 
@@ -172,7 +176,11 @@ fn tell_steps<'a, L: Ledger, R: Listener>(
         (history scenario.now) air.new run.new report.new }
     ensures faultless { OnOk result (R.failed report.new ≡ None) }
 {
-    tell_link(air, report);
+    let (numerator, denominator) = air.link().blf();
+    report.tell(&Line::Blf {
+        numerator,
+        denominator,
+    });
     run.play_steps(air, scenario.steps.as_slice(), report)?;
     check(report)
 }

@@ -1,15 +1,13 @@
 //! A run that is under way.
-ghost use Rattle.std.specs.Prelude.{◌≡◌, ℕ, ◌≤◌, length, List, [], ◌∷◌, Some, None, OnOk, IfErr, IfOk};
+ghost use Rattle.std.specs.Prelude.{◌≡◌, ℕ, ◌≤◌, length, List, Some, None, OnOk, IfErr, IfOk};
 ghost use Rattle.air_events.specs.Streams.{longest_stream};
 ghost use Rattle.air_model.specs.Past.{Item, next_record};
 ghost use Rattle.air_world.specs.Playing.{Begun, IsBetweenSteps, IsEndedBy, IsSent, IsUnderway, StandsAt, StandsOrFails, most_in_slot};
-ghost use Rattle.air_world.specs.Telling.{Tells};
 ghost use Rattle.line_codes.specs.Codes.{table_of};
 ghost use Rattle.reply_grammar.specs.Reception.{reception_from};
 ghost use Rattle.reply_grammar.specs.declared.expected.Received.{Received};
 ghost use Rattle.reply_wire.specs.Heard.{pair_received, rn16_received};
 ghost use Rattle.reply_wire.specs.Received.{IsReceived};
-ghost use Rattle.report_lines.specs.ReportLine.{ListLine, RoundLine};
 ghost use Rattle.runs.specs.History.{outcome_of, past_behind_ack, past_behind_round, past_behind_slot, slot_reception};
 ghost use Rattle.runs.specs.NextItem.{expectation_of};
 
@@ -24,7 +22,6 @@ use air_channel::{Air, Got};
 use air_events::EntryCursor;
 use bit_strings::Bits;
 use command_grammar::Command;
-pub(crate) use head_and_end::tell_link;
 use q_round::{Outcome, Round, RoundEnd, RoundSpec, round_laws};
 use reply_grammar::{EpcWords, Expect, Received, Reply};
 use report_lines::{Line, Listener, PlayFault};
@@ -161,23 +158,15 @@ impl<'a, L: Ledger> Run<'a, L> {
             let outcome = self.play_slot(air, number, slot, &command, operations, report);
             check(report)?;
             if let Some(end) = round.next(outcome, &mut command) {
-                self.end_round(number, end, slot, report);
+                self.rounds = number;
+                report.tell(&Line::Round {
+                    round: number,
+                    end,
+                    slots: slot,
+                });
                 return Ok(end);
             }
         }
-    }
-
-    /// Counts the end of a round, and tells of it.
-    fn end_round<R: Listener>(&mut self, number: u32, end: RoundEnd, slots: u32, report: &mut R)
-        ensures rest { self.new ≡ record self.old { rounds = number } }
-        ensures told { Tells R.hears (RoundLine number end slots ∷ []) report.old report.new }
-    {
-        self.rounds = number;
-        report.tell(&Line::Round {
-            round: number,
-            end,
-            slots,
-        });
     }
 
     /// Plays a slot, which begins with this slot command: after a whole RN16 the interrogator sends an ACK with it,
@@ -241,7 +230,12 @@ impl<'a, L: Ledger> Run<'a, L> {
             _ => match self.hear_epc(air) {
                 None => {}
                 Some((pc, epc)) => {
-                    tell_listed(round, slot, pc, &epc, report);
+                    report.tell(&Line::List {
+                        round,
+                        slot,
+                        pc,
+                        epc: &epc,
+                    });
                     let run = OpRun::start(operations, &epc, rn);
                     self.operate(air, round, slot, operations, run, report);
                 }
@@ -259,16 +253,4 @@ pub(crate) fn check<R: Listener>(report: &R) -> Result<(), PlayFault>
         Some(fault) => Err(fault),
         None => Ok(()),
     }
-}
-
-/// Tells that a tag is listed.
-fn tell_listed<R: Listener>(round: u32, slot: u32, pc: u16, epc: &EpcWords, report: &mut R)
-    ensures { Tells R.hears (ListLine round slot pc epc.now ∷ []) report.old report.new }
-{
-    report.tell(&Line::List {
-        round,
-        slot,
-        pc,
-        epc,
-    });
 }

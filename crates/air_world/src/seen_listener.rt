@@ -13,25 +13,10 @@ use report_lines::{Line, Listener, PlayFault, SeenCounts};
 pub(crate) struct SeenListener<'r, R: Listener> {
     pub(crate) report: &'r mut R,
     pub(crate) seen: &'r mut SeenCounts,
-    out_of_memory: bool,
+    pub(crate) out_of_memory: bool,
 }
 
 impl<'r, R: Listener> SeenListener<'r, R> {
-    /// Counts on from these counts.
-    pub(crate) fn new(report: &'r mut R, seen: &'r mut SeenCounts) -> SeenListener<'r, R>
-        ensures report { result.report.ghost_name ≡ report.entry.ghost_name }
-        ensures told { result.report.now ≡ report.old }
-        ensures seen { result.seen.now ≡ seen.old }
-        // Else every run might answer that there was no memory.
-        ensures memory { result.out_of_memory ≡ false }
-    {
-        SeenListener {
-            report,
-            seen,
-            out_of_memory: false,
-        }
-    }
-
     /// Counts what a line lists.
     fn count(&mut self, line: &Line<'_>)
         ensures rest { self.new

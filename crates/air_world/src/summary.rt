@@ -1,6 +1,5 @@
 //! What a run counts.
 ghost use Rattle.std.specs.Prelude.{◌≡◌, ◌+◌, ◌-◌, ◌^◌, ◌&&◌, min, IfOk, OnOk};
-ghost use Rattle.air_world.specs.Counting.{nothing_counted};
 ghost use Rattle.runs.specs.CompleteRounds.{RoundsAreComplete};
 ghost use Rattle.runs.specs.Summary.{is_quiet, summary_of};
 ghost use Rattle.scenario.specs.Limits.{IsScenario};
@@ -18,23 +17,6 @@ use std::alloc::{AllocError, Global};
 #[derive(Drop)]
 pub(crate) struct Counting {
     summary: Summary,
-}
-
-impl Counting {
-    /// Nothing was told yet.
-    fn new() -> Counting
-        ensures { result.summary ≡ nothing_counted }
-    {
-        Counting {
-            summary: Summary {
-                tags: 0,
-                listed: 0,
-                distinct: 0,
-                slots: 0,
-                quiet: true,
-            },
-        }
-    }
 }
 
 /// Counts a round more, which ended so and had so many slots.
@@ -98,7 +80,15 @@ pub fn summarise(alloc: Global, scenario: &Scenario) -> Result<Summary, OutOfMem
     round_laws();
     rounds_are_complete();
     let mut air = set_up(alloc, scenario)?;
-    let mut counting = Counting::new();
+    let mut counting = Counting {
+        summary: Summary {
+            tags: 0,
+            listed: 0,
+            distinct: 0,
+            slots: 0,
+            quiet: true,
+        },
+    };
     match tell_scenario(alloc, scenario, &mut air, &mut counting) {
         Ok(()) => Ok(counting.summary),
         // Who only counts meets no fault, so there was no memory.

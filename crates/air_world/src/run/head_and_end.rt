@@ -1,26 +1,15 @@
-//! What is told before and behind the steps.
+//! What is told behind the steps.
 ghost use Rattle.std.specs.Prelude.{◌≡◌, ◌<◌, ◌++◌, [], ◌∷◌, Some, length, map, slice_get};
 ghost use Rattle.air_world.specs.Telling.{Tells};
 ghost use Rattle.report_lines.specs.ReportLine.{DoneLine, TagLine};
-ghost use Rattle.report_lines.specs.SeenCounts.{SeenCount, seen_line};
-ghost use Rattle.runs.specs.Report.{first_lines, tag_lines};
+ghost use Rattle.report_lines.specs.SeenCounts.{seen_line};
+ghost use Rattle.runs.specs.Report.{tag_lines};
 ghost use Rattle.tag_machine.specs.TagValue.{TagValue};
 
 use crate::run::Run;
 use air_channel::Air;
 use report_lines::{Line, Listener, SeenCounts};
 use std::sync::ledger::Ledger;
-
-/// Tells of the backscatter link frequency.
-pub(crate) fn tell_link<R: Listener>(air: &Air, report: &mut R)
-    ensures { Tells R.hears (first_lines air.now.link) report.old report.new }
-{
-    let (numerator, denominator) = air.link().blf();
-    report.tell(&Line::Blf {
-        numerator,
-        denominator,
-    });
-}
 
 impl<'a, L: Ledger> Run<'a, L> {
     /// Tells how often each pair of PC and EPC was listed, what each tag is, and that this is all.
@@ -62,18 +51,9 @@ fn tell_counts<R: Listener>(seen: &SeenCounts, report: &mut R)
     ensures { Tells R.hears (map seen_line seen.now) report.old report.new }
 {
     for at in 0..seen.len() {
-        tell_count(seen, at, report);
+        let Some((count, pc, epc)) = seen.get(at) else {
+            unreachable!();
+        };
+        report.tell(&Line::Seen { count, pc, epc });
     }
-}
-
-/// Tells how often the pair with this number was listed.
-fn tell_count<R: Listener>(seen: &SeenCounts, at: usize, report: &mut R)
-    requires { at < length seen.now }
-    ensures { (count : SeenCount) → slice_get seen.now at ≡ Some count
-        → Tells R.hears (seen_line count ∷ []) report.old report.new }
-{
-    let Some((count, pc, epc)) = seen.get(at) else {
-        unreachable!();
-    };
-    report.tell(&Line::Seen { count, pc, epc });
 }

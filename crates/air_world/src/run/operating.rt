@@ -1,5 +1,5 @@
 //! The operations of a round with a tag that was listed.
-ghost use Rattle.std.specs.Prelude.{◌≡◌, ◌||◌, ◌≤◌, ℕ, List, [], ◌∷◌, None, Some, length, if◌then◌else◌, option_copied};
+ghost use Rattle.std.specs.Prelude.{◌≡◌, ◌||◌, ◌≤◌, ℕ, List, [], None, Some, length, if◌then◌else◌, option_copied};
 ghost use Rattle.access_ops.specs.OpRunValue.{OpRunStandsFor};
 ghost use Rattle.access_ops.specs.Operations.{IsAnswerFor, dialogue_of, reception_in};
 ghost use Rattle.access_ops.specs.declared.op_next.Answer.TheVariants.{Got as GotAnswer};
@@ -7,15 +7,13 @@ ghost use Rattle.access_ops.specs.laws.OperationLaws.{Expects};
 ghost use Rattle.air_events.specs.Streams.{longest_stream};
 ghost use Rattle.air_model.specs.Past.{Item, past_behind_command};
 ghost use Rattle.air_world.specs.Playing.{Begun, IsAtFirstOperation, IsUnderway, StandsAt};
-ghost use Rattle.air_world.specs.Telling.{Tells};
 ghost use Rattle.line_codes.specs.Codes.{table_of};
 ghost use Rattle.reply_wire.specs.Received.{IsReceived};
-ghost use Rattle.report_lines.specs.ReportLine.{OpLine};
 ghost use Rattle.runs.specs.History.{operation_reception, past_behind_dialogue};
 
 use crate::receiving::receive_last;
 use crate::run::Run;
-use access_ops::{Answer, OpList, OpNext, OpResult, OpRun};
+use access_ops::{Answer, OpList, OpNext, OpRun};
 use air_channel::{Air, Got};
 use bit_strings::Bits;
 use command_grammar::Command;
@@ -62,7 +60,12 @@ impl<'a, L: Ledger> Run<'a, L> {
                     is_answered = true;
                 }
                 OpNext::Result(ended) => {
-                    tell_result(round, slot, index, ended, report);
+                    report.tell(&Line::Op {
+                        round,
+                        slot,
+                        index,
+                        ended,
+                    });
                     is_answered = false;
                     index += 1;
                 }
@@ -107,18 +110,6 @@ fn last_answer(is_answered: bool, answer: &Answer) -> Option<&Answer>
     ensures { option_copied result ≡ if is_answered then Some answer.now else None }
 {
     if is_answered { Some(answer) } else { None }
-}
-
-/// Tells the result of the operation with this number, counted from 1.
-fn tell_result<R: Listener>(round: u32, slot: u32, index: u32, ended: &OpResult, report: &mut R)
-    ensures { Tells R.hears (OpLine round slot index ended.now ∷ []) report.old report.new }
-{
-    report.tell(&Line::Op {
-        round,
-        slot,
-        index,
-        ended,
-    });
 }
 
 /// Gives what is received of the last stream of an air as what is heard, in place of what was heard before.

@@ -1,5 +1,5 @@
 //! Who said what in an exchange, told once it is over.
-ghost use Rattle.std.specs.Prelude.{◌≡◌, ℕ, ◌<◌, ◌≤◌, List, [], ◌∷◌, Some, length, map, slice_get};
+ghost use Rattle.std.specs.Prelude.{◌≡◌, ℕ, ◌≤◌, List, [], ◌∷◌, Some, length, map, slice_get};
 ghost use Rattle.air_model.specs.Past.{Record};
 ghost use Rattle.air_world.specs.Saying.{AnswersCommand, AreOfDifferentTags, AreShort, IsBehind};
 ghost use Rattle.air_world.specs.Telling.{Tells};
@@ -11,7 +11,7 @@ ghost use Rattle.runs.specs.Said.{answer_line, exchanged_by, gave_of, said_lines
 ghost use Rattle.runs.specs.laws.Replies.{AreReplies};
 ghost use Rattle.tag_machine.specs.Answers.{Sent, bits_sent};
 ghost use Rattle.tag_machine.specs.TagsInExchange.{Replied};
-ghost use Rattle.tag_population.specs.Answers.{answer_of, answers_of};
+ghost use Rattle.tag_population.specs.Answers.{answers_of};
 
 use air_channel::{Air, Answers, Got};
 use air_events::Entry;
@@ -65,38 +65,17 @@ fn tell_answers<R: Listener>(
         → Tells R.hears (map (answer_line exchange) replies) report.old report.new }
 {
     for place in 0..answers.len() {
-        tell_answer(answers, place, exchange, command, bits, report);
+        let Some(answer) = answers.get(place) else {
+            unreachable!();
+        };
+        let reply = read(command, answer.bits, bits);
+        report.tell(&Line::Answer {
+            exchange,
+            tag: u32::from(answer.number.get()),
+            extended: answer.extended,
+            reply: &reply,
+        });
     }
-}
-
-/// Tells what the tag answered whose answer stands at this place.
-fn tell_answer<R: Listener>(
-    answers: &Answers,
-    place: u32,
-    exchange: u64,
-    command: &Command,
-    bits: &mut Bits,
-    report: &mut R,
-)
-    requires place { place < length answers.now.items }
-    requires room { longest_reply ≤ bits.old.capacity }
-    requires short { AreShort answers.now.items }
-    ensures room { bits.new.capacity ≡ bits.old.capacity }
-    ensures told { (replied : Replied)
-        → slice_get answers.now.items place ≡ Some (answer_of replied)
-        → AnswersCommand command.now replied.sent
-        → Tells R.hears (answer_line exchange replied ∷ []) report.old report.new }
-{
-    let Some(answer) = answers.get(place) else {
-        unreachable!();
-    };
-    let reply = read(command, answer.bits, bits);
-    report.tell(&Line::Answer {
-        exchange,
-        tag: u32::from(answer.number.get()),
-        extended: answer.extended,
-        reply: &reply,
-    });
 }
 
 /// The reply of the tag with this number, which answered.

@@ -1,19 +1,8 @@
-use Rattle.std.proofs.Common.{◌≡◌, ◌+◌, ◌≤◌, List, [], ◌++◌, length, refl, sym, ◌∙◌, ap, subst, arith, ℕ}
-use Rattle.access_ops.specs.declared.OpList.{OpList}
-use Rattle.air_model.specs.Past.{tags_behind}
+use Rattle.air_world.proofs.Names.{◌≡◌, ◌+◌, ◌≤◌, List, ◌++◌, length, refl, sym, ◌∙◌, ap, subst, arith, ℕ, [], OpList, tags_behind, HearsPairs, pairs_told, Begun, IsEndedBy, StandsAt, lines_to_tell, RoundEnd, ReportLine, past_behind_round, played_of, pairs_in, no_operations}
 use Rattle.air_world.proofs.Halls.{IsHallOver, hall-begins, hall-over, start_on}
 use Rattle.air_world.proofs.Listings.{pairs-behind}
-use Rattle.air_world.specs.Listing.{HearsPairs, pairs_told}
-use Rattle.air_world.specs.Playing.{Begun, IsEndedBy, StandsAt}
-use Rattle.air_world.specs.Telling.{lines_to_tell}
 use Rattle.air_world.specs.declared.hall.PairListener.{PairListener}
 use Rattle.air_world.specs.laws.ListingLaws.{hears-no-pair}
-use Rattle.q_round.specs.declared.round.RoundEnd.{RoundEnd}
-use Rattle.report_lines.specs.ReportLine.{ReportLine}
-use Rattle.runs.specs.History.{past_behind_round}
-use Rattle.runs.specs.RoundsTold.{played_of}
-use Rattle.runs.specs.Summary.{pairs_in}
-use Rattle.scenario.specs.Limits.{no_operations}
 use Rattle.air_world.proofs.hall.hear_round.Given.{Over}
 use Rattle.air_world.proofs.hall.hear_round.Goals.{After-exchanges}
 use Rattle.air_world.proofs.hall.hear_round.Goals as goal

@@ -1,6 +1,4 @@
-use Rattle.std.proofs.Common.{sym, ◌∙◌, subst}
-use Rattle.air_events.specs.Cursor.{AreEntriesLeft}
-use Rattle.air_events.specs.Entries.{Rises}
+use Rattle.air_world.proofs.Names.{refl, sym, subst, AreEntriesLeft, Rises}
 use Rattle.air_world.proofs.Beginning.{at-first, cut-at-first, given-back}
 use Rattle.air_world.proofs.Passing.{ends-cut}
 use Rattle.air_world.proofs.playing.tell_run.Goals as goal
@@ -22,6 +20,5 @@ tell_whole-requires-clause-first g c =
 
 pub returns : goal.returns
 returns g c =
-    let new = c.new-listener.ensures in
-    given-back g.R.Listener.hears g.R.Listener.failed c.tell_whole.result c.args.scenario.now _ new.told
-    (sym (c.report-1.given.1 (sym (c.tell_whole.ensures.report ∙ new.report)))) c.tell_whole.ensures.told
+    given-back g.R.Listener.hears g.R.Listener.failed c.tell_whole.result c.args.scenario.now _ refl
+    (sym (c.report-1.given.1 (sym c.tell_whole.ensures.report))) c.tell_whole.ensures.told

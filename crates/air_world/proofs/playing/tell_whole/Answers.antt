@@ -1,13 +1,8 @@
-use Rattle.std.proofs.Common.{sym, ◌∙◌, ap, subst}
-use Rattle.air_channel.specs.Air.{AirValue}
+use Rattle.air_world.proofs.Names.{sym, ◌∙◌, ap, subst, AirValue, RunIsAt, lines_to_tell, seen_counts, history, start_of}
 use Rattle.air_world.proofs.Beginning.{ends-played, last-told}
 use Rattle.air_world.proofs.Listings.{memory-enough, pairs-behind}
 use Rattle.air_world.proofs.Passing.{ends-cut, tells-same}
 use Rattle.air_world.proofs.SeenThrough.{cut-through}
-use Rattle.air_world.specs.Playing.{RunIsAt}
-use Rattle.air_world.specs.Telling.{lines_to_tell}
-use Rattle.report_lines.specs.SeenCounts.{seen_counts}
-use Rattle.runs.specs.ScenarioStart.{history, start_of}
 use Rattle.air_world.proofs.playing.tell_whole.Goals as goal
 
 pub tell_steps-requires : goal.tell_steps-requires

@@ -1,7 +1,5 @@
-use Rattle.std.proofs.Common.{sym, subst, ◌∙◌}
+use Rattle.air_world.proofs.Names.{sym, subst, ◌∙◌, IsAdded, ModeSpelling}
 use Rattle.air_world.proofs.Written.{run-written, spelling_for, told_text}
-use Rattle.report_lines.specs.TextReport.{IsAdded}
-use Rattle.report_lines.specs.declared.mode_spelling.ModeSpelling.{ModeSpelling}
 use Rattle.air_world.proofs.playing.write_run.Goals as goal
 
 pub returns : goal.returns

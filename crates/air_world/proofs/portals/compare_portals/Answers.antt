@@ -1,16 +1,8 @@
-use Rattle.std.proofs.Common.{◌≡◌, ◌≤◌, List, [], ◌∷◌, length, sym, ap, ◌∙◌, subst, arith}
-use Rattle.std.specs.Prelude.{All}
-use Rattle.std.proofs.lemmas.Result.{IfOk-weaker}
-use Rattle.q_round.specs.SpecValue.{SpecValue}
 use Rattle.runs.proofs.PortalRounds.{new-at-start, rounds-of-portals}
 use Rattle.runs.specs.Portals.{portals_told, specs_of}
-use Rattle.runs.specs.RoundsTold.{played_of}
-use Rattle.runs.specs.ScenarioStart.{start_of}
-use Rattle.scenario.specs.declared.values.Step.{Step}
-use Rattle.scenario.specs.declared.values.Step.TheVariants as steps
-use Rattle.tag_machine.specs.TagValue.{TagValue}
 use Rattle.std.specs.Global.{Vec}
-use Rattle.scenario.specs.declared.values.Scenario.{Scenario}
+use Rattle.air_world.proofs.Names.{◌≡◌, ◌≤◌, List, ◌∷◌, length, sym, ap, ◌∙◌, subst, arith, [], All, SpecValue, played_of, start_of, Scenario, Step, IfOk-weaker, TagValue}
+use Rattle.scenario.specs.declared.values.Step.TheVariants as steps
 use Rattle.two_portals.specs.declared.portal_line.PortalLine.{PortalLine}
 use Rattle.two_portals.specs.PortalLines.{IsNewTag, IsOfPortal, portal_lines}
 use Rattle.air_world.proofs.portals.compare_portals.Goals as goal

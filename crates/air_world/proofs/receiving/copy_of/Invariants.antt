@@ -1,4 +1,4 @@
-use Rattle.std.proofs.Common.{◌≡◌, take}
+use Rattle.air_world.proofs.Names.{◌≡◌, take}
 use Rattle.air_world.proofs.receiving.copy_of.Given as goal
 
 abbrev pub invariant-loop-word : goal.invariant-loop-word

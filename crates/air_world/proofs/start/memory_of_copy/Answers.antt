@@ -1,6 +1,5 @@
-use Rattle.std.proofs.Common.{◌≡◌, ◌-◌, ◌<◌, ◌∙◌, List, ℕ, ap, arith, length, slice_index}
 use Rattle.std.proofs.lemmas.Grind.{common_steps}
-use Rattle.scenario.specs.Groups.{raised}
+use Rattle.air_world.proofs.Names.{◌≡◌, ◌-◌, ◌<◌, ◌∙◌, List, ℕ, ap, arith, length, slice_index, raised}
 use Rattle.scenario_lines.specs.TagForm.{epc_length}
 use Rattle.tag_memory.specs.Image.{banks_of, with_last_words}
 use Rattle.air_world.proofs.start.memory_of_copy.Goals as goal

@@ -1,7 +1,4 @@
-use Rattle.std.proofs.Common.{◌≡◌, ◌++◌, map}
-use Rattle.runs.specs.ScenarioStart.{scenario_tag}
-use Rattle.scenario.specs.Groups.{copies}
-use Rattle.tag_machine.specs.Hearing.{tag_value_of}
+use Rattle.air_world.proofs.Names.{◌≡◌, ◌++◌, map, scenario_tag, copies, tag_value_of}
 use Rattle.air_world.proofs.start.push_group.Given as goal
 
 -- the copies so far

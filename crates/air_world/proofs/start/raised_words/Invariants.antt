@@ -1,5 +1,4 @@
-use Rattle.std.proofs.Common.{◌≡◌, ◌≤◌, map, take, length, vec_len, vec_capacity}
-use Rattle.scenario.specs.Groups.{raised}
+use Rattle.air_world.proofs.Names.{◌≡◌, ◌≤◌, map, take, length, vec_len, vec_capacity, raised}
 use Rattle.air_world.proofs.start.raised_words.Given as goal
 
 -- the words so far, and the room that was taken

@@ -1,4 +1,4 @@
-use Rattle.std.proofs.Common.{refl, arith}
+use Rattle.air_world.proofs.Names.{refl, arith}
 use Rattle.air_world.proofs.Copies.{few-made}
 use Rattle.air_world.proofs.start.set_up.Goals as goal
 

@@ -1,9 +1,5 @@
-use Rattle.std.proofs.Common.{List, arith, sym, subst}
-use Rattle.std.specs.Prelude.{All}
-use Rattle.std.proofs.lemmas.List.Elements.{All-get_or}
+use Rattle.air_world.proofs.Names.{List, arith, sym, subst, All, IsGroupOfTags, TagGroup, All-get_or}
 use Rattle.air_world.proofs.Copies.{groups-of-tags, next-group}
-use Rattle.air_world.specs.NewAir.{IsGroupOfTags}
-use Rattle.scenario.specs.declared.values.TagGroup.{TagGroup}
 use Rattle.air_world.proofs.start.tags_at_start.Goals as goal
 
 pub push_group-requires : goal.push_group-requires

@@ -1,7 +1,4 @@
-use Rattle.std.proofs.Common.{◌≡◌, map, take}
-use Rattle.runs.specs.ScenarioStart.{scenario_tag}
-use Rattle.scenario.specs.Groups.{tags_of}
-use Rattle.tag_machine.specs.Hearing.{tag_value_of}
+use Rattle.air_world.proofs.Names.{◌≡◌, map, take, scenario_tag, tags_of, tag_value_of}
 use Rattle.air_world.proofs.start.tags_at_start.Given as goal
 
 -- the tags so far

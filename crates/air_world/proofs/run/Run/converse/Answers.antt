@@ -1,10 +1,5 @@
-use Rattle.std.proofs.Common.{ap, refl, sym, ◌∙◌, subst}
-use Rattle.access_ops.specs.Operations.{reception_in}
-use Rattle.access_ops.specs.laws.OperationLaws.{Expects}
-use Rattle.air_model.specs.Past.{next_record}
-use Rattle.air_model.proofs.AwaitedLaws.{silent_awaited}
+use Rattle.air_world.proofs.Names.{ap, refl, sym, ◌∙◌, subst, reception_in, Expects, next_record, silent_awaited, Command}
 use Rattle.air_world.proofs.Slots.{others-unlisted, received-answer, stands-unlisted}
-use Rattle.command_grammar.specs.declared.commands.Command.{Command}
 use Rattle.air_world.proofs.run.Run.converse.Goals as goal
 
 pub send-requires : goal.send-requires

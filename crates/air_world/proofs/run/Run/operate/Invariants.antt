@@ -1,9 +1,5 @@
-use Rattle.std.proofs.Common.{ℕ, List, [], None, Some}
-use Rattle.std.specs.Prelude.{if◌then◌else◌}
-use Rattle.access_ops.specs.OpRunValue.{OpRunStandsFor, turns_left}
-use Rattle.air_model.specs.Past.{Item}
+use Rattle.air_world.proofs.Names.{ℕ, List, None, Some, [], if◌then◌else◌, OpRunStandsFor, turns_left, Item, Begun, StandsAt}
 use Rattle.air_world.proofs.Operating.{OperationsUnderway}
-use Rattle.air_world.specs.Playing.{Begun, StandsAt}
 use Rattle.air_world.proofs.run.Run.operate.Given as goal
 
 abbrev pub invariant-moves : goal.invariant-moves

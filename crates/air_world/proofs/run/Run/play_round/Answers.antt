@@ -1,11 +1,7 @@
-use Rattle.std.proofs.Common.{◌+◌, [], refl, sym, ◌∙◌, ap, arith}
-use Rattle.air_model.specs.Past.{ended}
+use Rattle.air_world.proofs.Names.{◌+◌, refl, sym, ◌∙◌, ap, arith, [], ended, RunValue, next_command, tags-ended}
 use Rattle.air_world.proofs.Passing.{cut-behind, cut-past, ends-cut, stands-told}
 use Rattle.air_world.proofs.Rounds.{answers-known, round-begins, round-ends, round-expects, round-goes-on, rounds-slot, slot-leads, slot_played}
 use Rattle.air_world.proofs.Slots.{stands-same}
-use Rattle.air_world.specs.Playing.{RunValue}
-use Rattle.q_round.specs.Rounds.{next_command}
-use Rattle.runs.proofs.Tags.{tags-ended}
 use Rattle.air_world.proofs.run.Run.play_round.Goals as goal
 
 pub overflow_add-number : goal.overflow_add-number
@@ -60,8 +56,8 @@ returns-in-Some-clause-ends g c = λ begun past stands.
     let left = round-ends _ _ _ u.is played c.next.new.self c.in-Some.end c.next.new.command (answers-known c.next.new.command c.in-Some.is (c.next.ensures.answer c.args.spec.now u.is.outcomes u.is.goes u.is.on)) in
     let number = u.is.rounds ∙ ap (λ n. n + 1) (sym (rounds-slot begun.start c.args.operations.now _ _ _ u.past)) in
     stands-same (sym left)
-    (stands-told (ended _ c.in-Some.end _) (c.play_slot-outcome.ensures.stands begun u.past u.stands) c.end_round.ensures.told (tags-ended begun.start _ c.in-Some.end _ _) refl
-    (c.end_round.ensures.rest ∙ ap (λ n. record c.play_slot-outcome.new.self { rounds = n }) number))
+    (stands-told (ended _ c.in-Some.end _) (c.play_slot-outcome.ensures.stands begun u.past u.stands) (record { on = c.tell.ensures }) (tags-ended begun.start _ c.in-Some.end _ _) refl
+    (ap (λ (run : RunValue). record run { rounds = c.self.inside.rounds + 1 }) c.self-in-slots.view_is ∙ ap (λ n. record c.play_slot-outcome.new.self { rounds = n }) number))
 
 pub returns-in-Some-clause-end : goal.returns-in-Some-clause-end
 returns-in-Some-clause-end g c = λ begun past stands.

@@ -1,7 +1,5 @@
-use Rattle.std.proofs.Common.{◌-◌, List}
-use Rattle.air_model.specs.Past.{Item}
+use Rattle.air_world.proofs.Names.{◌-◌, List, Item, Begun, StandsAt}
 use Rattle.air_world.proofs.Rounds.{RoundUnderway}
-use Rattle.air_world.specs.Playing.{Begun, StandsAt}
 use Rattle.air_world.proofs.run.Run.play_round.Given as goal
 
 abbrev pub invariant-slots : goal.invariant-slots

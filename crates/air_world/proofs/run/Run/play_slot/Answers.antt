@@ -1,14 +1,8 @@
-use Rattle.std.proofs.Common.{◌≡◌, List, refl, sym, ◌∙◌, ap, arith}
-use Rattle.air_model.specs.Past.{Item, next_record, past_behind_command}
+use Rattle.air_world.proofs.Names.{◌≡◌, List, refl, sym, ◌∙◌, ap, arith, silent_reception, Item, next_record, past_behind_command, Begun, RunValue, StandsAt, no_stream, outcome_of, slot_reception, expectation_of}
 use Rattle.air_model.specs.declared.got.Got.TheVariants as gots
-use Rattle.air_model.proofs.ReceptionLaws.{silent_reception}
-use Rattle.air_world.proofs.Passing.{underway-fewer}
-use Rattle.air_world.proofs.Slots.{others-unlisted, rn16-heard, rn16_reception, room-behind, slot-with, slot-without, stands-same, stands-unlisted}
-use Rattle.air_world.specs.Playing.{Begun, RunValue, StandsAt}
-use Rattle.reply_grammar.specs.Reception.{no_stream, no_such_reply}
 use Rattle.reply_grammar.specs.declared.expected.Expect.TheVariants as expects
-use Rattle.runs.specs.History.{outcome_of, slot_reception}
-use Rattle.runs.specs.NextItem.{expectation_of}
+use Rattle.air_world.proofs.Passing.{underway-fewer}
+use Rattle.air_world.proofs.Slots.{others-unlisted, rn16-heard, rn16_reception, room-behind, slot-behind, stands-same, stands-unlisted}
 use Rattle.air_world.proofs.run.Run.play_slot.Given.{Over}
 use Rattle.air_world.proofs.run.Run.play_slot.Goals.{After-send, After-hear_rn16}
 use Rattle.air_world.proofs.run.Run.play_slot.Goals as goal
@@ -42,7 +36,7 @@ send-requires g c = underway-fewer 1 (omega arith) c.requires.underway
 pub returns-in-Silence-clause-stands : goal.returns-in-Silence-clause-stands
 returns-in-Silence-clause-stands g c = λ begun past stands.
     let before = (goal.at.returns-in-Silence-clause-stands g c).After-send in
-    stands-same (slot-without begun.start c.args.operations.now c.args.round c.args.slot c.args.command.now past no_stream (silent g before begun past stands c.in-Silence.is) refl)
+    stands-same (slot-behind begun.start c.args.operations.now c.args.round c.args.slot c.args.command.now past (silent g before begun past stands c.in-Silence.is))
     (behind g before begun past _ stands refl)
 
 pub returns-in-Silence-clause-outcome : goal.returns-in-Silence-clause-outcome
@@ -52,7 +46,7 @@ pub returns-in-None-clause-stands : goal.returns-in-None-clause-stands
 returns-in-None-clause-stands g c = λ begun past stands.
     let at = goal.at.returns-in-None-clause-stands g c in
     stands-same
-    (slot-without begun.start c.args.operations.now c.args.round c.args.slot c.args.command.now past no_such_reply (ap rn16_reception (sym c.in-None.is) ∙ heard g at.After-hear_rn16 begun past stands) refl)
+    (slot-behind begun.start c.args.operations.now c.args.round c.args.slot c.args.command.now past (ap rn16_reception (sym c.in-None.is) ∙ heard g at.After-hear_rn16 begun past stands))
     (behind g at.After-send begun past _ stands c.hear_rn16.ensures.same)
 
 pub returns-in-None-clause-outcome : goal.returns-in-None-clause-outcome
@@ -73,7 +67,7 @@ pub returns-in-Some-clause-stands : goal.returns-in-Some-clause-stands
 returns-in-Some-clause-stands g c = λ begun past stands.
     let at = goal.at.returns-in-Some-clause-stands g c in
     stands-same
-    (slot-with begun.start c.args.operations.now c.args.round c.args.slot c.args.command.now past c.in-Some.rn (ap rn16_reception (sym c.in-Some.is) ∙ heard g at.After-hear_rn16 begun past stands))
+    (slot-behind begun.start c.args.operations.now c.args.round c.args.slot c.args.command.now past (ap rn16_reception (sym c.in-Some.is) ∙ heard g at.After-hear_rn16 begun past stands))
     (c.acknowledge.ensures begun _ (behind g at.After-send begun past _ stands c.hear_rn16.ensures.same))
 
 pub returns-in-Some-clause-outcome : goal.returns-in-Some-clause-outcome

@@ -1,9 +1,7 @@
-use Rattle.std.proofs.Common.{ap}
+use Rattle.air_world.proofs.Names.{ap, past_behind_step, Step}
 use Rattle.air_world.proofs.Passing.{ends-cut}
 use Rattle.air_world.proofs.Slots.{stands-same}
 use Rattle.air_world.proofs.Steps.{stands-befell}
-use Rattle.runs.specs.History.{past_behind_step}
-use Rattle.scenario.specs.declared.values.Step.{Step}
 use Rattle.air_world.proofs.run.Run.play_step.Goals as goal
 
 pub send_alone-requires-clause-between : goal.send_alone-requires-clause-between

@@ -1,11 +1,7 @@
-use Rattle.std.proofs.Common.{◌<◌, List, length, refl, ap, subst, sym, ◌∙◌, arith}
-use Rattle.std.proofs.lemmas.List.{drop_all}
+use Rattle.air_world.proofs.Names.{◌<◌, List, length, refl, ap, subst, sym, ◌∙◌, arith, IsPlayable, past_behind, Step, drop_all}
 use Rattle.air_world.proofs.Passing.{cut-past, ends-cut}
 use Rattle.air_world.proofs.Slots.{stands-same}
 use Rattle.air_world.proofs.Steps.{step-legal, same-count, steps-go-on, step-leads}
-use Rattle.air_world.specs.Playing.{IsPlayable}
-use Rattle.runs.specs.History.{past_behind}
-use Rattle.scenario.specs.declared.values.Step.{Step}
 use Rattle.air_world.proofs.run.Run.play_steps.Goals as goal
 
 pub loop-step-init : goal.loop-step-init

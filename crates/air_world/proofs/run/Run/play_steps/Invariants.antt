@@ -1,7 +1,5 @@
-use Rattle.std.proofs.Common.{List}
-use Rattle.air_model.specs.Past.{Item}
+use Rattle.air_world.proofs.Names.{List, Item, Begun, StandsAt}
 use Rattle.air_world.proofs.Steps.{StepsUnderway}
-use Rattle.air_world.specs.Playing.{Begun, StandsAt}
 use Rattle.air_world.proofs.run.Run.play_steps.Given as goal
 
 abbrev pub invariant-loop-step : goal.invariant-loop-step

@@ -1,14 +1,6 @@
-use Rattle.std.proofs.Common.{◌≡◌, ◌+◌, ℕ, List, refl, sym, ap, ◌∙◌, subst, arith}
-use Rattle.air_events.specs.Cursor.{AreEntriesLeft}
-use Rattle.air_events.specs.Entries.{entry_at}
-use Rattle.air_model.specs.Past.{Start, Item, exchanges_in, next_record}
+use Rattle.air_world.proofs.Names.{◌≡◌, ◌+◌, ℕ, List, refl, sym, ap, ◌∙◌, subst, arith, AreEntriesLeft, entry_at, Start, Item, exchanges_in, next_record, RunValue, RunIsAt, AreShort, lines_to_tell, AreLegalTags, AnswerValue}
 use Rattle.air_world.proofs.Passing.{tells-then}
 use Rattle.air_world.proofs.Sending.{Sends, answers-short, entry-fits, entry-names, sent-behind, sent-heard, sent-plays}
-use Rattle.air_world.specs.Playing.{RunValue, RunIsAt}
-use Rattle.air_world.specs.Saying.{AreShort}
-use Rattle.air_world.specs.Telling.{lines_to_tell}
-use Rattle.tag_machine.specs.TagsInExchange.{AreLegalTags}
-use Rattle.tag_population.specs.Answers.{AnswerValue}
 use Rattle.air_world.proofs.run.Run.send.Given.{Over}
 use Rattle.air_world.proofs.run.Run.send.Goals.{After-next_entry-entry}
 use Rattle.air_world.proofs.run.Run.send.Goals as goal

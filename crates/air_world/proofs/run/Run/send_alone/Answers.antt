@@ -1,8 +1,6 @@
-use Rattle.std.proofs.Common.{ap, refl, sym, ◌∙◌, arith}
-use Rattle.air_model.specs.Past.{next_record}
+use Rattle.air_world.proofs.Names.{ap, refl, sym, ◌∙◌, arith, next_record, expectation_of}
 use Rattle.air_world.proofs.Passing.{ends-checked}
 use Rattle.air_world.proofs.Slots.{others-unlisted, stands-unlisted}
-use Rattle.runs.specs.NextItem.{expectation_of}
 use Rattle.air_world.proofs.run.Run.send_alone.Goals as goal
 
 pub send-requires : goal.send-requires

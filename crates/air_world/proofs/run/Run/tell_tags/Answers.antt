@@ -1,5 +1,4 @@
-use Rattle.std.proofs.Common.{◌≡◌, Some, ◌∙◌, ap, refl, arith, slice_get}
-use Rattle.air_channel.specs.Air.{AirValue}
+use Rattle.air_world.proofs.Names.{◌≡◌, Some, ◌∙◌, ap, refl, arith, slice_get, AirValue}
 use Rattle.air_world.proofs.LastLines.{tag-more}
 use Rattle.air_world.proofs.Passing.{tells-nothing, tells-same, tells-then}
 use Rattle.air_world.proofs.Places.{some-at}

@@ -1,6 +1,4 @@
-use Rattle.std.proofs.Common.{◌≡◌, take}
-use Rattle.air_world.specs.Telling.{Tells}
-use Rattle.runs.specs.Report.{tag_lines}
+use Rattle.air_world.proofs.Names.{◌≡◌, take, Tells, tag_lines}
 use Rattle.air_world.proofs.run.Run.tell_tags.Given as goal
 
 abbrev pub invariant-loop-number : goal.invariant-loop-number

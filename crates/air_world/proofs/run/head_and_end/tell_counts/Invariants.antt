@@ -1,6 +1,4 @@
-use Rattle.std.proofs.Common.{map, take}
-use Rattle.air_world.specs.Telling.{Tells}
-use Rattle.report_lines.specs.SeenCounts.{seen_line}
+use Rattle.air_world.proofs.Names.{map, take, Tells, seen_line}
 use Rattle.air_world.proofs.run.head_and_end.tell_counts.Given as goal
 
 abbrev pub invariant-loop-at : goal.invariant-loop-at

@@ -1,4 +1,4 @@
-use Rattle.std.proofs.Common.{refl}
+use Rattle.air_world.proofs.Names.{refl}
 use Rattle.air_world.proofs.run.operating.hear.Goals as goal
 
 pub returns-in-Got-clause-received : goal.returns-in-Got-clause-received

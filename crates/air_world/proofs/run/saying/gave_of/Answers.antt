@@ -1,8 +1,5 @@
-use Rattle.std.proofs.Common.{sym, ◌∙◌, subst}
+use Rattle.air_world.proofs.Names.{sym, ◌∙◌, subst, AnswersCommand, Command, AreReplies}
 use Rattle.air_world.proofs.Saying.{gave-broken, gave-raw, gave-silence, gave-whole}
-use Rattle.air_world.specs.Saying.{AnswersCommand}
-use Rattle.command_grammar.specs.declared.commands.Command.{Command}
-use Rattle.runs.specs.laws.Replies.{AreReplies}
 use Rattle.air_world.proofs.run.saying.gave_of.Goals as goal
 
 pub returns-in-Silence-clause-gave : goal.returns-in-Silence-clause-gave

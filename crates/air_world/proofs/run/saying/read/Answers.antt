@@ -1,8 +1,5 @@
-use Rattle.std.proofs.Common.{List, Bool, ◌++◌, ◌∙◌, ap, sym, subst}
-use Rattle.std.specs.Option.{IsSomeAnd}
+use Rattle.air_world.proofs.Names.{List, Bool, ◌++◌, ◌∙◌, ap, sym, subst, AnswersExpected, IsSomeAnd, expect_of}
 use Rattle.bit_strings.specs.BitString.{BitString}
-use Rattle.reply_grammar.specs.Replies.{AnswersExpected}
-use Rattle.tag_machine.specs.laws.Replies.{expect_of}
 use Rattle.air_world.proofs.run.saying.read.Goals as goal
 
 pub returns-clause-reply : goal.returns-clause-reply

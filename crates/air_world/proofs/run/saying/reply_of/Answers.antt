@@ -1,9 +1,5 @@
-use Rattle.std.proofs.Common.{◌≡◌, sym, ◌∙◌, ap, arith}
-use Rattle.std.proofs.lemmas.Option.{slice_get_within}
+use Rattle.air_world.proofs.Names.{◌≡◌, sym, ◌∙◌, ap, arith, AnswersCommand, slice_get_within, Replied, AnswerValue, answer_of, answer_value_of}
 use Rattle.air_world.proofs.Saying.{answer-at, answer-there, none-there, one-answer, others-more, reply-at, reply-there, short-at}
-use Rattle.air_world.specs.Saying.{AnswersCommand}
-use Rattle.tag_machine.specs.TagsInExchange.{Replied}
-use Rattle.tag_population.specs.Answers.{AnswerValue, answer_of, answer_value_of}
 use Rattle.air_world.proofs.run.saying.reply_of.Goals as goal
 
 pub unreachable-requires : goal.unreachable-requires

@@ -1,5 +1,4 @@
-use Rattle.std.proofs.Common.{◌≡◌, ◌<◌, ℕ, Some, slice_get}
-use Rattle.tag_population.specs.Answers.{AnswerValue}
+use Rattle.air_world.proofs.Names.{◌≡◌, ◌<◌, ℕ, Some, slice_get, AnswerValue}
 use Rattle.air_world.proofs.run.saying.reply_of.Given as goal
 
 -- no answer so far is of the tag

@@ -1,24 +1,34 @@
-use Rattle.std.proofs.Common.{List, [], length, map, refl, ◌∙◌, ap, arith}
-use Rattle.std.proofs.lemmas.List.{length-map, take_all}
+use Rattle.air_world.proofs.Names.{◌≡◌, List, ◌∷◌, sym, length, map, refl, ◌∙◌, ap, arith, [], AnswersCommand, ReportLine, AnswerLine, answer_line, length-map, take_all, Replied, answer_value_of, AnswerValue, answer_of}
 use Rattle.air_world.proofs.Passing.{tells-nothing, tells-same}
-use Rattle.air_world.proofs.Saying.{answer-at, reply-at, reply-there, tells-more}
-use Rattle.air_world.specs.Saying.{AnswersCommand}
-use Rattle.runs.specs.Said.{answer_line}
-use Rattle.tag_machine.specs.TagsInExchange.{Replied}
-use Rattle.tag_population.specs.Answers.{AnswerValue, answer_of}
+use Rattle.air_world.proofs.Saying.{answer-at, answer-there, none-there, one-answer, short-at, reply-at, reply-there, tells-more}
 use Rattle.air_world.proofs.run.saying.tell_answers.Goals as goal
 
 pub loop-place-init : goal.loop-place-init
 loop-place-init g c = record { room = refl; told = λ replies are all. tells-nothing }
 
+pub unreachable-requires : goal.unreachable-requires
+unreachable-requires g c = absurd (none-there c.args.answers.now.items c.loop-place.place c.get.result (omega arith) c.get.ensures c.in_default.is)
+
+pub read-reply-requires : goal.read-reply-requires
+read-reply-requires g c =
+    let is = answer-there c.args.answers.now.items c.loop-place.place c.get.result c.in-Some.answer c.get.ensures c.in-Some.is in
+    omega (arith, short-at c.args.answers.now.items c.loop-place.place (answer_value_of c.in-Some.answer) c.requires.short is, c.loop-place.invariant.room, c.requires.room)
+
 pub loop-place-preserved : goal.loop-place-preserved
 loop-place-preserved g c = record {
-  room = c.tell_answer.ensures.room ∙ c.loop-place.invariant.room;
+  room = c.read-reply.ensures.room ∙ c.loop-place.invariant.room;
   told = λ replies are all.
       let place = c.loop-place.place in
       let found = reply-there c.args.answers.now.items replies place are (omega arith) in
+      let is = answer-there c.args.answers.now.items place c.get.result c.in-Some.answer c.get.ensures c.in-Some.is in
+      let same = one-answer (answer_value_of c.in-Some.answer) (answer_of found.0) (sym is ∙ answer-at c.args.answers.now.items replies place found.0 are found.1) in
+      let number = c.from.ensures ∙ c.get-in-loop-place.ensures.value ∙ ap (λ (a : AnswerValue). a.number) same in
+      let extended = ap (λ (a : AnswerValue). a.extended) same in
+      let reply = c.read-reply.ensures.reply found.0.sent (reply-at (AnswersCommand c.args.command.now) replies place found.0 all found.1) (ap (λ (a : AnswerValue). a.bits) same) in
+      let line : AnswerLine c.args.exchange c.from.result c.in-Some.answer.extended c.read-reply.result ≡ answer_line c.args.exchange found.0 =
+      λ i. AnswerLine c.args.exchange (number i) (extended i) (reply i) in
       tells-more (answer_line c.args.exchange) [] replies place found.0 found.1 (c.loop-place.invariant.told replies are all)
-      (c.tell_answer.ensures.told found.0 (answer-at c.args.answers.now.items replies place found.0 are found.1) (reply-at (AnswersCommand c.args.command.now) replies place found.0 all found.1));
+      (tells-same (ap (λ (told : ReportLine). told ∷ []) line) (record { on = c.tell.ensures }));
 }
 
 pub returns-clause-told : goal.returns-clause-told

@@ -1,10 +1,4 @@
-use Rattle.std.proofs.Common.{◌≡◌, List, map, take}
-use Rattle.air_world.specs.Saying.{AnswersCommand}
-use Rattle.air_world.specs.Telling.{Tells}
-use Rattle.runs.specs.Said.{answer_line}
-use Rattle.runs.specs.laws.Replies.{AreReplies}
-use Rattle.tag_machine.specs.TagsInExchange.{Replied}
-use Rattle.tag_population.specs.Answers.{answers_of}
+use Rattle.air_world.proofs.Names.{◌≡◌, List, map, take, AnswersCommand, Tells, answer_line, AreReplies, Replied, answers_of}
 use Rattle.air_world.proofs.run.saying.tell_answers.Given as goal
 
 abbrev pub invariant-loop-place : goal.invariant-loop-place

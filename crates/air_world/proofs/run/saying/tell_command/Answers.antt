@@ -1,7 +1,5 @@
-use Rattle.std.proofs.Common.{[], ◌∷◌}
-use Rattle.std.proofs.lemmas.Option.{slice_get-get_or}
+use Rattle.air_world.proofs.Names.{◌∷◌, [], ExchangeLine, MissedLine, slice_get-get_or}
 use Rattle.air_world.proofs.Saying.{tells-more}
-use Rattle.report_lines.specs.ReportLine.{ExchangeLine, MissedLine}
 use Rattle.air_world.proofs.run.saying.tell_command.Goals as goal
 
 pub loop-tag-preserved : goal.loop-tag-preserved

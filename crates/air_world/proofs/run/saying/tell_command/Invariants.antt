@@ -1,6 +1,4 @@
-use Rattle.std.proofs.Common.{[], ◌∷◌, ◌++◌, map, take}
-use Rattle.air_world.specs.Telling.{Tells}
-use Rattle.report_lines.specs.ReportLine.{ExchangeLine, MissedLine}
+use Rattle.air_world.proofs.Names.{◌∷◌, ◌++◌, map, take, [], Tells, ExchangeLine, MissedLine}
 use Rattle.air_world.proofs.run.saying.tell_command.Given as goal
 
 abbrev pub invariant-loop-tag : goal.invariant-loop-tag

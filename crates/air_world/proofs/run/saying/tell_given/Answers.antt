@@ -1,9 +1,5 @@
-use Rattle.std.proofs.Common.{◌≡◌, List, [], ◌∷◌, ap, ◌∙◌, length}
-use Rattle.std.proofs.lemmas.List.{length-map}
+use Rattle.air_world.proofs.Names.{◌≡◌, List, ◌∷◌, ap, ◌∙◌, length, [], GivenLine, exchanged_by, length-map, AnswerValue, answer_of}
 use Rattle.air_world.proofs.Passing.{tells-same}
-use Rattle.report_lines.specs.ReportLine.{GivenLine}
-use Rattle.runs.specs.Said.{exchanged_by}
-use Rattle.tag_population.specs.Answers.{AnswerValue, answer_of}
 use Rattle.wave_dump.specs.Exchanged.{Exchanged}
 use Rattle.air_world.proofs.run.saying.tell_given.Goals as goal
 

@@ -1,11 +1,6 @@
-use Rattle.std.proofs.Common.{◌∷◌, map, refl, sym, ◌∙◌, subst}
+use Rattle.air_world.proofs.Names.{◌∷◌, map, refl, sym, ◌∙◌, subst, AnswersCommand, Command, ExchangeLine, MissedLine, answer_line, AreReplies}
 use Rattle.air_world.proofs.Passing.{tells-same, tells-then}
 use Rattle.air_world.proofs.Saying.{said-skipped}
-use Rattle.air_world.specs.Saying.{AnswersCommand}
-use Rattle.command_grammar.specs.declared.commands.Command.{Command}
-use Rattle.report_lines.specs.ReportLine.{ExchangeLine, MissedLine}
-use Rattle.runs.specs.Said.{answer_line}
-use Rattle.runs.specs.laws.Replies.{AreReplies}
 use Rattle.air_world.proofs.run.saying.tell_said.Goals as goal
 
 pub returns-then-not-wants_exchanges-clause-told : goal.returns-then-not-wants_exchanges-clause-told

@@ -1,10 +1,6 @@
 -- Lines of a trace that nobody wants make no difference.
-use Rattle.std.proofs.Common.{[], ◌∷◌, List, length, refl, ap, ◌∙◌}
-use Rattle.std.proofs.lemmas.List.{length-map}
-use Rattle.air_model.specs.Channel.{heard_levels, wave_for}
+use Rattle.air_world.proofs.Names.{◌∷◌, List, length, refl, ap, ◌∙◌, [], heard_levels, wave_for, RxLine, TxLine, length-map, AnswerValue, answer_of}
 use Rattle.air_world.proofs.Passing.{tells-same, tells-then}
-use Rattle.report_lines.specs.ReportLine.{RxLine, TxLine}
-use Rattle.tag_population.specs.Answers.{AnswerValue, answer_of}
 use Rattle.air_world.proofs.run.saying.tell_waves.Goals as goal
 
 pub returns-then-not-wants_frames : goal.returns-then-not-wants_frames

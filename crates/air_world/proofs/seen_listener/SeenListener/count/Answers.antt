@@ -1,7 +1,5 @@
-use Rattle.std.proofs.Common.{◌∷◌, [], refl, sym, ◌∙◌, ap}
+use Rattle.air_world.proofs.Names.{◌∷◌, refl, sym, ◌∙◌, ap, [], ListLine, seen_counts}
 use Rattle.air_world.proofs.Listings.{pairs-append, pairs-other}
-use Rattle.report_lines.specs.ReportLine.{ListLine}
-use Rattle.report_lines.specs.SeenCounts.{seen_counts}
 use Rattle.air_world.proofs.seen_listener.SeenListener.count.Goals as goal
 
 pub returns-in_default : goal.returns-in_default

@@ -1,5 +1,4 @@
-use Rattle.std.proofs.Common.{sym, ◌∙◌, ap, subst}
-use Rattle.air_world.specs.declared.seen_listener.SeenListener.{SeenListener}
+use Rattle.air_world.proofs.Names.{sym, ◌∙◌, ap, subst, SeenListener}
 use Rattle.air_world.proofs.seen_listener.SeenListenerListener.tell.Goals as goal
 
 pub returns : goal.returns

@@ -1,6 +1,5 @@
-use Rattle.std.proofs.Common.{sym, ◌∙◌, ap}
+use Rattle.air_world.proofs.Names.{sym, ◌∙◌, ap, seen_counts}
 use Rattle.air_world.proofs.Listings.{pairs-skipped, said-untold}
-use Rattle.report_lines.specs.SeenCounts.{seen_counts}
 use Rattle.air_world.proofs.seen_listener.SeenListenerListener.wants_exchanges.Goals as goal
 
 pub returns : goal.returns

@@ -1,12 +1,5 @@
-use Rattle.std.proofs.Common.{◌≡◌, ◌+◌, ◌-◌, ◌^◌, ◌&&◌, ◌∙◌, ap, arith}
-use Rattle.std.specs.Prelude.{min}
+use Rattle.air_world.proofs.Names.{◌≡◌, ◌+◌, ◌-◌, ◌^◌, ◌&&◌, ◌∙◌, ap, arith, min, Fits, counted_line, counts-more, line_of, ListLine, RoundLine, SeenLine, TagLine, is_quiet, tag_value_of}
 use Rattle.air_world.proofs.Counted.{other-line}
-use Rattle.air_world.specs.Counting.{Fits, counted_line}
-use Rattle.air_world.specs.laws.CountingLaws.{counts-more}
-use Rattle.report_lines.specs.Line.{line_of}
-use Rattle.report_lines.specs.ReportLine.{ListLine, RoundLine, SeenLine, TagLine}
-use Rattle.runs.specs.Summary.{is_quiet}
-use Rattle.tag_machine.specs.Hearing.{tag_value_of}
 use Rattle.air_world.proofs.summary.CountingListener.tell.Goals as goal
 
 pub returns-in-List : goal.returns-in-List

@@ -1,4 +1,4 @@
-use Rattle.air_world.specs.laws.CountingLaws.{counts-more, uncounted-frame}
+use Rattle.air_world.proofs.Names.{counts-more, uncounted-frame}
 use Rattle.air_world.proofs.summary.CountingListener.wants_frames.Goals as goal
 
 pub returns : goal.returns
