@@ -9,17 +9,17 @@ use line_code::LineCode;
 
 /// Miller-modulated subcarrier with M = 2 (6.3.1.3.2.3 of the standard): two cycles of the subcarrier,
 /// which are 4 levels, for each bit.
-#[derive(Clone, Copy)]
+#[derive(Clone, Copy, Debug, PartialEq, Eq)]
 pub struct Miller2;
 
 /// Miller-modulated subcarrier with M = 4 (6.3.1.3.2.3 of the standard): four cycles of the subcarrier,
 /// which are 8 levels, for each bit.
-#[derive(Clone, Copy)]
+#[derive(Clone, Copy, Debug, PartialEq, Eq)]
 pub struct Miller4;
 
 /// Miller-modulated subcarrier with M = 8 (6.3.1.3.2.3 of the standard): eight cycles of the
 /// subcarrier, which are 16 levels, for each bit.
-#[derive(Clone, Copy)]
+#[derive(Clone, Copy, Debug, PartialEq, Eq)]
 pub struct Miller8;
 
 impl LineCode for Miller2 {

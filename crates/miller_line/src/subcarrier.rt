@@ -10,7 +10,7 @@ ghost use Rattle.line_code.specs.States.{context_after};
 ghost use Rattle.miller_line.specs.SymbolContext.{context};
 
 /// The Miller symbol before a bit's block: its bit, and the phase in which it ended.
-#[derive(Clone, Copy)]
+#[derive(Clone, Copy, Debug, PartialEq, Eq)]
 pub struct SymbolBefore {
     pub(crate) bit: bool,
     /// The phase in which the symbol ended: `false` is phase 0.
