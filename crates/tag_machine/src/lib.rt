@@ -19,7 +19,6 @@ mod transitions;
 
 pub use air_events::{Choice, Entry, Event, Several};
 pub use any_tag::{Answered, AnyTag, Heard};
-pub use in_place::reaches_waiting;
 pub use laws::{
     absent_tags_stay, answers_are_expected, answers_are_replies, draw_laws, query_rep_laws,
     steps_keep_tags_legal,
