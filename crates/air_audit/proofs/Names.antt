@@ -28,7 +28,7 @@ pub use Rattle.checked_lines.specs.laws.OneOutcome.{AreUnambiguous, one_fault, s
 pub use Rattle.checked_lines.specs.laws.ReadingOn.{HasReadTo, NextLine, all_read, fault_read, none_read, one_read, outcome_behind, unended_read}
 pub use Rattle.command_grammar.specs.Commands.{IsLegalCommand, Spellings, SpellsCommand, spelling_of}
 pub use Rattle.command_grammar.specs.declared.commands.Command.{Command}
-pub use Rattle.line_codes.specs.Codes.{table_of}
+pub use Rattle.reply_wire.specs.Codes.{table_of}
 pub use Rattle.pie_line.specs.Link.{IsLegalLink, LinkValue, blf_of}
 pub use Rattle.pie_line.specs.Pie.{IsFrame, frame_kind_of, longest_interval, wave_of}
 pub use Rattle.pie_line.specs.declared.frame.FrameKind.{FrameKind}

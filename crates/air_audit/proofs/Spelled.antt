@@ -5,7 +5,7 @@ use Rattle.air_audit.proofs.Names.{◌≡◌, ◌≢◌, ◌+◌, ◌<◌, ◌�
 use Rattle.access_ops.specs.declared.op_next.OpResult.TheVariants as results
 use Rattle.command_fields.specs.declared.choices.Side.{Side}
 use Rattle.command_fields.specs.declared.choices.Side.TheVariants.{A, B}
-use Rattle.command_text.specs.CommandText.{side_letter}
+use Rattle.wire_text.specs.CommandText.{side_letter}
 use Rattle.lock_rules.specs.declared.locks.Locks.{Locks}
 use Rattle.lock_rules.specs.declared.locks.Pair.{Pair}
 use Rattle.q_round.specs.declared.round.RoundEnd.TheVariants as ends
@@ -15,7 +15,7 @@ use Rattle.tag_machine.specs.StateNames.{name_of}
 use Rattle.tag_machine.specs.declared.states.StateName.{StateName}
 use Rattle.tag_machine.specs.declared.states.StateName.TheVariants as names
 use Rattle.text_fields.specs.Hexadecimal.{hex_words}
-use Rattle.value_text.specs.ValueText.{locks_text, pair_text}
+use Rattle.wire_text.specs.PasswordsAndLocks.{locks_text, pair_text}
 use Rattle.air_audit.proofs.Words.{all_visible, word-text}
 
 -- a decimal digit

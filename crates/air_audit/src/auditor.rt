@@ -5,7 +5,7 @@ ghost use Rattle.air_model.specs.Past.{Start, Record, Item};
 ghost use Rattle.report_lines.specs.ReportLine.{report_line_text, TagLine};
 ghost use Rattle.tag_machine.specs.TagValue.{TagValue};
 ghost use Rattle.runs.specs.Listing.{Listed};
-ghost use Rattle.line_codes.specs.Codes.{table_of};
+ghost use Rattle.reply_wire.specs.Codes.{table_of};
 ghost use Rattle.reply_grammar.specs.Reception.{reception_from};
 ghost use Rattle.reply_wire.specs.Heard.{pair_received};
 ghost use Rattle.reply_wire.specs.Received.{IsReceived};

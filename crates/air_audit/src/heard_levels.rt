@@ -8,8 +8,8 @@ ghost use Rattle.air_model.specs.Channel.{HasFewLevels, default_given, first_bro
 ghost use Rattle.air_audit.specs.HeardLevels.{IsShortAnswer, room_for_audited_streams};
 
 use bit_strings::{Bits, Levels, OutOfMemory};
-use line_codes::encode_bits;
 use pie_line::Link;
+use reply_wire::encode_bits;
 use std::alloc::Global;
 use std::marker::Model;
 use tag_machine::{Choice, Several};

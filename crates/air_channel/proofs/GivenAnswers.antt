@@ -5,7 +5,7 @@ use Rattle.std.proofs.lemmas.List.Elements.{All-get_or}
 use Rattle.std.proofs.lemmas.Option.{slice_get-map, slice_get_within, get_or_from_slice_get}
 use Rattle.air_channel.proofs.Names.{option_map, IsSent, Replied, AnswerValue, answer_of, answer_value_of, Answer, first_broken, broken, levels_of, AreSentAnswers, IsAnswer, answer_levels}
 use Rattle.line_code.specs.Stream.{stream_of}
-use Rattle.line_codes.specs.Codes.{table_of}
+use Rattle.reply_wire.specs.Codes.{table_of}
 use Rattle.pie_line.specs.Link.{LinkValue}
 use Rattle.reply_grammar.specs.Replies.{longest_reply}
 use Rattle.reply_grammar.proofs.Suiting.{spelling-within}

@@ -5,7 +5,7 @@ use Rattle.air_channel.specs.BufferSizes.{room_for_frames, room_for_streams}
 use Rattle.air_events.specs.Streams.{longest_stream}
 use Rattle.bit_strings.specs.BitString.{BitString}
 use Rattle.line_code.specs.Stream.{stream_of}
-use Rattle.line_codes.specs.Codes.{table_of}
+use Rattle.reply_wire.specs.Codes.{table_of}
 use Rattle.pie_line.specs.Link.{LinkValue}
 use Rattle.tag_machine.specs.Answers.{IsSent}
 use Rattle.tag_machine.specs.TagsInExchange.{Replied}

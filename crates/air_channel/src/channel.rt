@@ -11,8 +11,8 @@ ghost use Rattle.air_channel.specs.BufferSizes.{room_for_frames, room_for_stream
 
 use air_model::Got;
 use bit_strings::{Bits, Levels};
-use line_codes::encode_bits;
 use pie_line::Link;
+use reply_wire::encode_bits;
 use tag_machine::{Choice, Several};
 use tag_population::{Answer, Answers};
 

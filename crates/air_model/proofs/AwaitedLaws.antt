@@ -6,9 +6,9 @@ use Rattle.std.proofs.lemmas.Nat.{mod_below}
 use Rattle.bit_strings.specs.declared.code.Code.{Code}
 use Rattle.line_code.specs.TableFacts.{with_level_flipped}
 use Rattle.line_code.specs.Stream.{Streams, stream_of}
-use Rattle.line_codes.specs.laws.Codes.{code_refuses_flips}
-use Rattle.line_codes.specs.Codes.{table_of}
-use Rattle.line_codes.proofs.Preambles.{code_has_one_preamble, code_keeps_preamble}
+use Rattle.reply_wire.specs.laws.Codes.{code_refuses_flips}
+use Rattle.reply_wire.specs.Codes.{table_of}
+use Rattle.reply_wire.proofs.Preambles.{code_has_one_preamble, code_keeps_preamble}
 use Rattle.pie_line.specs.Link.{LinkValue}
 use Rattle.reply_grammar.specs.Reception.{no_stream, whole_reply, no_such_reply, reception_from}
 use Rattle.reply_grammar.specs.Replies.{AnswersExpected, spelling}

@@ -8,8 +8,8 @@ use Rattle.air_events.specs.Streams.{longest_stream}
 use Rattle.bit_strings.specs.declared.code.Code.{Code}
 use Rattle.line_code.specs.TableFacts.{with_level_flipped, inverse_of}
 use Rattle.line_code.specs.Stream.{stream_of, Streams}
-use Rattle.line_codes.specs.laws.Codes.{code_refuses_flips, stream_least, stream_most}
-use Rattle.line_codes.specs.Codes.{table_of}
+use Rattle.reply_wire.specs.laws.Codes.{code_refuses_flips, stream_least, stream_most}
+use Rattle.reply_wire.specs.Codes.{table_of}
 use Rattle.pie_line.specs.Link.{LinkValue}
 use Rattle.reply_grammar.specs.Replies.{AnswersExpected, FitsBank, IsReply, Suits, handle_of, spelling, suits}
 use Rattle.reply_grammar.proofs.Replies.{answers_from}

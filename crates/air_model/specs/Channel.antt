@@ -13,7 +13,7 @@ use Rattle.command_grammar.specs.declared.commands.Command.TheVariants as comman
 use Rattle.command_grammar.specs.Commands.{spelling_of}
 use Rattle.line_code.specs.TableFacts.{with_level_flipped}
 use Rattle.line_code.specs.Stream.{stream_of}
-use Rattle.line_codes.specs.Codes.{table_of}
+use Rattle.reply_wire.specs.Codes.{table_of}
 use Rattle.pie_line.specs.Link.{LinkValue}
 use Rattle.pie_line.specs.Pie.{wave_of}
 use Rattle.pie_line.specs.declared.frame.Lead.{Lead}

@@ -23,7 +23,7 @@ pub use Rattle.air_world.specs.Saying.{AnswersCommand, AreOfDifferentTags, AreSh
 pub use Rattle.air_world.specs.Telling.{EndsOrFails, IsCut, IsCutOff, IsCutShort, IsWritten, PlaysOrFails, Tells, lines_to_tell}
 pub use Rattle.air_world.specs.declared.seen_listener.SeenListener.{SeenListener}
 pub use Rattle.air_world.specs.laws.CountingLaws.{counted-append, counts-more, uncounted, uncounted-frame}
-pub use Rattle.bounded_list.specs.ItemList.{ItemList}
+pub use Rattle.bit_strings.specs.ItemList.{ItemList}
 pub use Rattle.command_grammar.specs.declared.commands.Command.{Command}
 pub use Rattle.pie_line.specs.Link.{LinkValue, blf_of}
 pub use Rattle.q_round.specs.Rounds.{AreOutcomes, Turn, is_over, next_command, next_of_turn, slots_of, turn_of}

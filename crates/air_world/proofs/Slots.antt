@@ -8,7 +8,7 @@ use Rattle.reply_grammar.specs.declared.expected.Reply.TheVariants as replies
 use Rattle.access_ops.specs.declared.op_next.Answer.TheVariants.{Got}
 use Rattle.air_model.specs.Reception.{HoldsOfSent, IsGivenFor, IsUnmistakable, reception_of, reception_with}
 use Rattle.line_code.specs.Table.{Table}
-use Rattle.line_codes.specs.Codes.{table_of}
+use Rattle.reply_wire.specs.Codes.{table_of}
 use Rattle.reply_grammar.specs.declared.expected.Received.{Received}
 use Rattle.reply_grammar.specs.declared.expected.Received.TheVariants as receiveds
 use Rattle.reply_wire.specs.Received.{IsReceived}

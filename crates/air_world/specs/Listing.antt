@@ -1,6 +1,6 @@
 -- Profile: what the lines of a run list, and how often.
 use Rattle.std.specs.Prelude.{◌≡◌, ◌+◌, ◌≤◌, length, ℕ, Bool, true, false, List, [], ◌∷◌, ◌++◌, Option, Some, None}
-use Rattle.bounded_list.specs.ItemList.{ItemList}
+use Rattle.bit_strings.specs.ItemList.{ItemList}
 use Rattle.report_lines.specs.ReportLine.{ReportLine, ListLine}
 use Rattle.report_lines.specs.declared.mode.PlayFault.{PlayFault}
 use Rattle.report_lines.specs.declared.mode.PlayFault.TheVariants.{OutOfMemory}

@@ -16,7 +16,7 @@ use Rattle.air_model.specs.declared.got.Got.TheVariants as gots
 use Rattle.air_world.specs.NewAir.{new_air}
 use Rattle.air_world.specs.Saying.{IsBehind}
 use Rattle.air_world.specs.Telling.{EndsOrFails, IsCutOff, lines_to_tell}
-use Rattle.line_codes.specs.Codes.{table_of}
+use Rattle.reply_wire.specs.Codes.{table_of}
 use Rattle.pie_line.specs.Link.{LinkValue}
 use Rattle.q_round.specs.declared.round.RoundEnd.{RoundEnd}
 use Rattle.reply_grammar.specs.Reception.{reception_from}

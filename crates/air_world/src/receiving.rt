@@ -1,7 +1,7 @@
 //! What is received of the stream that came last over an air.
 ghost use Rattle.std.specs.Prelude.{◌≡◌, ◌≤◌, ◌||◌};
 ghost use Rattle.air_events.specs.Streams.{longest_stream};
-ghost use Rattle.line_codes.specs.Codes.{table_of};
+ghost use Rattle.reply_wire.specs.Codes.{table_of};
 ghost use Rattle.reply_wire.specs.Received.{IsReceived};
 
 use air_channel::Air;

@@ -3,7 +3,7 @@ ghost use Rattle.std.specs.Prelude.{◌≡◌, ℕ, ◌≤◌, length, List, Som
 ghost use Rattle.air_events.specs.Streams.{longest_stream};
 ghost use Rattle.air_model.specs.Past.{Item, next_record};
 ghost use Rattle.air_world.specs.Playing.{Begun, IsBetweenSteps, IsEndedBy, IsSent, IsUnderway, StandsAt, StandsOrFails, most_in_slot};
-ghost use Rattle.line_codes.specs.Codes.{table_of};
+ghost use Rattle.reply_wire.specs.Codes.{table_of};
 ghost use Rattle.reply_grammar.specs.Reception.{reception_from};
 ghost use Rattle.reply_grammar.specs.declared.expected.Received.{Received};
 ghost use Rattle.reply_wire.specs.Heard.{pair_received, rn16_received};

@@ -5,3 +5,4 @@ pub mod Family
 pub mod NumbersInBits
 pub mod Words
 pub mod laws
+pub mod ItemList

@@ -1,9 +1,10 @@
 //! Lists of bits with a capacity that is fixed when they are made, numbers in them, and what several
 //! subjects share: the place at which a list stops being the front of some member of a family,
-//! lists of items, small checked numbers and the line codes.
+//! lists of items, also with a fixed capacity, small checked numbers and the line codes.
 #![tactic(auto)]
 
 mod bits;
+mod bounded;
 mod checked;
 mod code;
 mod ebv;
@@ -14,6 +15,7 @@ mod numbers_in_bits;
 mod words;
 
 pub use bits::{Bits, Full, Levels, OutOfMemory};
+pub use bounded::Bounded;
 pub use checked::{Action, Count1, Payload, Pointer, QValue, Session};
 pub use code::Code;
 pub use ebv::Ebv;

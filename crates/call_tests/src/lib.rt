@@ -1,5 +1,5 @@
-//! Tests of public calls that no row and no vector reaches, of vectors and check numbers that others published, and the example of
-//! a tag by itself.
+//! Tests of public calls that no row and no vector reaches, of vectors and check numbers that others published, of what no row
+//! shows of whole runs, and the example of a tag by itself.
 #![tactic(auto)]
 
 #[cfg(test)]
@@ -8,6 +8,8 @@ mod bits;
 mod check_numbers;
 #[cfg(test)]
 mod memory;
+#[cfg(test)]
+mod play;
 #[cfg(test)]
 mod round_trips;
 #[cfg(test)]

@@ -2,8 +2,7 @@
 ghost use Rattle.std.specs.Prelude.{IfOk};
 ghost use Rattle.scenario.specs.Limits.{IsScenario};
 
-use scenario::Scenario;
-use scenario_text::{Unread, print_and_read, print_scenario, read_and_print, read_scenario};
+use scenario::{Scenario, Unread, print_and_read, print_scenario, read_and_print, read_scenario};
 use std::alloc::Global;
 
 /// One tag, and a round of one slot.

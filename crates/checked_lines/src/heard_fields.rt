@@ -4,12 +4,12 @@ ghost use Rattle.bit_strings.specs.declared.code.Code.{Code};
 ghost use Rattle.text_fields.specs.Binary.{binary_digit};
 ghost use Rattle.text_fields.specs.CodeNames.{code_word};
 ghost use Rattle.reply_grammar.specs.declared.expected.Expect.{Expect};
-ghost use Rattle.reply_text.specs.ReplyText.{IsExpect, expect_word};
+ghost use Rattle.wire_text.specs.ReplyText.{IsExpect, expect_word};
 
 use bit_strings::Code;
 use reply_grammar::Expect;
-use reply_text::expect_of;
 use text_fields::{code_named, one_bit};
+use wire_text::expect_of;
 
 /// The line code, TRext and expectation that three fields spell; none exactly where one of them spells none.
 pub fn heard_as(code: &[u8], trext: &[u8], expect: &[u8]) -> Option<(Code, bool, Expect)>

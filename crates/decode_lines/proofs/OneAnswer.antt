@@ -5,7 +5,7 @@ use Rattle.bit_strings.specs.declared.code.Code.{Code}
 use Rattle.line_code.specs.Stream.{Streams}
 use Rattle.line_code.specs.laws.Streams.{refused_is_none, same_answer as same_stream_answer}
 use Rattle.line_code.specs.declared.refusal.LineRefusal.{LineRefusal}
-use Rattle.line_codes.specs.Codes.{table_of}
+use Rattle.reply_wire.specs.Codes.{table_of}
 use Rattle.sample_slicer.specs.declared.slicer.SliceRefusal.{SliceRefusal}
 use Rattle.sample_slicer.proofs.Samples.{same_answer as same_samples_answer}
 use Rattle.reply_grammar.specs.declared.expected.Expect.{Expect}

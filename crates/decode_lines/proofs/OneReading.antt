@@ -2,14 +2,14 @@
 use Rattle.std.proofs.Common.{◌≡◌, ◌≢◌, ℕ, List, [], ◌∷◌, length, map, refl, sym, ◌∙◌, arith, subst, ◌≤◌, Ok, rules}
 use Rattle.std.proofs.lemmas.List.Elements.{All-nil, All-cons, All-head, All-tail}
 use Rattle.std.proofs.lemmas.List.{length-map}
-use Rattle.reply_text.specs.ReplyText.{expect_word}
-use Rattle.reply_text.proofs.FieldTexts.{expect_word_is_field_text}
+use Rattle.wire_text.specs.ReplyText.{expect_word}
+use Rattle.wire_text.proofs.ExpectationFieldTexts.{expect_word_is_field_text}
 use Rattle.std.specs.List.{All}
 use Rattle.text_fields.specs.Lines.{fields_of}
 use Rattle.text_fields.specs.Binary.{binary, binary_digit}
 use Rattle.text_fields.specs.CodeNames.{code_word}
-use Rattle.command_text.proofs.FieldTexts.{bit_is, code_is}
-use Rattle.command_text.proofs.NameLists.{told}
+use Rattle.wire_text.proofs.CommandFieldTexts.{bit_is, code_is}
+use Rattle.wire_text.proofs.NameLists.{told}
 use Rattle.hex.specs.Hex.{decode_of}
 use Rattle.hex.proofs.OnLiterals.{hex_on_literals}
 use Rattle.std.specs.Fmt.{decimal}
@@ -23,8 +23,8 @@ use Rattle.checked_lines.specs.declared.fault.FaultReason.{FaultReason}
 use Rattle.checked_lines.specs.declared.fault.FaultReason.TheVariants.{Word, Shape, Number}
 use Rattle.pie_line.specs.Pie.{longest_interval}
 use Rattle.text_fields.proofs.ToldApart.{decimal_told, binary_told, hex_words_told}
-use Rattle.command_text.proofs.ToldApart.{code_told, digit_told}
-use Rattle.reply_text.proofs.ToldApart.{expect_told}
+use Rattle.wire_text.proofs.CommandsToldApart.{code_told, digit_told}
+use Rattle.wire_text.proofs.ExpectationsToldApart.{expect_told}
 use Rattle.checked_lines.specs.laws.OneLine.{TellLines}
 use Rattle.decode_lines.specs.Answer.{decode_rules}
 

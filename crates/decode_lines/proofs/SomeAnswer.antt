@@ -5,8 +5,8 @@ use Rattle.bit_strings.specs.declared.code.Code.{Code}
 use Rattle.line_code.specs.Answer.{IsStreamAnswer}
 use Rattle.line_code.specs.declared.refusal.LineRefusal.{LineRefusal}
 use Rattle.line_code.specs.laws.Existence.{some_answer as some_stream_answer}
-use Rattle.line_codes.specs.Codes.{table_of, chips_of}
-use Rattle.line_codes.specs.laws.Codes.{code_even, code_tells}
+use Rattle.reply_wire.specs.Codes.{table_of, chips_of}
+use Rattle.reply_wire.specs.laws.Codes.{code_even, code_tells}
 use Rattle.sample_slicer.proofs.SomeAnswer.{some_answer as some_slice_answer}
 use Rattle.reply_grammar.specs.laws.SomeReply.{reply_or_fault}
 use Rattle.reply_wire.specs.laws.SomeReceived.{some_received}

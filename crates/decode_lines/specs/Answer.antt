@@ -7,7 +7,7 @@ use Rattle.line_code.specs.Refusal.{RefusesStream}
 use Rattle.text_fields.specs.Lines.{line_feed}
 use Rattle.std.specs.Fmt.{decimal}
 use Rattle.text_fields.specs.Binary.{binary}
-use Rattle.line_codes.specs.Codes.{table_of}
+use Rattle.reply_wire.specs.Codes.{table_of}
 use Rattle.sample_slicer.specs.Samples.{IsSliceAnswer}
 use Rattle.sample_slicer.specs.declared.slicer.SliceRefusal.{SliceRefusal}
 use Rattle.sample_slicer.specs.declared.slicer.SliceRefusal.TheVariants.{Mixed, Rest}
@@ -17,7 +17,7 @@ use Rattle.reply_grammar.specs.declared.expected.Reply.{Reply}
 use Rattle.reply_grammar.specs.declared.expected.ReplyRefusal.{ReplyRefusal}
 use Rattle.reply_grammar.specs.declared.expected.Received.{Received}
 use Rattle.reply_grammar.specs.declared.expected.Received.TheVariants.{Whole, Refused}
-use Rattle.reply_text.specs.ReplyText.{reply_line, refusal_line}
+use Rattle.wire_text.specs.ReplyText.{reply_line, refusal_line}
 use Rattle.reply_wire.specs.Received.{IsReceived}
 use Rattle.pie_line.specs.Pie.{IsFrame}
 use Rattle.pie_line.specs.Refusal.{RefusesFrame}
@@ -27,7 +27,7 @@ use Rattle.pie_text.specs.PieText.{frame_line, pie_refusal_line}
 use Rattle.command_grammar.specs.Commands.{IsFinishAnswer}
 use Rattle.command_grammar.specs.declared.commands.Command.{Command}
 use Rattle.command_grammar.specs.declared.refusal.CommandRefusal.{CommandRefusal}
-use Rattle.command_text.specs.CommandText.{command_line, command_refusal_line}
+use Rattle.wire_text.specs.CommandText.{command_line, command_refusal_line}
 use Rattle.epc_sgtin.specs.SgtinValue.{SgtinValue}
 use Rattle.epc_sgtin.specs.Epc.{IsSgtin}
 use Rattle.epc_sgtin.specs.EpcFaults.{RefusesEpc}
@@ -35,7 +35,7 @@ use Rattle.epc_sgtin.specs.Uri.{IsUriOf}
 use Rattle.epc_sgtin.specs.UriFaults.{RefusesUri}
 use Rattle.epc_sgtin.specs.declared.encoding.EpcFault.{EpcFault}
 use Rattle.epc_sgtin.specs.declared.tag_uri.UriFault.{UriFault}
-use Rattle.sgtin_text.specs.SgtinText.{name_line, sgtin_words_line, epc_fault_line, uri_fault_line}
+use Rattle.epc_sgtin.specs.SgtinText.{name_line, sgtin_words_line, epc_fault_line, uri_fault_line}
 use Rattle.checked_lines.specs.LineRules.{LineRules}
 use Rattle.checked_lines.specs.Answered.{AddsLine, AddsLineFor}
 use Rattle.decode_lines.specs.Request.{AsksToDecodeBehind, AsksToDecode, IsFaultyToDecode}

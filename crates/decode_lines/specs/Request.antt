@@ -8,8 +8,8 @@ use Rattle.text_fields.specs.Binary.{binary, binary_digit}
 use Rattle.text_fields.specs.Hexadecimal.{hex_words}
 use Rattle.text_fields.specs.CodeNames.{code_word}
 use Rattle.bit_strings.specs.declared.code.Code.TheVariants.{Fm0, M2, M4, M8}
-use Rattle.command_text.specs.NameLists.{EachFound}
-use Rattle.reply_text.specs.ReplyText.{expect_word, IsExpect}
+use Rattle.wire_text.specs.NameLists.{EachFound}
+use Rattle.wire_text.specs.ReplyText.{expect_word, IsExpect}
 use Rattle.decode_lines.specs.declared.request.RequestKind.{RequestKind}
 use Rattle.decode_lines.specs.declared.request.RequestKind.TheVariants.{Stream as StreamKind, Samples as SamplesKind, Reply as ReplyKind, Heard as HeardKind, Pie as PieKind, Command as CommandKind, Sgtin as SgtinKind, Uri as UriKind}
 use Rattle.decode_lines.specs.declared.request.Request.{Request}

@@ -8,16 +8,16 @@ ghost use Rattle.decode_lines.specs.Answer.{line_of_answer, StreamAnswer, Sample
 
 use bit_strings::{Bits, Levels, OutOfMemory};
 use command_grammar::{Command, CommandRefusal};
-use command_text::{push_command, push_command_refusal};
-use epc_sgtin::{EpcFault, Sgtin, UriFault};
-use line_codes::LineRefusal;
+use epc_sgtin::{
+    EpcFault, Sgtin, UriFault, push_epc_fault, push_name, push_sgtin_words, push_uri_fault,
+};
 use pie_line::{FrameKind, PieRefusal};
 use pie_text::{push_frame, push_pie_refusal};
 use reply_grammar::{Received, Reply, ReplyRefusal};
-use reply_text::{push_reply, push_reply_refusal};
+use reply_wire::LineRefusal;
 use sample_slicer::SliceRefusal;
-use sgtin_text::{push_epc_fault, push_name, push_sgtin_words, push_uri_fault};
 use text_fields::{push_bits, push_number};
+use wire_text::{push_command, push_command_refusal, push_reply, push_reply_refusal};
 
 /// Adds a word, which ends with a space, and bits, as a line.
 fn push_bits_line(text: &mut String, word: &str, bits: &[bool]) -> Result<(), OutOfMemory>

@@ -6,15 +6,14 @@ ghost use Rattle.decode_lines.specs.Request.{all_request_kinds, request_kind_fou
 use crate::raw_field::RawField;
 use bit_strings::Code;
 use checked_lines::FaultReason;
-use command_text::{Named, value_named};
 use pie_line::Intervals;
 use pie_text::{NotNumbers, Numbers, read_numbers};
 use reply_grammar::Expect;
-use reply_text::expect_of;
 use text_fields::{
     Digits, Fields, HexBytes, Words, code_named, four_fields, name_of, number, one_bit, one_field,
     three_fields, two_fields,
 };
+use wire_text::{Named, expect_of, value_named};
 
 /// The greatest number of levels in a line.
 pub const MOST_LEVELS: u32 = 132_000;

@@ -7,15 +7,15 @@ use Rattle.text_fields.specs.CodeNames.{code_word}
 use Rattle.text_fields.proofs.FieldTextLaws.{IsFieldText-decimal, IsFieldText-binary}
 use Rattle.text_fields.proofs.ToldApart.{decimal_told, binary_told}
 use Rattle.text_fields.proofs.FilledFields.{Filled, none_filled, one_more}
-use Rattle.command_text.specs.CommandText.{commands}
-use Rattle.command_text.proofs.CommandTexts.{command_told}
-use Rattle.command_text.proofs.FieldTexts.{bit_is, code_is}
-use Rattle.command_text.proofs.NameLists.{told}
-use Rattle.command_text.proofs.ToldApart.{code_told, digit_told}
-use Rattle.reply_text.specs.ReplyText.{expect_word, reply_fields, replies}
-use Rattle.reply_text.proofs.ReplyTexts.{reply_told}
-use Rattle.reply_text.proofs.FieldTexts.{expect_word_is_field_text}
-use Rattle.reply_text.proofs.ToldApart.{expect_told}
+use Rattle.wire_text.specs.CommandText.{commands}
+use Rattle.wire_text.proofs.CommandTexts.{command_told}
+use Rattle.wire_text.proofs.CommandFieldTexts.{bit_is, code_is}
+use Rattle.wire_text.proofs.NameLists.{told}
+use Rattle.wire_text.proofs.CommandsToldApart.{code_told, digit_told}
+use Rattle.wire_text.specs.ReplyText.{expect_word, reply_fields, replies}
+use Rattle.wire_text.proofs.ReplyTexts.{reply_told}
+use Rattle.wire_text.proofs.ExpectationFieldTexts.{expect_word_is_field_text}
+use Rattle.wire_text.proofs.ExpectationsToldApart.{expect_told}
 use Rattle.pie_line.specs.declared.frame.Lead.{Lead}
 use Rattle.pie_line.specs.declared.frame.Lead.TheVariants.{Preamble, FrameSync}
 use Rattle.checked_lines.specs.declared.fault.FaultReason.{FaultReason}

@@ -8,8 +8,8 @@ use Rattle.text_fields.specs.Binary.{binary, binary_digit}
 use Rattle.text_fields.specs.CodeNames.{code_word}
 use Rattle.text_fields.specs.NamedFields.{AreFilled}
 use Rattle.text_fields.proofs.FilledFields.{Filled, have_6, none_filled, one_more}
-use Rattle.reply_text.specs.ReplyText.{expect_word, other_reply_fields, reply_fields, reply_kind, IsExpect, IsReplyText}
-use Rattle.reply_text.proofs.ReplyTexts.{replies_are}
+use Rattle.wire_text.specs.ReplyText.{expect_word, other_reply_fields, reply_fields, reply_kind, IsExpect, IsReplyText}
+use Rattle.wire_text.proofs.ReplyTexts.{replies_are}
 use Rattle.reply_grammar.specs.declared.expected.Expect.{Expect}
 use Rattle.reply_grammar.specs.declared.expected.Reply.{Reply as OneReply}
 use Rattle.checked_lines.specs.declared.fault.FaultReason.{FaultReason}

@@ -4,11 +4,11 @@ use Rattle.text_fields.specs.NamedFields.{AreSpelling, HaveShape, NameNothing, V
 use Rattle.text_fields.proofs.NamedFieldLaws.{IsVocabulary}
 use Rattle.command_grammar.specs.Commands.{IsLegalCommand}
 use Rattle.command_grammar.specs.declared.commands.Command.{Command}
-use Rattle.command_text.specs.CommandText.{commands, IsCommandText}
-use Rattle.command_text.proofs.CommandTexts.{commands_are}
+use Rattle.wire_text.specs.CommandText.{commands, IsCommandText}
+use Rattle.wire_text.proofs.CommandTexts.{commands_are}
 use Rattle.reply_grammar.specs.declared.expected.Reply.{Reply}
-use Rattle.reply_text.specs.ReplyText.{replies, IsReplyForm, IsReplyText}
-use Rattle.reply_text.proofs.ReplyTexts.{replies_are}
+use Rattle.wire_text.specs.ReplyText.{replies, IsReplyForm, IsReplyText}
+use Rattle.wire_text.proofs.ReplyTexts.{replies_are}
 
 -- fields that spell a value have the shape that its kind wants
 spelled_shape : {K V : Type 0} (words : Vocabulary K V) (IsInRange : V → Type 0) → IsVocabulary words IsInRange → (fields : List (List ℕ)) (value : V) → AreSpelling words IsInRange fields value

@@ -5,16 +5,16 @@ use Rattle.text_fields.specs.Lines.{fields_of}
 use Rattle.text_fields.specs.Binary.{binary, binary_digit}
 use Rattle.text_fields.specs.CodeNames.{code_word}
 use Rattle.bit_strings.specs.declared.code.Code.TheVariants.{Fm0, M2, M4, M8}
-use Rattle.command_text.specs.NameLists.{EachFound}
+use Rattle.wire_text.specs.NameLists.{EachFound}
 use Rattle.text_fields.specs.NamedFields.{AreFilled, HaveShape, NameNothing}
 use Rattle.pie_line.specs.declared.frame.Lead.{Lead}
 use Rattle.pie_line.specs.declared.frame.Lead.TheVariants.{Preamble, FrameSync}
 use Rattle.command_grammar.specs.Commands.{IsLegalCommand}
-use Rattle.command_text.specs.CommandText.{command_fields, commands}
+use Rattle.wire_text.specs.CommandText.{command_fields, commands}
 use Rattle.line_code.specs.TableFacts.{longest_lead}
 use Rattle.reply_grammar.specs.Replies.{longest_reply}
 use Rattle.reply_grammar.specs.declared.expected.Reply.{Reply as OneReply}
-use Rattle.reply_text.specs.ReplyText.{expect_word, reply_fields, replies, IsExpect, IsReplyForm, IsReplyText}
+use Rattle.wire_text.specs.ReplyText.{expect_word, reply_fields, replies, IsExpect, IsReplyForm, IsReplyText}
 use Rattle.checked_lines.specs.declared.fault.FaultReason.{FaultReason}
 use Rattle.checked_lines.specs.declared.fault.FaultReason.TheVariants.{Word, Shape, Number}
 use Rattle.encode_lines.specs.declared.request.Durations.{Durations}

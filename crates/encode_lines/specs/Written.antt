@@ -5,7 +5,7 @@ use Rattle.bit_strings.specs.declared.code.Code.TheVariants.{Fm0}
 use Rattle.text_fields.specs.Binary.{binary, binary_digit}
 use Rattle.text_fields.specs.CodeNames.{code_word}
 use Rattle.line_code.specs.Stream.{stream_of}
-use Rattle.line_codes.specs.Codes.{table_of}
+use Rattle.reply_wire.specs.Codes.{table_of}
 use Rattle.pie_line.specs.Link.{LinkValue, IsLegalLink}
 use Rattle.pie_line.specs.LinkRefusal.{IsFirstBroken}
 use Rattle.pie_line.specs.Pie.{wave_of}
@@ -16,7 +16,7 @@ use Rattle.command_grammar.specs.Commands.{spelling_of}
 use Rattle.reply_grammar.specs.Replies.{CanBeSent, Suits, handle_of, spelling}
 use Rattle.reply_grammar.specs.declared.expected.Expect.{Expect}
 use Rattle.reply_grammar.specs.declared.expected.Reply.{Reply}
-use Rattle.reply_text.specs.ReplyText.{expect_word}
+use Rattle.wire_text.specs.ReplyText.{expect_word}
 use Rattle.encode_lines.specs.declared.request.Durations.{Durations}
 use Rattle.encode_lines.specs.declared.request.Request.{Request}
 use Rattle.encode_lines.specs.declared.request.Request.TheVariants.{Stream, Pie, Command, Reply as ReplyLine, Heard}

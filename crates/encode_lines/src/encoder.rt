@@ -2,9 +2,9 @@
 ghost use Rattle.std.specs.Prelude.{◌≡◌, ◌≤◌, ◌↔◌, ◌≢◌, [], ◌∷◌, ◌++◌, length, IsTrue, OnOk};
 ghost use Rattle.std.specs.String.{string_bytes};
 ghost use Rattle.line_code.specs.Stream.{stream_of};
-ghost use Rattle.line_codes.specs.Codes.{table_of};
+ghost use Rattle.reply_wire.specs.Codes.{table_of};
 ghost use Rattle.reply_grammar.specs.Replies.{handle_of, longest_reply};
-ghost use Rattle.reply_text.specs.ReplyText.{IsReplyForm};
+ghost use Rattle.wire_text.specs.ReplyText.{IsReplyForm};
 ghost use Rattle.encode_lines.specs.EncodeLines.{AddsWave, AddsWritten, EncodesLine};
 ghost use Rattle.encode_lines.specs.Request.{AsksToEncode, IsWithinEncodeLimits, longest_levels, most_frame_bits, most_frame_intervals};
 ghost use Rattle.encode_lines.specs.Written.{IsAllowedReply};
@@ -17,10 +17,10 @@ use crate::output::{
 use crate::request::{Durations, MOST_FRAME_BITS, MOST_STREAM_BITS, Request, request_of};
 use bit_strings::{Bits, Code, Levels, OutOfMemory};
 use command_grammar::{Command, encode_command};
-use line_codes::encode_bits;
 use pie_line::{Intervals, Lead, Link, LinkRefusal, encode_frame};
 use pie_text::KeptIntervals;
 use reply_grammar::{Expect, Reply, encode_reply};
+use reply_wire::encode_bits;
 use std::alloc::Global;
 use text_fields::Digits;
 

@@ -4,17 +4,16 @@ ghost use Rattle.std.specs.String.{string_bytes};
 ghost use Rattle.std.specs.Fmt.{decimal};
 ghost use Rattle.text_fields.specs.Binary.{binary, binary_digit};
 ghost use Rattle.text_fields.specs.CodeNames.{code_word};
-ghost use Rattle.reply_text.specs.ReplyText.{expect_word};
+ghost use Rattle.wire_text.specs.ReplyText.{expect_word};
 ghost use Rattle.encode_lines.specs.EncodeLines.{written_line};
 ghost use Rattle.encode_lines.specs.Written.{refusal_word, refused_fields};
 
 use bit_strings::{Bits, Code, Levels, OutOfMemory};
-use command_text::bit_name;
 use pie_line::{Intervals, LinkRefusal};
 use pie_text::KeptIntervals;
 use reply_grammar::Expect;
-use reply_text::push_next_expect;
 use text_fields::{name_of, push_next_bits, push_next_name};
+use wire_text::{bit_name, push_next_expect};
 
 /// Writes the line of a stream: `CODE TREXT LEVELS`.
 pub(crate) fn push_stream(

@@ -3,17 +3,16 @@ ghost use Rattle.std.specs.Prelude.{◌≡◌, ◌≢◌, ◌↔◌, ℕ, List, 
 ghost use Rattle.std.specs.Fmt.{decimal};
 ghost use Rattle.text_fields.specs.Lines.{fields_of};
 ghost use Rattle.pie_line.specs.declared.frame.Lead.{Lead};
-ghost use Rattle.reply_text.specs.ReplyText.{IsReplyText};
+ghost use Rattle.wire_text.specs.ReplyText.{IsReplyText};
 ghost use Rattle.encode_lines.specs.Request.{all_kinds, kind_found, lead_word, kind_word, AreDurations, AsksToEncodeBehind, AsksToEncode, AreFaultyToEncode, IsFaultyToEncode, IsFaultyReplyBehind};
 
 use bit_strings::Code;
 use checked_lines::{FaultReason, heard_as};
 use command_grammar::Command;
-use command_text::{Named, read_command, value_named};
 use pie_line::Lead;
 use reply_grammar::{Expect, Reply};
-use reply_text::{expect_of, read_reply};
 use text_fields::{Digits, Fields, FieldsFault, name_of, number, one_bit, six_fields, two_fields};
+use wire_text::{Named, expect_of, read_command, read_reply, value_named};
 
 /// The greatest number of bits of a stream: those of the longest reply.
 pub(crate) const MOST_STREAM_BITS: u32 = 8_225;

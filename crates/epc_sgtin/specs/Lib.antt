@@ -4,3 +4,4 @@ pub mod Epc
 pub mod EpcFaults
 pub mod Uri
 pub mod UriFaults
+pub mod SgtinText

@@ -7,7 +7,7 @@ ghost use Rattle.std.specs.Prelude.{◌≡◌, ◌≢◌, ◌⊎◌, ℕ, ◌≤
 ghost use Rattle.gen2_library.specs.LentRoom.{HasUnreadableWord, input_of, Gives, GivesFront, Overflows};
 ghost use Rattle.report_lines.specs.declared.mode.Mode.{Mode};
 ghost use Rattle.text_fields.specs.Lines.{fields_of};
-ghost use Rattle.program_texts.specs.Texts.{version_number};
+ghost use Rattle.top_call.specs.ProgramTexts.{version_number};
 ghost use Rattle.top_call.specs.Form.{SpellForm, SpellSomeForm};
 ghost use Rattle.top_call.specs.Job.{Defines};
 ghost use Rattle.top_call.specs.Jobs.{job_of};
@@ -22,9 +22,8 @@ mod words;
 
 use call::{is_too_long, run_over};
 use lent_room::Room;
-use program_texts::version_number;
 use std::alloc::Global;
-use top_call::Status;
+use top_call::{Status, version_number};
 use words::{form_in, has_unreadable_word, words_of};
 
 /// The status where a word isn't UTF-8.

@@ -4,10 +4,10 @@ use Rattle.command_grammar.specs.declared.commands.Command.{Command}
 use Rattle.command_grammar.specs.Commands.{IsLegalCommand}
 use Rattle.tag_machine.specs.StateNumbers.{numbers_of}
 use Rattle.tag_machine.specs.TagValue.{StateValue, ArbitrateState, ReplyState, AcknowledgedState, OpenState, SecuredState, TagValue, IsLegalState}
-use Rattle.log_verdicts.specs.Log.{Seen}
-use Rattle.log_verdicts.specs.Explaining.{seen_answer_to}
-use Rattle.log_verdicts.specs.laws.Kinds.{HasSmallQ, reworded}
-use Rattle.log_verdicts.specs.laws.Known.{Known, want_of, want_of_answer}
+use Rattle.log_judge.specs.Log.{Seen}
+use Rattle.log_judge.specs.Explaining.{seen_answer_to}
+use Rattle.log_judge.specs.laws.Kinds.{HasSmallQ, reworded}
+use Rattle.log_judge.specs.laws.Known.{Known, want_of, want_of_answer}
 use Rattle.log_judge.specs.Drawing.{draws_at, fallen, words_given}
 use Rattle.log_judge.specs.Optional.{answers_now}
 use Rattle.log_judge.specs.KnownTag.{HasFirstSlot, IsExcusedHere, known_of}

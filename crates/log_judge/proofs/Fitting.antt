@@ -14,8 +14,8 @@ use Rattle.tag_machine.specs.Answers.{Outcome, silent}
 use Rattle.tag_machine.specs.Draws.{back, close}
 use Rattle.tag_machine.specs.Inventory.{end_turn, q_after_adjust, unless_half}
 use Rattle.tag_machine.specs.Access.{held_state}
-use Rattle.log_verdicts.specs.laws.Kinds.{Kind, Settled, Enters, Replies, Gives, query_kind, rep_kind, adjust_kind, number_kind, kind_of}
-use Rattle.log_verdicts.specs.laws.Known.{waits}
+use Rattle.log_judge.specs.laws.Kinds.{Kind, Settled, Enters, Replies, Gives, query_kind, rep_kind, adjust_kind, number_kind, kind_of}
+use Rattle.log_judge.specs.laws.Known.{waits}
 use Rattle.log_judge.specs.declared.draws.Draws.{Draws}
 use Rattle.log_judge.specs.declared.draws.Draws.TheVariants as draws
 use Rattle.log_judge.specs.Drawing.{draws_at, has_drawn}

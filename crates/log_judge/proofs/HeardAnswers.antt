@@ -10,7 +10,7 @@ use Rattle.tag_machine.specs.declared.any_tag.Answered.TheVariants.{Silent, Plai
 use Rattle.tag_machine.specs.declared.any_tag.Heard.{Heard}
 use Rattle.tag_machine.specs.Answers.{Outcome, Sent, bits_sent}
 use Rattle.tag_machine.specs.Hearing.{GivesOutcome, mark_of}
-use Rattle.log_verdicts.specs.Explaining.{seen_of}
+use Rattle.log_judge.specs.Explaining.{seen_of}
 use Rattle.log_judge.proofs.Tests.{so_not}
 use Rattle.log_judge.specs.Answers.{seen_marked}
 

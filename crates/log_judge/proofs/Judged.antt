@@ -2,15 +2,15 @@
 use Rattle.std.proofs.Common.{◌≡◌, ℕ, ◌+◌, List, [], ◌∷◌, ◌++◌, Option, None, refl, sym, subst, arith, inl}
 use Rattle.air_events.specs.declared.Event.{Event}
 use Rattle.command_grammar.specs.declared.commands.Command.{Command}
-use Rattle.log_verdicts.specs.Log.{LogEntry, LoggedTag, Seen, Exchange, Befalls, last_line, line_count, lines_in, tag_with}
-use Rattle.log_verdicts.specs.Explaining.{Manner, ByTables, WithLiberties}
-use Rattle.log_verdicts.specs.Verdicts.{FailsFirst, IsVerdict, IsWanted, Verdict, Want, Yes, Profile, No}
-use Rattle.log_verdicts.specs.laws.Logs.{IsLegalEntry}
-use Rattle.log_verdicts.specs.laws.Known.{Known, want_of}
-use Rattle.log_verdicts.specs.laws.Standing.{StandsBehind}
-use Rattle.log_verdicts.proofs.OneVerdict.{allowed_front, goes_on as fails_still, no_stays}
-use Rattle.log_verdicts.proofs.Standing.{allowed_where_stands, fails_on, stands_first, stands_on}
-use Rattle.log_verdicts.proofs.Wants.{wanted}
+use Rattle.log_judge.specs.Log.{LogEntry, LoggedTag, Seen, Exchange, Befalls, last_line, line_count, lines_in, tag_with}
+use Rattle.log_judge.specs.Explaining.{Manner, ByTables, WithLiberties}
+use Rattle.log_judge.specs.Verdicts.{FailsFirst, IsVerdict, IsWanted, Verdict, Want, Yes, Profile, No}
+use Rattle.log_judge.specs.laws.Logs.{IsLegalEntry}
+use Rattle.log_judge.specs.laws.Known.{Known, want_of}
+use Rattle.log_judge.specs.laws.Standing.{StandsBehind}
+use Rattle.log_judge.proofs.OneVerdict.{allowed_front, goes_on as fails_still, no_stays}
+use Rattle.log_judge.proofs.Standing.{allowed_where_stands, fails_on, stands_first, stands_on}
+use Rattle.log_judge.proofs.Wants.{wanted}
 use Rattle.log_judge.specs.Answers.{want_in}
 use Rattle.log_judge.specs.Judging.{HasHeard, JudgeValue, Stands, verdict_noted}
 use Rattle.log_judge.specs.KnownTag.{Goes, IsExcusedHere, MayGo, Shows, known_of, known_wordless}

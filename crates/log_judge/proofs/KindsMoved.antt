@@ -6,13 +6,13 @@ use Rattle.std.proofs.lemmas.Bool.Decides.{eqb_tells}
 use Rattle.tag_machine.specs.TagValue.{StateValue, ArbitrateState, BodyValue, TagValue}
 use Rattle.tag_machine.specs.Answers.{Outcome, Sent, silent}
 use Rattle.tag_machine.specs.Draws.{enter, slot_of_draw}
-use Rattle.log_verdicts.specs.Log.{Seen}
-use Rattle.log_verdicts.specs.Explaining.{seen_of}
-use Rattle.log_verdicts.specs.Verdicts.{Nothing, AnyRn16, NothingOrAnyRn16}
-use Rattle.log_verdicts.specs.laws.Logs.{number_seen}
-use Rattle.log_verdicts.specs.laws.Kinds.{Kind, Settled, Enters, Replies, Gives, outcome_from, reworded, KeepsSmallQ}
-use Rattle.log_verdicts.specs.laws.Known.{Known, is_enters, slot_word, waits, want_of_answer, want_of_kind}
-use Rattle.log_verdicts.proofs.Guesses.{enters_later, enters_now, full_slot, later_by, now_by, not_zero, slot_below_power, zero_slot}
+use Rattle.log_judge.specs.Log.{Seen}
+use Rattle.log_judge.specs.Explaining.{seen_of}
+use Rattle.log_judge.specs.Verdicts.{Nothing, AnyRn16, NothingOrAnyRn16}
+use Rattle.log_judge.specs.laws.Logs.{number_seen}
+use Rattle.log_judge.specs.laws.Kinds.{Kind, Settled, Enters, Replies, Gives, outcome_from, reworded, KeepsSmallQ}
+use Rattle.log_judge.specs.laws.Known.{Known, is_enters, slot_word, waits, want_of_answer, want_of_kind}
+use Rattle.log_judge.proofs.Guesses.{enters_later, enters_now, full_slot, later_by, now_by, not_zero, slot_below_power, zero_slot}
 use Rattle.log_judge.specs.declared.draws.Draws.{Draws}
 use Rattle.log_judge.specs.declared.draws.Draws.TheVariants as draws
 use Rattle.log_judge.specs.Drawing.{has_drawn, slots_behind, want_behind, want_in_turn, want_of_number, want_of_slot, want_of_turn, words_given}

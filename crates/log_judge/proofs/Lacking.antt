@@ -20,7 +20,7 @@ use Rattle.tag_machine.specs.declared.states.Half.{Half}
 use Rattle.tag_machine.specs.declared.states.Held.{Held}
 use Rattle.tag_machine.specs.declared.states.Password.{Password}
 use Rattle.tag_machine.specs.declared.states.Password.TheVariants as passwords
-use Rattle.log_verdicts.specs.Explaining.{is_optional, seen_of}
+use Rattle.log_judge.specs.Explaining.{is_optional, seen_of}
 use Rattle.log_judge.proofs.Tests.{no_test, some_or_none}
 use Rattle.log_judge.specs.Optional.{AnswersOptional, answers_held, answers_now, answers_with, takes_cover, takes_half, takes_second}
 

@@ -11,3 +11,14 @@ pub mod Undone
 pub mod SameAnswers
 pub mod ShownBy
 pub mod Asked
+pub mod Settling
+pub mod KindsOfSteps
+pub mod Guesses
+pub mod OneKind
+pub mod SuitedKinds
+pub mod OneExchange
+pub mod OneEntry
+pub mod Standing
+pub mod Wants
+pub mod Decided
+pub mod OneVerdict

@@ -11,15 +11,15 @@ use Rattle.tag_machine.specs.Inventory.{count_down, q_after_adjust, slot_below}
 use Rattle.tag_machine.specs.StateNumbers.{numbers_of}
 use Rattle.tag_machine.specs.Step.{step}
 use Rattle.tag_machine.specs.declared.state_numbers.StateNumbers.{StateNumbers}
-use Rattle.log_verdicts.specs.Log.{Seen, Exchange}
-use Rattle.log_verdicts.specs.Explaining.{ByTables, outcome_of_heard, seen_of}
-use Rattle.log_verdicts.specs.laws.Logs.{IsLegalHeard}
-use Rattle.log_verdicts.specs.laws.Kinds.{Kind, Settled, Enters, Replies, ArbitrateMove, Stays, Leaves, Counts, outcome_from, reworded, count_kind, kind_at, kind_of, move_of, HasSmallQ, KeepsSmallQ}
-use Rattle.log_verdicts.specs.laws.Known.{Known, any_behind, draws_slot, guessed, is_enters, prepared, waits, want_of, want_of_move}
-use Rattle.log_verdicts.proofs.KindsOfSteps.{of_kind, of_move}
-use Rattle.log_verdicts.proofs.Guesses.{not_zero}
-use Rattle.log_verdicts.proofs.OneExchange.{below_is}
-use Rattle.log_verdicts.proofs.SuitedKinds.{IsGoodKind, IsGoodMove, LeavesSo, good_move}
+use Rattle.log_judge.specs.Log.{Seen, Exchange}
+use Rattle.log_judge.specs.Explaining.{ByTables, outcome_of_heard, seen_of}
+use Rattle.log_judge.specs.laws.Logs.{IsLegalHeard}
+use Rattle.log_judge.specs.laws.Kinds.{Kind, Settled, Enters, Replies, ArbitrateMove, Stays, Leaves, Counts, outcome_from, reworded, count_kind, kind_at, kind_of, move_of, HasSmallQ, KeepsSmallQ}
+use Rattle.log_judge.specs.laws.Known.{Known, any_behind, draws_slot, guessed, is_enters, prepared, waits, want_of, want_of_move}
+use Rattle.log_judge.proofs.KindsOfSteps.{of_kind, of_move}
+use Rattle.log_judge.proofs.Guesses.{not_zero}
+use Rattle.log_judge.proofs.OneExchange.{below_is}
+use Rattle.log_judge.proofs.SuitedKinds.{IsGoodKind, IsGoodMove, LeavesSo, good_move}
 use Rattle.log_judge.specs.declared.draws.Draws.{Draws}
 use Rattle.log_judge.specs.declared.draws.Draws.TheVariants as draws
 use Rattle.log_judge.specs.Drawing.{draws_at, fallen, slots_behind, want_behind, words_given}

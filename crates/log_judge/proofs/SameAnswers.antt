@@ -4,8 +4,8 @@ use Rattle.reply_grammar.specs.declared.expected.Reply.{Reply}
 use Rattle.reply_grammar.specs.declared.expected.Reply.TheVariants.{Error}
 use Rattle.tag_machine.specs.declared.any_tag.Answered.{Answered}
 use Rattle.tag_machine.specs.declared.any_tag.Answered.TheVariants.{Silent, Plain, Extended}
-use Rattle.log_verdicts.specs.Log.{Seen}
-use Rattle.log_verdicts.specs.Explaining.{IsOtherError}
+use Rattle.log_judge.specs.Log.{Seen}
+use Rattle.log_judge.specs.Explaining.{IsOtherError}
 use Rattle.log_judge.specs.Answers.{code_in, code_of_reply, seen_in, seen_marked}
 use Rattle.log_judge.specs.declared.answer.Answer.{Answer}
 use Rattle.log_judge.proofs.Tests.{none_or_some, some_or_none}

@@ -8,10 +8,10 @@ use Rattle.tag_machine.specs.TagValue.{StateValue, ReadyState, ArbitrateState, B
 use Rattle.tag_machine.specs.Answers.{Outcome}
 use Rattle.tag_machine.specs.Events.{tag_after_event}
 use Rattle.tag_machine.specs.Step.{step}
-use Rattle.log_verdicts.specs.Log.{LogEntry, Seen, Exchange, Befalls}
-use Rattle.log_verdicts.specs.Explaining.{Excuses, IsOtherError, ByTables, WithLiberties, seen_answer_to, is_optional, seen_of}
-use Rattle.log_verdicts.specs.laws.Kinds.{reworded}
-use Rattle.log_verdicts.specs.laws.Known.{Known, any_behind, prepared, want_of, want_of_answer}
+use Rattle.log_judge.specs.Log.{LogEntry, Seen, Exchange, Befalls}
+use Rattle.log_judge.specs.Explaining.{Excuses, IsOtherError, ByTables, WithLiberties, seen_answer_to, is_optional, seen_of}
+use Rattle.log_judge.specs.laws.Kinds.{reworded}
+use Rattle.log_judge.specs.laws.Known.{Known, any_behind, prepared, want_of, want_of_answer}
 use Rattle.log_judge.specs.declared.draws.Draws.{Draws}
 use Rattle.log_judge.specs.declared.draws.Draws.TheVariants as draws
 use Rattle.log_judge.specs.Drawing.{draws_at, slots_behind, want_behind, words_given}

@@ -4,10 +4,10 @@ use Rattle.command_grammar.specs.declared.commands.Command.{Command}
 use Rattle.tag_machine.specs.Answers.{Outcome}
 use Rattle.tag_machine.specs.Step.{step}
 use Rattle.tag_machine.specs.TagValue.{BodyValue, TagValue}
-use Rattle.log_verdicts.specs.Log.{Seen, Exchange}
-use Rattle.log_verdicts.specs.Explaining.{IsOtherError, ByTables, WithLiberties, seen_of}
-use Rattle.log_verdicts.specs.laws.Kinds.{reworded}
-use Rattle.log_verdicts.specs.laws.Known.{want_of}
+use Rattle.log_judge.specs.Log.{Seen, Exchange}
+use Rattle.log_judge.specs.Explaining.{IsOtherError, ByTables, WithLiberties, seen_of}
+use Rattle.log_judge.specs.laws.Kinds.{reworded}
+use Rattle.log_judge.specs.laws.Known.{want_of}
 use Rattle.log_judge.specs.Drawing.{draws_at, slots_behind, want_behind, words_given}
 use Rattle.log_judge.specs.KnownTag.{Goes, HasFirstSlot, IsExcusedHere, IsReadyFor, LacksHere, MayGo, known_of}
 use Rattle.log_judge.proofs.Moving.{Moves, heard_by, moves}

@@ -2,7 +2,7 @@
 use Rattle.std.proofs.Common.{◌≡◌, ◌∙◌, ◌==◌, ℕ, arith, sym, ◌&&◌, Bool, true, false, is_some, Option, Some, None, refl}
 use Rattle.std.proofs.lemmas.Bool.{and_parts}
 use Rattle.std.proofs.lemmas.Bool.Decides.{nat_tests}
-use Rattle.log_verdicts.specs.Log.{Seen}
+use Rattle.log_judge.specs.Log.{Seen}
 
 pub not_so : false ≡ true → ⊥
 not_so same = absurd (cc)

@@ -20,7 +20,7 @@ use Rattle.tag_machine.specs.Step.{step}
 use Rattle.tag_machine.specs.TagValue.{StateValue, OpenState, SecuredState, BodyValue, TagValue}
 use Rattle.tag_machine.specs.declared.states.Half.{Half}
 use Rattle.tag_machine.specs.declared.states.Held.{Held}
-use Rattle.log_verdicts.specs.Explaining.{seen_of}
+use Rattle.log_judge.specs.Explaining.{seen_of}
 use Rattle.log_judge.specs.Optional.{IsUndone, Undoes, is_header}
 use Rattle.tag_machine.specs.declared.any_tag.Answered.{Answered}
 use Rattle.tag_machine.specs.declared.any_tag.Answered.TheVariants.{Silent}

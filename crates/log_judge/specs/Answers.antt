@@ -4,9 +4,9 @@ use Rattle.reply_grammar.specs.declared.expected.Reply.{Reply}
 use Rattle.reply_grammar.specs.declared.expected.Reply.TheVariants as replies
 use Rattle.tag_machine.specs.declared.any_tag.Answered.{Answered}
 use Rattle.tag_machine.specs.declared.any_tag.Answered.TheVariants.{Silent, Plain, Extended}
-use Rattle.log_verdicts.specs.Log.{Seen}
-use Rattle.log_verdicts.specs.Verdicts as verdicts
-use Rattle.log_verdicts.specs.laws.Known.{want_of_answer}
+use Rattle.log_judge.specs.Log.{Seen}
+use Rattle.log_judge.specs.Verdicts as verdicts
+use Rattle.log_judge.specs.laws.Known.{want_of_answer}
 use Rattle.log_judge.specs.declared.answer.Answer.{Answer}
 use Rattle.log_judge.specs.declared.verdict.Want.{Want}
 use Rattle.log_judge.specs.declared.verdict.Want.TheVariants as wants

@@ -6,10 +6,10 @@ use Rattle.tag_machine.specs.TagValue.{StateValue}
 use Rattle.tag_machine.specs.StateNumbers.{numbers_of}
 use Rattle.tag_machine.specs.declared.state_numbers.StateNumbers.{StateNumbers}
 use Rattle.tag_machine.specs.declared.state_numbers.StateNumbers.TheVariants as numbers
-use Rattle.log_verdicts.specs.Log.{Seen}
-use Rattle.log_verdicts.specs.Verdicts.{Want, Nothing, AnyRn16, AnyHandle, NothingOrAnyRn16}
-use Rattle.log_verdicts.specs.laws.Logs.{number_seen}
-use Rattle.log_verdicts.specs.laws.Known.{want_of_answer}
+use Rattle.log_judge.specs.Log.{Seen}
+use Rattle.log_judge.specs.Verdicts.{Want, Nothing, AnyRn16, AnyHandle, NothingOrAnyRn16}
+use Rattle.log_judge.specs.laws.Logs.{number_seen}
+use Rattle.log_judge.specs.laws.Known.{want_of_answer}
 use Rattle.log_judge.specs.declared.draws.Draws.{Draws}
 use Rattle.log_judge.specs.declared.draws.Draws.TheVariants as draws
 

@@ -1,10 +1,10 @@
 -- A log that is judged entry by entry: what stands behind a part of it.
 use Rattle.std.specs.Prelude.{◌≡◌, ℕ, List}
-use Rattle.log_verdicts.specs.Log.{LogEntry, LoggedTag, last_line}
-use Rattle.log_verdicts.specs.Explaining.{ByTables, WithLiberties}
-use Rattle.log_verdicts.specs.Verdicts.{IsVerdict, Verdict, Yes, Profile, No}
-use Rattle.log_verdicts.specs.laws.Known.{Known}
-use Rattle.log_verdicts.specs.laws.Standing.{StandsBehind}
+use Rattle.log_judge.specs.Log.{LogEntry, LoggedTag, last_line}
+use Rattle.log_judge.specs.Explaining.{ByTables, WithLiberties}
+use Rattle.log_judge.specs.Verdicts.{IsVerdict, Verdict, Yes, Profile, No}
+use Rattle.log_judge.specs.laws.Known.{Known}
+use Rattle.log_judge.specs.laws.Standing.{StandsBehind}
 use Rattle.log_judge.specs.Answers.{want_in}
 use Rattle.log_judge.specs.declared.shown.Shown.{Shown}
 use Rattle.log_judge.specs.declared.shown.Shown.TheVariants as shown

@@ -1,13 +1,13 @@
 -- The tag that is moved through a log, and what it stands for.
 use Rattle.std.specs.Prelude.{◌≡◌, ℕ, ◌≤◌, true, false, [], Option, Some, None, is_some}
 use Rattle.tag_machine.specs.TagValue.{StateValue, ArbitrateState, TagValue}
-use Rattle.log_verdicts.specs.Log.{LogEntry, Seen, Exchange}
-use Rattle.log_verdicts.specs.Explaining.{Manner, ByTables, WithLiberties}
+use Rattle.log_judge.specs.Log.{LogEntry, Seen, Exchange}
+use Rattle.log_judge.specs.Explaining.{Manner, ByTables, WithLiberties}
 use Rattle.command_grammar.specs.declared.commands.Command.{Command}
 use Rattle.command_grammar.specs.Commands.{IsLegalCommand}
 use Rattle.tag_machine.specs.StateNumbers.{numbers_of}
-use Rattle.log_verdicts.specs.laws.Kinds.{HasSmallQ, reworded}
-use Rattle.log_verdicts.specs.laws.Known.{Known, Follows, at_slot, want_of}
+use Rattle.log_judge.specs.laws.Kinds.{HasSmallQ, reworded}
+use Rattle.log_judge.specs.laws.Known.{Known, Follows, at_slot, want_of}
 use Rattle.log_judge.specs.Answers.{want_in}
 use Rattle.log_judge.specs.Drawing.{draws_at, fallen, words_given}
 use Rattle.log_judge.specs.Optional.{AnswersOptional}

@@ -3,3 +3,7 @@ pub mod Drawing
 pub mod KnownTag
 pub mod Optional
 pub mod Judging
+pub mod Log
+pub mod Explaining
+pub mod Verdicts
+pub mod laws

@@ -18,7 +18,7 @@ use Rattle.tag_machine.specs.declared.states.Half.{Half}
 use Rattle.tag_machine.specs.declared.states.Held.{Held}
 use Rattle.tag_machine.specs.declared.states.Password.{Password}
 use Rattle.tag_machine.specs.declared.states.Password.TheVariants as passwords
-use Rattle.log_verdicts.specs.Explaining.{seen_answer_to, is_optional}
+use Rattle.log_judge.specs.Explaining.{seen_answer_to, is_optional}
 
 -- the tables answer a command that a tag need not have
 pub record AnswersOptional (command : Command) (tag : TagValue) : Type 0 where

@@ -1,7 +1,7 @@
 //! What a tag sends in answer.
 ghost use Rattle.std.specs.Prelude.{◌≡◌, ◌<◌, ◌^◌, ◌↔◌, IsTrue, None, is_some};
-ghost use Rattle.log_verdicts.specs.Explaining.{IsOtherError};
-ghost use Rattle.log_verdicts.specs.laws.Logs.{number_seen, number_of_reply};
+ghost use Rattle.log_judge.specs.Explaining.{IsOtherError};
+ghost use Rattle.log_judge.specs.laws.Logs.{number_seen, number_of_reply};
 ghost use Rattle.log_judge.specs.Answers.{code_in, code_of_reply, seen_in};
 
 use reply_grammar::Reply;

@@ -2,8 +2,8 @@
 ghost use Rattle.std.specs.Prelude.{◌≡◌, ◌+◌, ◌<◌, ◌^◌, ◌++◌, [], ◌∷◌, List, None, Some, true, IfOk};
 ghost use Rattle.command_grammar.specs.Commands.{IsLegalCommand};
 ghost use Rattle.tag_memory.specs.Image.{sizes_fit, pc_fits};
-ghost use Rattle.log_verdicts.specs.Log.{Befalls, Exchange, LogEntry, LoggedTag};
-ghost use Rattle.log_verdicts.specs.Verdicts.{IsVerdict};
+ghost use Rattle.log_judge.specs.Log.{Befalls, Exchange, LogEntry, LoggedTag};
+ghost use Rattle.log_judge.specs.Verdicts.{IsVerdict};
 ghost use Rattle.log_judge.specs.Answers.{seen_in, verdict_in};
 ghost use Rattle.log_judge.specs.Judging.{HasHeard, verdict_noted};
 

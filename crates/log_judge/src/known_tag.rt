@@ -2,9 +2,9 @@
 ghost use Rattle.std.specs.Prelude.{◌≡◌, [], None, Some, true, IfOk};
 ghost use Rattle.tag_memory.specs.Image.{sizes_fit, pc_fits};
 ghost use Rattle.tag_machine.specs.Hearing.{tag_value_of};
-ghost use Rattle.log_verdicts.specs.Log.{Befalls, tag_with};
+ghost use Rattle.log_judge.specs.Log.{Befalls, tag_with};
 ghost use Rattle.command_grammar.specs.Commands.{IsLegalCommand};
-ghost use Rattle.log_verdicts.specs.Explaining.{ByTables};
+ghost use Rattle.log_judge.specs.Explaining.{ByTables};
 ghost use Rattle.log_judge.specs.Answers.{seen_in};
 ghost use Rattle.log_judge.specs.KnownTag.{Goes, IsReadyFor, LacksHere, Shows, known_of};
 
@@ -43,7 +43,7 @@ impl Drop for KnownTag {
 impl Model for KnownTag {
     ghost use Rattle.std.specs.Prelude.{◌≡◌, length};
     ghost use Rattle.tag_machine.specs.Hearing.{tag_value_of};
-    ghost use Rattle.log_verdicts.specs.laws.Known.{Known};
+    ghost use Rattle.log_judge.specs.laws.Known.{Known};
     ghost use Rattle.log_judge.specs.KnownTag.{HasFirstSlot, known_of};
 
     ghost Value = { Known };

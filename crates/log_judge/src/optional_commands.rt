@@ -1,7 +1,7 @@
 //! Commands that a tag need not have (6.3.2.11.3 Access commands).
 ghost use Rattle.std.specs.Prelude.{◌≡◌, ◌≤◌, Some};
 ghost use Rattle.tag_machine.specs.Hearing.{tag_value_of};
-ghost use Rattle.log_verdicts.specs.Explaining.{seen_answer_to};
+ghost use Rattle.log_judge.specs.Explaining.{seen_answer_to};
 ghost use Rattle.log_judge.specs.Answers.{seen_in};
 ghost use Rattle.log_judge.specs.Optional.{AnswersOptional, IsUndone, Undoes, answers_held, answers_now, is_header, takes_access, takes_half};
 

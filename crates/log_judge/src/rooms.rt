@@ -2,17 +2,19 @@
 ghost use Rattle.std.specs.Prelude.{◌≡◌};
 ghost use Rattle.tag_machine.specs.Hearing.{tag_value_of};
 ghost use Rattle.tag_machine.specs.Step.{step};
-ghost use Rattle.log_verdicts.specs.Explaining.{seen_of};
+ghost use Rattle.log_judge.specs.Explaining.{seen_of};
 ghost use Rattle.log_judge.specs.Answers.{seen_in};
 
 use crate::answer::Answer;
-use answer_reading::{expectation_of, expected_reply_to, has_half};
 use bit_strings::{Bits, OutOfMemory};
 use command_grammar::Command;
 use std::alloc::Global;
 use std::mem;
 use std::sync::ledger::Ledger;
-use tag_machine::{Answered, AnyTag, Heard, Steps, answers_are_replies};
+use tag_machine::{
+    Answered, AnyTag, Heard, Steps, answers_are_replies, expectation_of, expected_reply_to,
+    has_half,
+};
 
 /// Room for the bits of an answer, in bits.
 const ROOM: u32 = 8_240;

@@ -1,1 +1,4 @@
 pub mod MadeRuns
+pub mod Drawn
+pub mod Legal
+pub mod MadeTags

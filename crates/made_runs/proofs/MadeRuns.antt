@@ -9,8 +9,8 @@ use Rattle.runs.specs.Summary.{is_quiet, all_quiet}
 use Rattle.runs.specs.Complete.{HasNumber}
 use Rattle.runs.specs.EveryTag.{AllTakePart, HaveOwnEpcs}
 use Rattle.runs.specs.MomentsOfRound.{Ending, ending_of}
-use Rattle.made_scenario.specs.Made.{made_scenario, made_round, made_tag, numbers_below}
-use Rattle.made_scenario.proofs.MadeTags.{numbers-count, tags-made}
+use Rattle.made_runs.specs.Made.{made_scenario, made_round, made_tag, numbers_below}
+use Rattle.made_runs.proofs.MadeTags.{numbers-count, tags-made}
 use Rattle.q_round.specs.SpecValue.{IsLegalSpec}
 use Rattle.q_round.specs.declared.round.RoundEnd.{RoundEnd}
 use Rattle.q_round.specs.declared.round.RoundEnd.TheVariants as ends

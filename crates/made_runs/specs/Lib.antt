@@ -1,1 +1,2 @@
-pub mod MadeRuns
+pub mod CountsAll
+pub mod Made

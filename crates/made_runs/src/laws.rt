@@ -1,7 +1,7 @@
 //! What the run of a made scenario lists.
 ghost use Rattle.std.specs.Prelude.{◌≡◌, ℕ, true};
-ghost use Rattle.made_runs.specs.MadeRuns.{CountsAll};
-ghost use Rattle.made_scenario.specs.Made.{made_scenario};
+ghost use Rattle.made_runs.specs.CountsAll.{CountsAll};
+ghost use Rattle.made_runs.specs.Made.{made_scenario};
 ghost use Rattle.runs.specs.Summary.{summary_of};
 
 use runs::{

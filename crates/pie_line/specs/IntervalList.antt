@@ -1,4 +1,4 @@
-use Rattle.bounded_list.specs.ItemList.{ItemList}
+use Rattle.bit_strings.specs.ItemList.{ItemList}
 use Rattle.std.specs.Prelude.{ℕ}
 
 -- Profile: what a contract sees of a list of intervals, in nanoseconds.

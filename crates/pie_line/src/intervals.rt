@@ -1,5 +1,5 @@
 //! Lists of intervals.
-use bounded_list::Bounded;
+use bit_strings::Bounded;
 
 /// A list of intervals, in nanoseconds. Its capacity, in intervals, is fixed when it is made, and no later call
 /// takes memory.

@@ -1,2 +1,4 @@
 pub mod RepliesReceived
 pub mod ReceivedLaws
+pub mod Lengths
+pub mod Preambles

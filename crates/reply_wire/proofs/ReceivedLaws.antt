@@ -6,8 +6,8 @@ use Rattle.line_code.specs.Table.{Table}
 use Rattle.line_code.specs.Stream.{IsStream, Streams}
 use Rattle.line_code.specs.laws.Streams.{begins_front, one_stream, refused_is_none}
 use Rattle.line_code.specs.declared.refusal.LineRefusal.TheVariants.{Invalid, Unfinished}
-use Rattle.line_codes.specs.laws.Codes.{code_even, code_tells}
-use Rattle.line_codes.specs.Codes.{table_of, chips_of}
+use Rattle.reply_wire.specs.laws.Codes.{code_even, code_tells}
+use Rattle.reply_wire.specs.Codes.{table_of, chips_of}
 use Rattle.reply_grammar.specs.Replies.{AnswersExpected}
 use Rattle.reply_grammar.specs.Refusals.{RefusesReply}
 use Rattle.reply_grammar.specs.laws.Passing.{answers_pass}

@@ -2,3 +2,8 @@ pub mod Heard
 pub mod Received
 pub mod Receiving
 pub mod laws
+pub mod Codes
+pub mod Preambles
+pub use Rattle.line_code.specs.TableFacts
+pub use Rattle.line_code.specs.Stream
+pub use Rattle.line_code.specs.Refusal

@@ -1,1 +1,3 @@
+-- Laws of the four line codes.
+pub mod Codes
 pub mod SomeReceived

@@ -2,7 +2,7 @@
 ghost use Rattle.std.specs.Prelude.{◌≡◌, ℕ, ◌<◌, ◌≤◌, List, Bool, [], length, IfErr, OnOk};
 ghost use Rattle.line_code.specs.TableFacts.{with_level_flipped};
 ghost use Rattle.line_code.specs.Stream.{IsStream};
-ghost use Rattle.line_codes.specs.Codes.{table_of};
+ghost use Rattle.reply_wire.specs.Codes.{table_of};
 ghost use Rattle.reply_grammar.specs.Refusals.{RefusesReply};
 ghost use Rattle.reply_grammar.specs.Replies.{AnswersExpected};
 ghost use Rattle.reply_grammar.specs.declared.expected.Reply.{Reply};
@@ -11,8 +11,9 @@ ghost use Rattle.reply_grammar.specs.declared.expected.Received.TheVariants.{Who
 ghost use Rattle.reply_wire.specs.Received.{IsReceived};
 ghost use Rattle.bit_strings.specs.BitString.{most_counted};
 
-use bit_strings::{Bits, Levels};
-use line_codes::{Code, LineRefusal, decode_levels};
+use crate::codes_by_name::decode_levels;
+use bit_strings::{Bits, Code, Levels};
+use line_code::LineRefusal;
 use reply_grammar::{Expect, Received, Reply, ReplyRefusal, decode_reply_to};
 
 /// Gives what an interrogator makes of a stream of levels (6.3.1.3.2 and 6.3.2.11 of the standard), where it

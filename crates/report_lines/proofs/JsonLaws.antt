@@ -9,7 +9,7 @@ use Rattle.access_ops.specs.declared.op_next.OpResult.{OpResult}
 use Rattle.access_ops.specs.declared.op_next.OpResult.TheVariants as results
 use Rattle.command_fields.specs.declared.choices.Side.{Side}
 use Rattle.command_fields.specs.declared.choices.Side.TheVariants as sides
-use Rattle.command_text.specs.CommandText.{side_letter}
+use Rattle.wire_text.specs.CommandText.{side_letter}
 use Rattle.lock_rules.specs.declared.locks.Locks.{Locks}
 use Rattle.lock_rules.specs.declared.locks.Pair.{Pair}
 use Rattle.q_round.specs.declared.round.RoundEnd.{RoundEnd}
@@ -24,7 +24,7 @@ use Rattle.tag_machine.specs.declared.states.StateName.{StateName}
 use Rattle.tag_machine.specs.declared.states.StateName.TheVariants as names
 use Rattle.text_fields.specs.Binary.{binary_digit}
 use Rattle.text_fields.specs.Hexadecimal.{hex_byte, hex_digit, hex_word}
-use Rattle.value_text.specs.ValueText.{locks_text, pair_text}
+use Rattle.wire_text.specs.PasswordsAndLocks.{locks_text, pair_text}
 
 -- a byte between the quotation mark and the backslash has no escape
 between : (byte : ℕ) → 35 ≤ byte → byte < 92 → escape_byte byte ≡ byte ∷ []

@@ -12,7 +12,7 @@ use Rattle.epc_sgtin.specs.Epc.{IsSgtin}
 use Rattle.epc_sgtin.specs.EpcFaults.{RefusesEpc}
 use Rattle.epc_sgtin.specs.declared.encoding.EpcFault.{EpcFault}
 use Rattle.epc_sgtin.specs.declared.encoding.EpcFault.TheVariants.{Length}
-use Rattle.sgtin_text.specs.SgtinText.{name_line}
+use Rattle.epc_sgtin.specs.SgtinText.{name_line}
 use Rattle.report_lines.specs.Names.{IsNamed, HasName, BecomesLines, AreWithNames}
 
 -- what the laws of SGTINs say: words are those of one,

@@ -6,7 +6,7 @@ use Rattle.tag_machine.specs.TagValue.{TagValue}
 use Rattle.text_fields.specs.Hexadecimal.{hex_words}
 use Rattle.text_fields.specs.Lines.{fields_behind, line_feed, line_with, space}
 use Rattle.text_fields.proofs.LineLaws.{line_with-fields_behind}
-use Rattle.value_text.specs.ValueText.{locks_text}
+use Rattle.wire_text.specs.PasswordsAndLocks.{locks_text}
 use Rattle.report_lines.specs.ReportLine.{TagLine, TxLine, flags_word, report_line_text, state_word}
 
 -- after a space and a field

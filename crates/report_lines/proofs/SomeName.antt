@@ -14,7 +14,7 @@ use Rattle.epc_sgtin.specs.SgtinValue.{SgtinValue}
 use Rattle.epc_sgtin.specs.Epc.{IsSgtin}
 use Rattle.epc_sgtin.specs.EpcFaults.{RefusesEpc}
 use Rattle.epc_sgtin.specs.declared.encoding.EpcFault.{EpcFault}
-use Rattle.sgtin_text.specs.SgtinText.{name_line}
+use Rattle.epc_sgtin.specs.SgtinText.{name_line}
 use Rattle.report_lines.specs.Names.{IsNamed, BecomesLines}
 use Rattle.report_lines.proofs.OneName.{AreNotRefused, six_of}
 

@@ -9,7 +9,7 @@ use Rattle.report_lines.specs.ReportLine.{ReportLine, ListLine, OpLine, RoundLin
 use Rattle.tag_machine.specs.StateNames.{name_of}
 use Rattle.text_fields.specs.Hexadecimal.{hex_byte, hex_word}
 use Rattle.text_fields.specs.Lines.{line_feed}
-use Rattle.value_text.specs.ValueText.{locks_text}
+use Rattle.wire_text.specs.PasswordsAndLocks.{locks_text}
 
 -- words as their digits: no words are the empty text, and no hyphen stands for them
 abbrev pub digits_of : List ℕ → List ℕ

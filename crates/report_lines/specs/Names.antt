@@ -5,7 +5,7 @@ use Rattle.text_fields.specs.Lines.{fields_of, text_with}
 use Rattle.text_fields.specs.Hexadecimal.{hex_word, hex_words}
 use Rattle.epc_sgtin.specs.SgtinValue.{SgtinValue}
 use Rattle.epc_sgtin.specs.Epc.{IsSgtin}
-use Rattle.sgtin_text.specs.SgtinText.{name_line}
+use Rattle.epc_sgtin.specs.SgtinText.{name_line}
 
 -- the line is `list ROUND SLOT PC EPC`, PC four hexadecimal digits and EPC the words of this SGTIN; ROUND and SLOT are any
 -- fields that are not empty

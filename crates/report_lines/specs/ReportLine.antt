@@ -7,16 +7,16 @@ use Rattle.text_fields.specs.Hexadecimal.{hex_byte, hex_word, hex_words}
 use Rattle.access_ops.specs.declared.op_next.OpResult.{OpResult}
 use Rattle.access_ops.specs.declared.op_next.OpResult.TheVariants as results
 use Rattle.text_fields.specs.Lines.{line_feed, line_with}
-use Rattle.command_text.specs.CommandText.{command_fields, side_letter}
+use Rattle.wire_text.specs.CommandText.{command_fields, side_letter}
 use Rattle.command_grammar.specs.declared.commands.Command.{Command}
 use Rattle.reply_grammar.specs.declared.expected.Reply.{Reply}
-use Rattle.reply_text.specs.ReplyText.{reply_fields}
+use Rattle.wire_text.specs.ReplyText.{reply_fields}
 use Rattle.wave_dump.specs.Exchanged.{Exchanged}
 use Rattle.wave_dump.specs.declared.exchanged.Gave.{Gave}
 use Rattle.wave_dump.specs.declared.exchanged.Gave.TheVariants as gave
 use Rattle.q_round.specs.declared.round.RoundEnd.{RoundEnd}
 use Rattle.q_round.specs.declared.round.RoundEnd.TheVariants as ends
-use Rattle.value_text.specs.ValueText.{locks_text}
+use Rattle.wire_text.specs.PasswordsAndLocks.{locks_text}
 use Rattle.session_flags.specs.declared.flags.Flags.{Flags}
 use Rattle.tag_machine.specs.declared.states.StateName.{StateName}
 use Rattle.tag_machine.specs.declared.states.StateName.TheVariants as names

@@ -9,11 +9,10 @@ ghost use Rattle.report_lines.specs.ReportLine.{AnswerLine, ExchangeLine, Missed
 use crate::lines::end_line;
 use bit_strings::OutOfMemory;
 use command_grammar::Command;
-use command_text::push_command;
 use reply_grammar::Reply;
-use reply_text::push_reply;
 use text_fields::{push_next_long_number, push_next_name, push_next_number};
 use wave_dump::Gave;
+use wire_text::{push_command, push_reply};
 
 /// Writes the name of a line and the number of the exchange.
 fn push_numbered(text: &mut String, name: &str, exchange: u64) -> Result<(), OutOfMemory>

@@ -4,7 +4,7 @@ ghost use Rattle.std.specs.String.{string_bytes};
 ghost use Rattle.report_lines.specs.JsonLines.{digits_of, result_value};
 ghost use Rattle.report_lines.specs.ReportLine.{flags_word};
 ghost use Rattle.text_fields.specs.Hexadecimal.{hex_word};
-ghost use Rattle.value_text.specs.ValueText.{locks_text};
+ghost use Rattle.wire_text.specs.PasswordsAndLocks.{locks_text};
 
 use crate::tag_line::push_flags;
 use access_ops::OpResult;
@@ -15,7 +15,7 @@ use session_flags::Flags;
 use std::alloc::Global;
 use tag_memory::Memory;
 use text_fields::{push_byte_hex, push_word, push_words};
-use value_text::push_locks;
+use wire_text::push_locks;
 
 /// Room for the texts of an object's members, which one line after another takes.
 #[derive(Drop)]

@@ -3,8 +3,8 @@ ghost use Rattle.std.specs.Prelude.{IfSome, IfNone};
 ghost use Rattle.report_lines.specs.Names.{HasName, IsNamed};
 
 use epc_sgtin::{Sgtin, sgtin_laws};
-use reply_text::epc_of;
 use text_fields::{Fields, four_fields, word};
+use wire_text::epc_of;
 
 /// The SGTIN that is listed in a line, which is given without its line feed: the line is
 /// `list ROUND SLOT PC EPC`, PC has four upper-case hexadecimal digits, and EPC the 24 of an SGTIN-96. None exactly

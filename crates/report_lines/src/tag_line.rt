@@ -4,20 +4,19 @@ ghost use Rattle.std.specs.String.{string_bytes};
 ghost use Rattle.std.specs.Fmt.{decimal};
 ghost use Rattle.text_fields.specs.Hexadecimal.{hex_words};
 ghost use Rattle.text_fields.specs.Lines.{line_with, space};
-ghost use Rattle.value_text.specs.ValueText.{locks_text};
+ghost use Rattle.wire_text.specs.PasswordsAndLocks.{locks_text};
 ghost use Rattle.tag_machine.specs.Hearing.{tag_value_of};
 ghost use Rattle.report_lines.specs.ReportLine.{TagLine, flags_word, report_line_text, state_word};
 
 use crate::lines::end_line;
 use bit_strings::OutOfMemory;
 use command_grammar::Bank;
-use command_text::side_letter;
 use lock_rules::Locks;
 use session_flags::Flags;
 use tag_machine::{AnyTag, StateName};
 use tag_memory::Memory;
 use text_fields::{push_next_name, push_next_number, push_next_words};
-use value_text::push_locks;
+use wire_text::{push_locks, side_letter};
 
 /// The name of a state (6.3.2.4 Tag states and slot counter); that of a tag without power is profile.
 pub(crate) fn state_text(state: StateName) -> &'static str

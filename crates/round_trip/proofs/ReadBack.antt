@@ -13,15 +13,15 @@ use Rattle.text_fields.proofs.FieldTextLaws.{IsFieldText-binary, IsFieldText-con
 use Rattle.text_fields.specs.Lines.{IsFieldText, Lacks, line_feed, line_with, lines_of, space}
 use Rattle.text_fields.proofs.LineLaws.{fields_come_back, line_lacks, lines_come_back}
 use Rattle.line_code.specs.Stream.{stream_of}
-use Rattle.line_codes.specs.Codes.{table_of}
-use Rattle.line_codes.specs.laws.Codes.{stream_most}
+use Rattle.reply_wire.specs.Codes.{table_of}
+use Rattle.reply_wire.specs.laws.Codes.{stream_most}
 use Rattle.pie_line.specs.Pie.{frame_kind_of, longest_interval, wave_of, IsFrame}
 use Rattle.pie_line.specs.Link.{IsLegalLink, LinkValue}
 use Rattle.pie_line.specs.declared.frame.Lead.{Lead}
 use Rattle.pie_text.proofs.WaveLength.{length-wave}
 use Rattle.command_grammar.specs.Commands.{spelling_of, IsLegalCommand, SpellsCommand}
 use Rattle.command_grammar.specs.declared.commands.Command.{Command as OneCommand}
-use Rattle.command_text.proofs.FieldTexts.{Texts, bit_is, code_is, no_more, only, with}
+use Rattle.wire_text.proofs.CommandFieldTexts.{Texts, bit_is, code_is, no_more, only, with}
 use Rattle.reply_grammar.specs.Replies.{AnswersExpected, FitsBank, IsReply, handle_of}
 use Rattle.reply_grammar.proofs.Suiting.{spelling-within}
 use Rattle.reply_grammar.specs.declared.expected.Expect.{Expect}
@@ -29,8 +29,8 @@ use Rattle.reply_grammar.specs.declared.expected.Expect.TheVariants.{Rn16 as One
 use Rattle.reply_grammar.specs.declared.expected.Reply.{Reply}
 use Rattle.reply_grammar.specs.declared.expected.Reply.TheVariants.{Rn16, Epc, Handle, Words, Header, Error}
 use Rattle.reply_grammar.specs.declared.expected.Received.TheVariants.{Whole}
-use Rattle.reply_text.specs.ReplyText.{expect_word, IsExpect, IsReplyForm}
-use Rattle.reply_text.proofs.FieldTexts.{expect_word_is_field_text}
+use Rattle.wire_text.specs.ReplyText.{expect_word, IsExpect, IsReplyForm}
+use Rattle.wire_text.proofs.ExpectationFieldTexts.{expect_word_is_field_text}
 use Rattle.decode_lines.specs.Answer.{Answer, IsLineAnswer, line_of_answer, StreamAnswer, PieAnswer, CommandAnswer, ReplyAnswer, HeardAnswer}
 use Rattle.decode_lines.specs.DecodeLines.{Decodes}
 use Rattle.decode_lines.specs.Request.{AsksToDecodeBehind, request_word}

@@ -5,8 +5,8 @@ use Rattle.text_fields.specs.Binary.{binary}
 use Rattle.text_fields.specs.Lines.{line_feed}
 use Rattle.pie_line.specs.Pie.{frame_kind_of}
 use Rattle.pie_text.specs.PieText.{frame_line}
-use Rattle.command_text.specs.CommandText.{command_line}
-use Rattle.reply_text.specs.ReplyText.{reply_line}
+use Rattle.wire_text.specs.CommandText.{command_line}
+use Rattle.wire_text.specs.ReplyText.{reply_line}
 use Rattle.checked_lines.specs.LineRules.{AskFor}
 use Rattle.decode_lines.specs.DecodeLines.{Decodes}
 use Rattle.encode_lines.specs.EncodeLines.{encode_rules, written_line}

@@ -6,8 +6,8 @@ use Rattle.air_model.specs.Past.{Item, Record, exchanged, tags_behind}
 use Rattle.air_model.specs.Reception.{IsGivenFor, reception_of}
 use Rattle.air_model.proofs.ReceptionLaws.{stream_reception, whole_is_heard}
 use Rattle.command_grammar.specs.declared.commands.Command.{Command}
-use Rattle.line_codes.specs.Codes.{table_of}
-use Rattle.line_codes.specs.laws.Codes.{stream_least}
+use Rattle.reply_wire.specs.Codes.{table_of}
+use Rattle.reply_wire.specs.laws.Codes.{stream_least}
 use Rattle.pie_line.specs.Link.{LinkValue}
 use Rattle.reply_grammar.specs.Reception.{whole_reply}
 use Rattle.reply_grammar.specs.declared.expected.Expect.{Expect}

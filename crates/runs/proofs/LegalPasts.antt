@@ -31,7 +31,7 @@ use Rattle.runs.specs.ScenarioStart.{start_of, history}
 use Rattle.command_grammar.specs.Commands.{IsWord, IsLegalCommand}
 use Rattle.command_grammar.specs.declared.commands.Command.{Command}
 use Rattle.command_grammar.specs.declared.commands.Command.TheVariants as commands
-use Rattle.line_codes.specs.Codes.{table_of}
+use Rattle.reply_wire.specs.Codes.{table_of}
 use Rattle.pie_line.specs.Link.{LinkValue}
 use Rattle.q_round.specs.laws.RoundLaws.{IsLegalNext}
 use Rattle.q_round.specs.Rounds.{next_command}

@@ -1,2 +1,16 @@
 pub mod Groups
 pub mod PrintedLines
+pub mod Leading
+pub mod Counts
+pub mod Settled
+pub mod Spoken
+pub mod Texts
+pub mod Reader
+pub mod Endings
+pub mod Reasons
+pub mod FirstLines
+pub mod Decisions
+pub mod SomeFault
+pub mod LinesBefore
+pub mod WholeTexts
+pub mod Refusals

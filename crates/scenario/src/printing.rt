@@ -16,13 +16,13 @@ use crate::{
 };
 use air_io::Bytes;
 use bit_strings::OutOfMemory;
-use command_text::push_command;
 use reply_grammar::EpcWords;
 use scenario_lines::{
     push_air_choice, push_air_event, push_air_miss, push_copies, push_default, push_end,
     push_event, push_link, push_nak, push_only, push_op, push_round, push_tag, push_version,
 };
 use std::alloc::Global;
+use wire_text::push_command;
 
 /// Writes the line of what the channel gives where several tags reply and nothing is chosen, which version 1
 /// doesn't have.

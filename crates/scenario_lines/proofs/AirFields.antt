@@ -5,7 +5,7 @@ use Rattle.air_events.specs.declared.Event.{Event}
 use Rattle.air_events.specs.declared.Event.TheVariants as events
 use Rattle.air_events.specs.declared.Choice.TheVariants as choices
 use Rattle.text_fields.specs.Binary.{binary}
-use Rattle.command_text.specs.CommandText.{flag_word}
+use Rattle.wire_text.specs.CommandText.{flag_word}
 use Rattle.scenario_lines.specs.declared.keywords.Keyword.TheVariants as keywords
 use Rattle.scenario_lines.specs.declared.keywords.AirKind.{AirKind}
 use Rattle.scenario_lines.specs.declared.line.Happening.{Happening}
@@ -16,7 +16,7 @@ use Rattle.scenario_lines.specs.Spelling.{event_fields, happening_fields}
 use Rattle.scenario_lines.specs.LineFaults.{HasShape}
 use Rattle.text_fields.specs.NamedFields.{AreFilled}
 use Rattle.text_fields.proofs.FilledFields.{none_filled, one_more}
-use Rattle.command_text.proofs.FieldTexts.{flag_is}
+use Rattle.wire_text.proofs.CommandFieldTexts.{flag_is}
 use Rattle.scenario_lines.specs.Reading.{IsHappeningText}
 use Rattle.scenario_lines.proofs.Filled.{bits_are, number_text}
 

@@ -8,7 +8,7 @@ use Rattle.text_fields.specs.Binary.{binary, binary_digit, hyphen, or_hyphen}
 use Rattle.text_fields.specs.CodeNames.{code_word}
 use Rattle.text_fields.specs.Hexadecimal.{hex_word, hex_words}
 use Rattle.text_fields.proofs.ToldApart.{binary_told, hex_words_told}
-use Rattle.command_text.specs.CommandText.{bank_word, flag_word, mask_bank_word, payload_digits, side_word}
+use Rattle.wire_text.specs.CommandText.{bank_word, flag_word, mask_bank_word, payload_digits, side_word}
 use Rattle.command_fields.specs.declared.choices.FlagName.{FlagName}
 use Rattle.command_fields.specs.declared.choices.FlagName.TheVariants as flags
 use Rattle.command_fields.specs.declared.choices.Sel.TheVariants as sels
@@ -20,12 +20,12 @@ use Rattle.scenario_lines.specs.declared.version.Version.{Version}
 use Rattle.scenario_lines.specs.declared.version.Version.TheVariants.{One, Two}
 use Rattle.scenario_lines.specs.Names.{HasRuleText, rule_text, sel_text, several_text, version_digit}
 use Rattle.text_fields.specs.WordLists.{IsWordList}
-use Rattle.value_text.specs.ValueText.{locks_text, password_text}
+use Rattle.wire_text.specs.PasswordsAndLocks.{locks_text, password_text}
 use Rattle.scenario_lines.specs.Spelling.{flag_text}
-use Rattle.command_text.specs.NameLists.{EachFound, first_named}
-use Rattle.command_text.proofs.NameLists.{found_is, told}
-use Rattle.command_text.specs.FieldNames.{all_banks, all_flags, all_mask_banks, all_sides, bank_found, flag_found, mask_bank_found, side_found}
-use Rattle.command_text.proofs.ToldApart.{all_codes, code_found}
+use Rattle.wire_text.specs.NameLists.{EachFound, first_named}
+use Rattle.wire_text.proofs.NameLists.{found_is, told}
+use Rattle.wire_text.specs.FieldNames.{all_banks, all_flags, all_mask_banks, all_sides, bank_found, flag_found, mask_bank_found, side_found}
+use Rattle.wire_text.proofs.CommandsToldApart.{all_codes, code_found}
 use Rattle.scenario_lines.proofs.ToldNames.{all_sels, sel_found, several_found, all_severals, version_found, all_versions}
 use Rattle.scenario_lines.proofs.Decisions.{Any, Behind, Decided, Spelled, behind_decided, below_decided, both, either, le_decided, nothing_decided, number_decided, same_answer, text_decided}
 

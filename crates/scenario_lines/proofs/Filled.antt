@@ -25,7 +25,7 @@ use Rattle.scenario_lines.specs.declared.keywords.OpKind.TheVariants as op_kinds
 use Rattle.scenario_lines.specs.declared.keywords.AirKind.{AirKind}
 use Rattle.scenario_lines.specs.declared.keywords.AirKind.TheVariants as airs
 use Rattle.scenario_lines.specs.Names.{HasRuleText, air_word, event_word, keyword_text, op_word, rule_text, sel_text, several_text, version_digit}
-use Rattle.value_text.specs.ValueText.{locks_text, pair_text, password_text}
+use Rattle.wire_text.specs.PasswordsAndLocks.{locks_text, pair_text, password_text}
 
 pub number_text : (n : ℕ) → n < 2 ^ 32 → IsFieldText (decimal n)
 number_text n small = IsFieldText-decimal n small

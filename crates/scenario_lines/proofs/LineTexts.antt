@@ -22,7 +22,7 @@ use Rattle.scenario_lines.specs.Names.{air_kind, event_kind, op_kind}
 use Rattle.scenario_lines.specs.LineForm.{HasForm, IsEvent, IsHappening, IsLine, IsLinkForm, IsRound, IsSelection}
 use Rattle.scenario_lines.specs.Spelling.{event_fields, happening_fields, line_fields, link_fields, op_fields, other_fields, round_fields, select_fields, tag_spec_fields, keyword_of}
 use Rattle.scenario_lines.proofs.Filled.{air_word_is, event_word_is, locks_is, bits_are, number_text, one_word_is, op_word_is, password_is, rule_text_is, sel_text_is, several_text_is, keyword_text_is, version_text_is, words_is}
-use Rattle.command_text.proofs.FieldTexts.{Texts, bank_is, bit_is, code_is, flag_is, mask_bank_is, no_more, only, payload_is, side_is, with}
+use Rattle.wire_text.proofs.CommandFieldTexts.{Texts, bank_is, bit_is, code_is, flag_is, mask_bank_is, no_more, only, payload_is, side_is, with}
 
 link_texts : (link : LinkValue) → IsLinkForm link → Texts (link_fields link)
 link_texts link form =

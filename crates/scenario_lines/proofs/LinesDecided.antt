@@ -3,7 +3,7 @@ use Rattle.std.proofs.Common.{◌≡◌, ◌≢◌, ◌<◌, ◌≤◌, ◌^◌,
 use Rattle.std.specs.Fmt.{decimal}
 use Rattle.text_fields.specs.Binary.{binary}
 use Rattle.text_fields.specs.Hexadecimal.{hex_word, hex_words}
-use Rattle.command_text.specs.CommandText.{bank_word, flag_word, payload_digits}
+use Rattle.wire_text.specs.CommandText.{bank_word, flag_word, payload_digits}
 use Rattle.command_fields.specs.declared.choices.Bank.{Bank}
 use Rattle.access_ops.specs.declared.Op.{Op}
 use Rattle.access_ops.specs.declared.Op.TheVariants as ops
@@ -32,7 +32,7 @@ use Rattle.scenario_lines.specs.declared.line.Line.TheVariants as lines
 use Rattle.scenario_lines.specs.Names.{air_found, air_kind, air_word, all_air_kinds, all_op_kinds, event_kind, event_word, op_found, op_kind, op_word, several_text, version_digit}
 use Rattle.text_fields.specs.NamedFields.{SpellBehind, Vocabulary, spelled_fields}
 use Rattle.text_fields.specs.WordLists.{IsWordList}
-use Rattle.value_text.specs.ValueText.{password_text}
+use Rattle.wire_text.specs.PasswordsAndLocks.{password_text}
 use Rattle.scenario_lines.specs.TagForm.{IsTagForm, tag_spec_of}
 use Rattle.scenario_lines.specs.LineForm.{HasForm, IsEvent, IsHappening, IsLinkForm, IsPlace, IsRound, IsSelection, most_level, most_nanoseconds}
 use Rattle.scenario_lines.specs.Spelling.{air_vocabulary, event_vocabulary, happening_fields, link_fields, op_fields, op_vocabulary, other_fields, round_fields, select_fields, tag_spec_fields, keyword_of}
@@ -42,7 +42,7 @@ use Rattle.scenario_lines.proofs.KindsDecided.{Both, by_kind, nothing, with}
 use Rattle.scenario_lines.proofs.FieldsDecided.{IsLasting, IsWithin, any_bank_decided, bank_decided, bit_decided, bits_decided, code_decided, decimal_decided, flag_decided, lasting_decided, locks_decided, named_decided, password_decided, payload_decided, rule_decided, sel_decided, several_decided, side_decided, version_decided, word_decided, words_decided}
 use Rattle.scenario_lines.proofs.ToldLines.{same_fields}
 use Rattle.scenario_lines.proofs.ToldNames.{air_word_told, all_event_kinds, event_found, event_word_told, op_word_told}
-use Rattle.command_text.proofs.ToldApart.{block_of_list, list_of_block}
+use Rattle.wire_text.proofs.CommandsToldApart.{block_of_list, list_of_block}
 
 -- one word alone
 abbrev the : List ℕ → Unit {0} → List ℕ

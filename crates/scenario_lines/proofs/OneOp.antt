@@ -3,7 +3,7 @@ use Rattle.std.proofs.Common.{◌≡◌, ℕ, List, [], ◌∷◌, ap, sym, ◌�
 use Rattle.std.specs.Fmt.{decimal}
 use Rattle.access_ops.specs.declared.Op.{Op}
 use Rattle.command_fields.specs.declared.choices.Bank.{Bank}
-use Rattle.command_text.specs.CommandText.{bank_word}
+use Rattle.wire_text.specs.CommandText.{bank_word}
 use Rattle.scenario_lines.specs.declared.keywords.OpKind.{OpKind}
 use Rattle.scenario_lines.specs.Reading.{IsOpText}
 use Rattle.scenario_lines.proofs.ToldLines.{op_told}

@@ -5,14 +5,14 @@ use Rattle.access_ops.specs.declared.Op.{Op}
 use Rattle.access_ops.specs.declared.Op.TheVariants as ops
 use Rattle.access_ops.specs.laws.OperationLaws.{IsLegalOp}
 use Rattle.command_fields.specs.declared.choices.Bank.{Bank}
-use Rattle.command_text.specs.CommandText.{bank_word, payload_digits}
+use Rattle.wire_text.specs.CommandText.{bank_word, payload_digits}
 use Rattle.text_fields.specs.Hexadecimal.{hex_word, hex_words}
 use Rattle.scenario_lines.specs.Names.{op_field_count, op_kind}
-use Rattle.value_text.specs.ValueText.{password_text}
+use Rattle.wire_text.specs.PasswordsAndLocks.{password_text}
 use Rattle.scenario_lines.specs.Spelling.{op_fields}
 use Rattle.text_fields.specs.NamedFields.{AreFilled}
 use Rattle.text_fields.proofs.FilledFields.{Filled, none_filled, one_more}
-use Rattle.command_text.proofs.FieldTexts.{bank_is, payload_is}
+use Rattle.wire_text.proofs.CommandFieldTexts.{bank_is, payload_is}
 use Rattle.scenario_lines.proofs.Filled.{number_text, one_word_is, password_is, words_is}
 
 one_field_filled : (field : List ℕ) → Filled field → AreFilled 1 (field ∷ [])

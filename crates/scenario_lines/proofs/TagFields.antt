@@ -2,7 +2,7 @@
 use Rattle.std.proofs.Common.{◌≡◌, ℕ, List, [], get_or, refl}
 use Rattle.text_fields.specs.Hexadecimal.{hex_words}
 use Rattle.scenario_lines.specs.declared.tag.TagSpec.{TagSpec}
-use Rattle.value_text.specs.ValueText.{locks_text, password_text}
+use Rattle.wire_text.specs.PasswordsAndLocks.{locks_text, password_text}
 use Rattle.scenario_lines.specs.TagForm.{tag_spec_of}
 use Rattle.scenario_lines.specs.Spelling.{tag_spec_fields}
 use Rattle.scenario_lines.proofs.Counted.{field_at}

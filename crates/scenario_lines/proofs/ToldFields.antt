@@ -4,8 +4,8 @@ use Rattle.text_fields.proofs.ToldApart.{hex_word_told}
 use Rattle.text_fields.specs.Binary.{binary_digit}
 use Rattle.lock_rules.specs.declared.locks.Pair.{Pair}
 use Rattle.lock_rules.specs.declared.locks.Locks.{Locks}
-use Rattle.value_text.specs.ValueText.{locks_text, pair_text, password_text}
-use Rattle.command_text.proofs.ToldApart.{digit_told}
+use Rattle.wire_text.specs.PasswordsAndLocks.{locks_text, pair_text, password_text}
+use Rattle.wire_text.proofs.CommandsToldApart.{digit_told}
 
 pub password_told : (one other : ℕ) → one < 2 ^ 32 → other < 2 ^ 32 → password_text one ≡ password_text other → one ≡ other
 password_told one other small small' same =

@@ -4,7 +4,7 @@ use Rattle.std.specs.Fmt.{decimal}
 use Rattle.text_fields.proofs.ToldApart.{binary_told, decimal_told, hex_word_told, hex_words_told}
 use Rattle.text_fields.specs.Binary.{binary}
 use Rattle.text_fields.specs.Hexadecimal.{hex_words}
-use Rattle.command_text.specs.CommandText.{flag_word, payload_digits}
+use Rattle.wire_text.specs.CommandText.{flag_word, payload_digits}
 use Rattle.access_ops.specs.declared.Op.{Op}
 use Rattle.access_ops.specs.declared.Op.TheVariants as ops
 use Rattle.access_ops.specs.laws.OperationLaws.{IsLegalOp}
@@ -24,12 +24,12 @@ use Rattle.scenario_lines.specs.Names.{air_kind, air_word, event_kind, event_wor
 use Rattle.scenario_lines.specs.TagForm.{IsTagForm}
 use Rattle.scenario_lines.specs.LineForm.{HasForm, IsEvent, IsHappening, IsLinkForm, IsRound, IsSelection}
 use Rattle.scenario_lines.specs.LineFaults.{SpellsLine}
-use Rattle.value_text.specs.ValueText.{password_text}
+use Rattle.wire_text.specs.PasswordsAndLocks.{password_text}
 use Rattle.scenario_lines.specs.Spelling.{event_fields, happening_fields, line_fields, link_fields, op_fields, other_fields, round_fields, select_fields, tag_spec_fields, keyword_of}
 use Rattle.scenario_lines.proofs.Counted.{field_at}
 use Rattle.scenario_lines.proofs.TagFields.{same_tag, tag_fields_are}
 use Rattle.scenario_lines.proofs.ToldNames.{air_word_told, event_word_told, op_word_told, rule_told, sel_told, several_told, keyword_told, version_told}
-use Rattle.command_text.proofs.ToldApart.{bank_told, bit_told, code_told, flag_told, list_of_block, mask_bank_told, payload_told, side_told}
+use Rattle.wire_text.proofs.CommandsToldApart.{bank_told, bit_told, code_told, flag_told, list_of_block, mask_bank_told, payload_told, side_told}
 use Rattle.scenario_lines.proofs.ToldFields.{locks_told, password_told}
 
 -- the first of two equal lists of fields, and those behind it

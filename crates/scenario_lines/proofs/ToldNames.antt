@@ -18,8 +18,8 @@ use Rattle.scenario_lines.specs.declared.keywords.EventKind.{EventKind}
 use Rattle.scenario_lines.specs.declared.keywords.EventKind.TheVariants.{Timeout, Off, On, Expire}
 use Rattle.scenario_lines.specs.declared.keywords.OpKind.{OpKind}
 use Rattle.scenario_lines.specs.declared.keywords.AirKind.{AirKind}
-use Rattle.command_text.specs.NameLists.{EachFound}
-use Rattle.command_text.proofs.NameLists.{told}
+use Rattle.wire_text.specs.NameLists.{EachFound}
+use Rattle.wire_text.proofs.NameLists.{told}
 use Rattle.scenario_lines.specs.Names.{HasRuleText, air_found, all_air_kinds, air_word, all_keywords, event_word, keyword_found, keyword_text, op_found, all_op_kinds, op_word, rule_text, sel_text, several_text, version_digit}
 
 -- the letter at a place of two equal texts

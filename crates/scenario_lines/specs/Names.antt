@@ -1,7 +1,7 @@
 -- Profile: the words of a scenario. Those for flags, banks and sides are the ones that commands have in a text.
 use Rattle.std.specs.Prelude.{ℕ, List, [], ◌∷◌, ◌++◌, codes, refl}
 use Rattle.std.specs.Fmt.{decimal}
-use Rattle.command_text.specs.NameLists.{EachFound}
+use Rattle.wire_text.specs.NameLists.{EachFound}
 use Rattle.command_fields.specs.declared.choices.Sel.{Sel}
 use Rattle.command_fields.specs.declared.choices.Sel.TheVariants as sels
 use Rattle.access_ops.specs.declared.Op.{Op}

@@ -6,8 +6,8 @@ use Rattle.text_fields.specs.NamedFields.{Vocabulary}
 use Rattle.text_fields.specs.Binary.{binary, binary_digit}
 use Rattle.text_fields.specs.Hexadecimal.{hex_word, hex_words}
 use Rattle.text_fields.specs.CodeNames.{code_word}
-use Rattle.command_text.specs.CommandText.{bank_word, flag_word, mask_bank_word, payload_digits, side_word}
-use Rattle.value_text.specs.ValueText.{locks_text, password_text}
+use Rattle.wire_text.specs.CommandText.{bank_word, flag_word, mask_bank_word, payload_digits, side_word}
+use Rattle.wire_text.specs.PasswordsAndLocks.{locks_text, password_text}
 use Rattle.access_ops.specs.declared.Op.{Op}
 use Rattle.access_ops.specs.declared.Op.TheVariants as ops
 use Rattle.air_events.specs.declared.Event.{Event}

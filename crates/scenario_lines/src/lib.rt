@@ -1,5 +1,5 @@
 //! The lines of a scenario one by one: what each may say, how it is spelled, and how it is read and
-//! written. How the lines follow one another belongs to the crate `scenario_text`. All of it is profile.
+//! written. How the lines follow one another belongs to the crate `scenario`. All of it is profile.
 #![tactic(auto)]
 
 mod choice;

@@ -1,12 +1,12 @@
 //! The names in a line, read; and written where one stands for a value of several.
 ghost use Rattle.std.specs.Prelude.{◌≡◌, ◌≢◌, IfSome};
-ghost use Rattle.command_text.specs.CommandText.{flag_word};
+ghost use Rattle.wire_text.specs.CommandText.{flag_word};
 ghost use Rattle.scenario_lines.specs.Names.{air_found, all_air_kinds, air_word, all_keywords, event_kind, event_word, keyword_found, keyword_text, op_found, all_op_kinds, op_word, sel_text, several_text, version_digit};
 
 use crate::{AirKind, EventKind, Keyword, OpKind, Version};
 use air_events::{Event, Several};
 use command_grammar::{FlagName, Sel};
-use command_text::{Named, flag_named, value_named};
+use wire_text::{Named, flag_named, value_named};
 
 impl Named for Keyword {
     ghost word = { keyword_text };

@@ -18,7 +18,6 @@ use crate::names::event_kind_named;
 use crate::{AirKind, Keyword, Line, OpKind};
 use air::read_air;
 use checked_lines::FaultReason;
-use command_text::value_named;
 use event::read_event;
 use head::{read_default, read_version};
 use link::read_link;
@@ -29,6 +28,7 @@ use std::marker::Model;
 use tag::read_copies;
 pub use tag::read_tag;
 use text_fields::{Fields, is_at_end};
+use wire_text::value_named;
 
 /// Whether a kind that stands behind the first field is one of its kinds. That of an air line stands behind the number of
 /// its exchange.

@@ -12,3 +12,4 @@ pub mod ReplyRanges
 pub mod ExpectedReplies
 pub mod DrawPlaces
 pub mod QueryRepLaws
+pub mod RepliesByLength

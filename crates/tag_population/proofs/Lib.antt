@@ -4,3 +4,6 @@ pub mod TagsBefallen
 pub mod SeatedTags
 pub mod HeardTags
 pub mod QueryRepCalls
+pub mod WheelLinks
+pub mod TagSetBits
+pub mod SlotPlaces

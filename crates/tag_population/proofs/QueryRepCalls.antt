@@ -22,10 +22,10 @@ use Rattle.tag_population.specs.Floor.{tag_seated, seated_tags, participation_in
 use Rattle.tag_population.specs.Hearing.{AreCalledFor, hearing_from, outcome_reached, reach_of, reach_steps, reached_from, steps_of}
 use Rattle.tag_population.specs.declared.floor.Reach.{Reach}
 use Rattle.tag_population.specs.declared.floor.Reach.TheVariants.{CalledOnly}
-use Rattle.waiting_tags.proofs.SlotPlaces.{same_waits}
-use Rattle.waiting_tags.specs.Waiting.{participation_at, is_called, waits_in, counted_down, IsDue}
-use Rattle.waiting_tags.specs.declared.waiting.Participation.{Participation}
-use Rattle.waiting_tags.specs.declared.waiting.Participation.TheVariants.{Waits, Called}
+use Rattle.tag_population.proofs.SlotPlaces.{same_waits}
+use Rattle.tag_population.specs.Waiting.{participation_at, is_called, waits_in, counted_down, IsDue}
+use Rattle.tag_population.specs.declared.waiting.Participation.{Participation}
+use Rattle.tag_population.specs.declared.waiting.Participation.TheVariants.{Waits, Called}
 
 -- steps
 

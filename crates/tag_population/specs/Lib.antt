@@ -2,3 +2,6 @@ pub mod Answers
 pub mod Floor
 pub mod Hearing
 pub mod Lent
+pub mod Wheel
+pub mod TagSets
+pub mod Waiting

@@ -9,8 +9,7 @@ ghost use Rattle.tag_machine.specs.TagValue.{IsLegalTag};
 ghost use Rattle.tag_population.specs.Answers.{AreKept, answers_kept, answers_of, most_answer_bits, answer_value_of};
 
 use air_events::TagNumber;
-use bit_strings::{Bits, OutOfMemory};
-use bounded_list::Bounded;
+use bit_strings::{Bits, Bounded, OutOfMemory};
 use command_grammar::Command;
 use std::alloc::Global;
 use std::marker::Model;

@@ -9,10 +9,11 @@ ghost use Rattle.tag_machine.specs.TagValue.{IsLegalTag};
 ghost use Rattle.tag_population.specs.Answers.{answers_of};
 ghost use Rattle.tag_population.specs.Floor.{AreSeated, IsNextReached, floor_with, calling, counted_floor, no_tag, participations_of, seats_written_back, steps_back};
 ghost use Rattle.tag_population.specs.Lent.{KeepsFloor};
-ghost use Rattle.waiting_tags.specs.Waiting.{IsDue, participation_at, waits_in};
+ghost use Rattle.tag_population.specs.Waiting.{IsDue, participation_at, waits_in};
 
 use crate::answers::Answers;
 use crate::seat::Seat;
+use crate::waiting::{Participation, Waiting};
 use air_events::TagNumber;
 use bit_strings::{OutOfMemory, Session};
 use command_grammar::Command;
@@ -20,7 +21,6 @@ use std::alloc::Global;
 use std::marker::Model;
 use std::sync::ledger::Ledger;
 use tag_machine::{AnyTag, Event, Steps};
-use waiting_tags::{Participation, Waiting};
 
 /// Which tags a command reaches.
 #[derive(Clone, Copy)]

@@ -1,10 +1,15 @@
-//! A population of tags with numbers: which of them hear a command, what becomes of each, and what they answer.
+//! A population of tags with numbers: which of them wait for their slots, which hear a command, what becomes of each, and what they answer.
 #![tactic(auto)]
 
 mod answers;
 mod floor;
 mod population;
 mod seat;
+mod tag_set;
+mod waiting;
+mod wheel;
 
 pub use answers::{Answer, Answers};
 pub use population::Population;
+pub use tag_set::TagSet;
+pub use waiting::{Participation, Waiting};

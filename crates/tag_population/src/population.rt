@@ -10,10 +10,11 @@ ghost use Rattle.tag_population.specs.Answers.{answers_of};
 ghost use Rattle.tag_population.specs.Floor.{participations_of};
 ghost use Rattle.tag_population.specs.Hearing.{AreCalledFor, HasHeard, IsReady, hearing_from, reach_of, reach_steps, reached_from, tags_after_events};
 ghost use Rattle.tag_population.specs.Lent.{KeepsPopulation};
-ghost use Rattle.waiting_tags.specs.TagSets.{IsSetOf};
+ghost use Rattle.tag_population.specs.TagSets.{IsSetOf};
 
 use crate::answers::Answers;
 use crate::floor::{Floor, Reach};
+use crate::tag_set::TagSet;
 use air_events::TagNumber;
 use bit_strings::OutOfMemory;
 use command_grammar::Command;
@@ -21,7 +22,6 @@ use std::alloc::Global;
 use std::marker::Model;
 use std::sync::ledger::Ledger;
 use tag_machine::{AnyTag, Entry, Event, Steps};
-use waiting_tags::TagSet;
 
 /// Tags, numbered from 0, of which there are at most 4,096.
 ///
@@ -46,7 +46,7 @@ impl Model for Population {
     ghost use Rattle.std.specs.Prelude.{List, ◌≡◌};
     ghost use Rattle.tag_machine.specs.TagValue.{TagValue};
     ghost use Rattle.tag_population.specs.Floor.{participations_of};
-    ghost use Rattle.waiting_tags.specs.TagSets.{HasNone};
+    ghost use Rattle.tag_population.specs.TagSets.{HasNone};
 
     ghost Value = { List TagValue };
 

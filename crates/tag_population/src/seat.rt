@@ -7,15 +7,15 @@ ghost use Rattle.tag_machine.specs.Hearing.{tag_value_of, typed_name_of};
 ghost use Rattle.tag_machine.specs.TagValue.{IsLegalTag};
 ghost use Rattle.tag_population.specs.Answers.{answers_of};
 ghost use Rattle.tag_population.specs.Floor.{participation_in, with_slot};
-ghost use Rattle.waiting_tags.specs.Waiting.{IsLegalParticipation};
+ghost use Rattle.tag_population.specs.Waiting.{IsLegalParticipation};
 
 use crate::answers::Answers;
+use crate::waiting::Participation;
 use air_events::TagNumber;
 use command_grammar::Command;
 use std::marker::Model;
 use std::sync::ledger::Ledger;
 use tag_machine::{AnyTag, Event, StateName, StateNumbers, Steps};
-use waiting_tags::Participation;
 
 /// A seat of a population. It has a tag at all times, but while that tag hears or an event befalls it.
 ///

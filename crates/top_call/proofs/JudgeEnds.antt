@@ -2,12 +2,12 @@
 use Rattle.std.proofs.Common.{◌≡◌, ℕ, List, sym, ◌∙◌, ap}
 use Rattle.checked_lines.specs.TextRules.{IsFaultText}
 use Rattle.checked_lines.specs.declared.fault.FaultReason.{FaultReason}
-use Rattle.judge_lines.specs.Judged.{IsJudged}
-use Rattle.judge_lines.specs.LogText.{IsFirstLogFault, IsLogText, log_rules}
-use Rattle.judge_lines.specs.VerdictLine.{line_of_verdict}
-use Rattle.log_verdicts.specs.Log.{AreDrawn, LogEntry, LoggedTag, tag_with}
-use Rattle.log_verdicts.specs.Verdicts.{IsVerdict, Verdict, Yes}
-use Rattle.log_verdicts.specs.laws.Logs.{Deed, log_made}
+use Rattle.bench_lines.specs.Judged.{IsJudged}
+use Rattle.bench_lines.specs.LogText.{IsFirstLogFault, IsLogText, log_rules}
+use Rattle.bench_lines.specs.VerdictLine.{line_of_verdict}
+use Rattle.log_judge.specs.Log.{AreDrawn, LogEntry, LoggedTag, tag_with}
+use Rattle.log_judge.specs.Verdicts.{IsVerdict, Verdict, Yes}
+use Rattle.log_judge.specs.laws.Logs.{Deed, log_made}
 use Rattle.top_call.specs.words.Judged.{IsSomeLog, TellsVerdict, SaysYesOfTags}
 
 -- what the laws of logs say: a log that bytes say has one verdict,

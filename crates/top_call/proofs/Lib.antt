@@ -12,3 +12,5 @@ pub mod ToldForms
 pub mod SummaryLines
 pub mod AuditTexts
 pub mod ObjectEnds
+pub mod PortalsRefused
+pub mod PortalStepPlaces

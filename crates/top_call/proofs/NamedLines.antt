@@ -5,7 +5,7 @@ use Rattle.std.proofs.lemmas.Grind.{flat_map-append}
 use Rattle.std.proofs.lemmas.List.{append_cancel_right, append-nil}
 use Rattle.text_fields.specs.Lines.{lines_of, line_feed, text_with}
 use Rattle.epc_sgtin.specs.SgtinValue.{SgtinValue}
-use Rattle.sgtin_text.specs.SgtinText.{name_line}
+use Rattle.epc_sgtin.specs.SgtinText.{name_line}
 use Rattle.report_lines.specs.Names.{IsNamed, HasName, BecomesLines, AreWithNames}
 use Rattle.top_call.specs.StatusMeanings.{AddsFront}
 use Rattle.top_call.specs.UnwrittenBytes.{WritesWaiting, Loses}

@@ -1,15 +1,15 @@
 -- The texts of `portals`, by the laws of scenarios.
 use Rattle.std.proofs.Common.{◌≡◌, ◌⊎◌, inl, inr, ℕ, List, Option, Some, None, refl, sym, ◌∙◌, ap, codes}
 use Rattle.std.specs.Prelude.{All, true}
-use Rattle.portal_text.specs.PortalFault.{portal_fault}
-use Rattle.portal_text.specs.PortalText.{portals_text}
+use Rattle.top_call.specs.PortalFault.{portal_fault}
+use Rattle.top_call.specs.PortalText.{portals_text}
 use Rattle.runs.specs.Portals.{ArePortalsIndependent, IsOfPortals, portals_told}
 use Rattle.scenario.specs.declared.values.Scenario.{Scenario}
 use Rattle.scenario.specs.Limits.{IsScenario}
 use Rattle.scenario.specs.ScenarioText.{IsScenarioText, scenario_text}
 use Rattle.checked_lines.specs.declared.fault.FaultReason.{FaultReason}
 use Rattle.checked_lines.specs.FaultWords.{reason_word}
-use Rattle.scenario_text.specs.Faults.{IsFirstScenarioFault}
+use Rattle.scenario.specs.Faults.{IsFirstScenarioFault}
 use Rattle.text_fields.specs.FaultLine.{fault_line}
 use Rattle.top_call.specs.Job.{Defines}
 use Rattle.top_call.specs.words.Compared.{Compares, IsPortalsText, ProvesPortals, RefusesPortal, RefusesPortals, portals_job}

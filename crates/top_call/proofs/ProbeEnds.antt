@@ -5,10 +5,10 @@ use Rattle.report_lines.specs.declared.mode.PlayFault.{PlayFault}
 use Rattle.report_lines.specs.declared.mode.PlayFault.TheVariants as plays
 use Rattle.tag_machine.specs.TagValue.{TagValue}
 use Rattle.checked_lines.specs.declared.fault.FaultReason.{FaultReason}
-use Rattle.probe_lines.specs.Stimuli.{Stimulus}
-use Rattle.probe_lines.specs.AnswerLines.{TellsEffects, probed_tag}
-use Rattle.probe_lines.specs.Played.{HasPlayed, WritesPart}
-use Rattle.probe_lines.specs.ProbeText.{IsFirstProbeFault, IsProbe, IsProbeText}
+use Rattle.bench_lines.specs.Stimuli.{Stimulus}
+use Rattle.bench_lines.specs.ProbeAnswers.{TellsEffects, probed_tag}
+use Rattle.bench_lines.specs.Played.{HasPlayed, WritesPart}
+use Rattle.bench_lines.specs.ProbeText.{IsFirstProbeFault, IsProbe, IsProbeText}
 use Rattle.top_call.specs.Ending.{end_of_play}
 use Rattle.top_call.specs.Job.{Defines}
 use Rattle.top_call.specs.StatusMeanings.{AddsFront, EndsSo, SinkChange}

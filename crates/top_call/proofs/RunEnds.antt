@@ -5,7 +5,7 @@ use Rattle.scenario.specs.declared.values.Scenario.{Scenario}
 use Rattle.checked_lines.specs.declared.fault.FaultReason.{FaultReason}
 use Rattle.scenario.specs.Limits.{IsScenario}
 use Rattle.scenario.specs.ScenarioText.{IsScenarioText, scenario_text}
-use Rattle.scenario_text.specs.Faults.{IsFirstScenarioFault}
+use Rattle.scenario.specs.Faults.{IsFirstScenarioFault}
 use Rattle.checked_lines.specs.FaultWords.{reason_word}
 use Rattle.text_fields.specs.FaultLine.{fault_line}
 use Rattle.report_lines.specs.declared.mode.Mode.{Mode}

@@ -5,7 +5,7 @@ use Rattle.runs.specs.Report.{report_text_of}
 use Rattle.scenario.specs.declared.values.Scenario.{Scenario}
 use Rattle.scenario.specs.Limits.{IsScenario}
 use Rattle.scenario.specs.Upgraded.{upgraded}
-use Rattle.scenario_text.specs.ScenarioText.{scenario_text}
+use Rattle.scenario.specs.ScenarioText.{scenario_text}
 use Rattle.top_call.specs.words.Reported.{Reports}
 use Rattle.top_call.specs.words.Upgraded.{Upgrades, ProvesUpgrade}
 use Rattle.top_call.proofs.RunEnds.{AreToldApart}

@@ -7,7 +7,7 @@ use Rattle.line_objects.specs.declared.line_members.LineSet.TheVariants as sets
 use Rattle.report_lines.specs.declared.mode.Mode.TheVariants.{Plain, Trace, Json, Exchanges, Vcd}
 use Rattle.top_call.specs.declared.forms.Form.{Form}
 use Rattle.top_call.specs.declared.forms.Form.TheVariants.{Decode, Encode, Run, Upgrade, Portals, Names, Probe, Judge, Audit, Objects, Gen, Help, Version}
-use Rattle.made_scenario.specs.Made.{most_made_tags}
+use Rattle.made_runs.specs.Made.{most_made_tags}
 
 -- the bytes of each word
 abbrev pub texts : List (String Global) → List (List ℕ)

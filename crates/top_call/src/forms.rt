@@ -4,11 +4,11 @@ ghost use Rattle.std.specs.Fmt.{decimal};
 ghost use Rattle.top_call.specs.declared.forms.Form.{Form};
 ghost use Rattle.top_call.specs.Form.{texts, SpellForm};
 ghost use Rattle.top_call.specs.Jobs.{job_of};
-ghost use Rattle.made_scenario.specs.Made.{most_made_tags};
+ghost use Rattle.made_runs.specs.Made.{most_made_tags};
 
 use air_world::Mode;
 use line_objects::{LineSet, spelled_number};
-use made_scenario::MOST_MADE_TAGS;
+use made_runs::MOST_MADE_TAGS;
 use text_fields::number;
 
 /// What the program is asked to do, by its words.

@@ -1,10 +1,16 @@
 //! The top call of Siulanke: what the words of the command line ask for, read from a source and written to a sink.
+//!
+//! Here stand besides what `--help` and `--version` write, and the texts of two portals.
 #![tactic(auto)]
 
 mod ending;
 mod forms;
 mod laws;
+mod portal_faults;
+mod portal_rounds;
+mod portal_text;
 mod program;
+mod program_texts;
 mod status;
 mod words;
 
@@ -13,7 +19,11 @@ pub use forms::{Form, form_of, form_of_one, form_of_three, form_of_two, reads_in
 pub use laws::{
     forms_are_told_apart, grammatical_inputs_are_not_refused, inputs_have_one_text, jobs_are_lawful,
 };
+pub use portal_faults::{portal_fault, portal_scenarios};
+pub use portal_rounds::round_specs;
+pub use portal_text::portals_text;
 pub use program::{gen2run, gen2run_surely};
+pub use program_texts::{help_text, version_number, version_text};
 pub use status::Status;
 pub use words::audit::{audit_inputs_have_a_text, audit_is_lawful};
 pub use words::decode::decode_is_lawful;

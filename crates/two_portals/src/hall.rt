@@ -5,7 +5,7 @@ ghost use Rattle.q_round.specs.declared.round.RoundEnd.TheVariants as ends;
 ghost use Rattle.tag_machine.specs.TagValue.{TagValue};
 ghost use Rattle.two_portals.specs.Played.{Played, AreReady, IsQuietRound, ListsItsTags};
 
-use bounded_list::Bounded;
+use bit_strings::Bounded;
 use q_round::{RoundEnd, RoundSpec};
 use reply_grammar::EpcWords;
 

@@ -7,8 +7,7 @@ mod hall;
 mod portal_line;
 mod portals;
 
-pub use bit_strings::{OutOfMemory, Session};
-pub use bounded_list::{Bounded, Full};
+pub use bit_strings::{Bounded, Full, OutOfMemory, Session};
 pub use hall::{Hall, Pairs};
 pub use portal_line::PortalLine;
 pub use portals::compare;

@@ -6,9 +6,9 @@ use Rattle.std.specs.Fmt.{decimal}
 use Rattle.std.specs.List.{join_with_byte}
 use Rattle.command_grammar.specs.declared.commands.Command.{Command}
 use Rattle.command_grammar.specs.declared.commands.Command.TheVariants as commands
-use Rattle.command_text.specs.CommandText.{command_line}
+use Rattle.wire_text.specs.CommandText.{command_line}
 use Rattle.pie_line.specs.Link.{LinkValue, blf_of}
-use Rattle.reply_text.specs.ReplyText.{reply_line}
+use Rattle.wire_text.specs.ReplyText.{reply_line}
 use Rattle.text_fields.specs.Binary.{binary_digit}
 use Rattle.text_fields.specs.Lines.{fields_of, text_with}
 use Rattle.wave_dump.specs.Exchanged.{Exchanged}

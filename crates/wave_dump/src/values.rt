@@ -1,14 +1,13 @@
 //! Commands and replies as values of string variables.
 ghost use Rattle.std.specs.Prelude.{◌≡◌, ◌++◌, ◌∷◌, OnOk, if◌then◌else◌};
 ghost use Rattle.std.specs.String.{string_bytes};
-ghost use Rattle.command_text.specs.CommandText.{command_line};
+ghost use Rattle.wire_text.specs.CommandText.{command_line};
 ghost use Rattle.wave_dump.specs.Waves.{with_underscores, reply_value};
 
 use crate::exchanged::Gave;
 use bit_strings::OutOfMemory;
 use command_grammar::Command;
-use command_text::push_command;
-use reply_text::push_reply;
+use wire_text::{push_command, push_reply};
 
 /// Adds a field, behind `_` if it isn't the first one.
 fn push_field(text: &mut String, field: &str, first: bool) -> Result<(), OutOfMemory>

@@ -1,7 +1,7 @@
 -- What is kept of lines that list nothing.
 use Rattle.std.proofs.Common.{ℕ, List, [], sym, ap, append-nil}
 use Rattle.air_world.specs.Listing.{HearsPairs}
-use Rattle.bounded_list.specs.ItemList.{ItemList}
+use Rattle.bit_strings.specs.ItemList.{ItemList}
 
 -- where nothing was told nothing is kept
 pub hears-no-pair : (list : ItemList (ℕ × List ℕ)) → HearsPairs [] list list

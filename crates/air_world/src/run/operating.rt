@@ -7,7 +7,7 @@ ghost use Rattle.access_ops.specs.laws.OperationLaws.{Expects};
 ghost use Rattle.air_events.specs.Streams.{longest_stream};
 ghost use Rattle.air_model.specs.Past.{Item, past_behind_command};
 ghost use Rattle.air_world.specs.Playing.{Begun, IsAtFirstOperation, IsUnderway, StandsAt};
-ghost use Rattle.line_codes.specs.Codes.{table_of};
+ghost use Rattle.reply_wire.specs.Codes.{table_of};
 ghost use Rattle.reply_wire.specs.Received.{IsReceived};
 ghost use Rattle.runs.specs.History.{operation_reception, past_behind_dialogue};
 

@@ -15,11 +15,11 @@ ghost use Rattle.tag_population.specs.Answers.{answers_of};
 
 use air_channel::{Air, Answers, Got};
 use air_events::Entry;
-use answer_reading::reply_to;
 use bit_strings::Bits;
 use command_grammar::Command;
 use reply_grammar::Reply;
 use report_lines::{Line, Listener};
+use tag_machine::reply_to;
 use wave_dump::{Exchanged, Gave};
 
 /// The reply that the bits of an answer are, read in the room that is lent for it.

@@ -7,8 +7,8 @@ use Rattle.line_code.specs.Answer.{IsStreamAnswer}
 use Rattle.line_code.specs.declared.refusal.LineRefusal.{LineRefusal}
 use Rattle.line_code.specs.declared.refusal.LineRefusal.TheVariants.{Invalid, Unfinished}
 use Rattle.line_code.specs.laws.Existence.{some_answer}
-use Rattle.line_codes.specs.laws.Codes.{code_even, code_tells}
-use Rattle.line_codes.specs.Codes.{table_of, chips_of}
+use Rattle.reply_wire.specs.laws.Codes.{code_even, code_tells}
+use Rattle.reply_wire.specs.Codes.{table_of, chips_of}
 use Rattle.reply_grammar.specs.Replies.{AnswersExpected}
 use Rattle.reply_grammar.specs.Refusals.{RefusesReply}
 use Rattle.reply_grammar.specs.laws.SomeReply.{reply_or_fault}

@@ -11,8 +11,8 @@ ghost use Rattle.scenario_lines.specs.declared.line.Line.TheVariants as lines;
 use crate::names::event_name;
 use air_events::{Choice, Event};
 use bit_strings::OutOfMemory;
-use command_text::flag_name;
 use text_fields::{push_named_number, push_next_bits, push_next_name, push_next_number};
+use wire_text::flag_name;
 
 /// Writes the kind of an event, the flag of an expiry, and the number of the tag.
 fn next_event(text: &mut String, event: Event, tag: u32) -> Result<(), OutOfMemory>

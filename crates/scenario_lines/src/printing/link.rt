@@ -8,9 +8,9 @@ ghost use Rattle.scenario_lines.specs.Spelling.{flag_text, line_text};
 ghost use Rattle.scenario_lines.specs.declared.line.Line.TheVariants as lines;
 
 use bit_strings::OutOfMemory;
-use command_text::bit_name;
 use pie_line::Link;
 use text_fields::{name_of, push_next_name, push_next_number};
+use wire_text::bit_name;
 
 /// Writes `link` and the four lengths of a link, in nanoseconds.
 fn push_lengths(text: &mut String, link: &Link) -> Result<(), OutOfMemory>

@@ -3,19 +3,18 @@ ghost use Rattle.std.specs.Prelude.{◌≡◌, ◌++◌, [], ◌∷◌, OnOk};
 ghost use Rattle.std.specs.String.{string_bytes};
 ghost use Rattle.std.specs.Fmt.{decimal};
 ghost use Rattle.text_fields.specs.Lines.{line_feed, line_with, space};
-ghost use Rattle.command_text.specs.CommandText.{bank_word, payload_digits};
+ghost use Rattle.wire_text.specs.CommandText.{bank_word, payload_digits};
 ghost use Rattle.scenario_lines.specs.Names.{op_kind, op_word};
 ghost use Rattle.scenario_lines.specs.Spelling.{line_text, op_fields};
-ghost use Rattle.value_text.specs.ValueText.{password_text};
+ghost use Rattle.wire_text.specs.PasswordsAndLocks.{password_text};
 ghost use Rattle.scenario_lines.specs.declared.line.Line.TheVariants as lines;
 
 use access_ops::Op;
 use bit_strings::{OutOfMemory, Payload, Pointer};
 use command_grammar::Bank;
-use command_text::{bank_name, push_next_payload};
 use reply_grammar::EpcWords;
 use text_fields::{push_next_name, push_next_number, push_next_word, push_next_words};
-use value_text::push_next_password;
+use wire_text::{bank_name, push_next_password, push_next_payload};
 
 /// Writes the kind of an operation, the bank, and the place of the first word.
 fn next_place(

@@ -3,7 +3,7 @@ ghost use Rattle.std.specs.Prelude.{◌≡◌, ◌++◌, [], ◌∷◌, codes, O
 ghost use Rattle.std.specs.String.{string_bytes};
 ghost use Rattle.std.specs.Fmt.{decimal};
 ghost use Rattle.text_fields.specs.Lines.{line_feed, line_with, space};
-ghost use Rattle.command_text.specs.CommandText.{side_word};
+ghost use Rattle.wire_text.specs.CommandText.{side_word};
 ghost use Rattle.scenario_lines.specs.Names.{rule_text, sel_text};
 ghost use Rattle.scenario_lines.specs.Spelling.{line_text};
 ghost use Rattle.scenario_lines.specs.declared.line.Line.TheVariants as lines;
@@ -11,9 +11,9 @@ ghost use Rattle.scenario_lines.specs.declared.line.Line.TheVariants as lines;
 use crate::Version;
 use crate::names::sel_name;
 use bit_strings::OutOfMemory;
-use command_text::side_name;
 use q_round::{RoundSpec, Rule};
 use text_fields::{push_next_name, push_next_number, push_number};
+use wire_text::side_name;
 
 /// Writes `round` and the tags that a round speaks to.
 fn push_tags(text: &mut String, spec: &RoundSpec) -> Result<(), OutOfMemory>

@@ -4,7 +4,7 @@ ghost use Rattle.std.specs.String.{string_bytes};
 ghost use Rattle.text_fields.specs.Hexadecimal.{hex_words};
 ghost use Rattle.text_fields.specs.Lines.{line_feed, line_with, space};
 ghost use Rattle.scenario_lines.specs.Spelling.{line_text, tag_spec_fields};
-ghost use Rattle.value_text.specs.ValueText.{locks_text, password_text};
+ghost use Rattle.wire_text.specs.PasswordsAndLocks.{locks_text, password_text};
 ghost use Rattle.scenario_lines.specs.declared.line.Line.TheVariants as lines;
 
 use crate::TagSpec;
@@ -12,7 +12,7 @@ use bit_strings::OutOfMemory;
 use lock_rules::Locks;
 use tag_memory::BankImage;
 use text_fields::{push_named_number, push_next_words};
-use value_text::{push_locks, push_next_password};
+use wire_text::{push_locks, push_next_password};
 
 /// Writes the passwords and the locks.
 fn next_secrets(text: &mut String, image: &BankImage, locks: &Locks) -> Result<(), OutOfMemory>

@@ -15,8 +15,8 @@ use crate::choice::{ChoiceFields, ChoiceText};
 use crate::{AirKind, Happening};
 use air_events::LONGEST_STREAM;
 use checked_lines::FaultReason;
-use command_text::value_named;
 use text_fields::{Digits, Fields, is_at_end, number_from, one_field};
+use wire_text::value_named;
 
 /// The greatest number of an exchange in a line.
 const MOST_EXCHANGE: u32 = 1_000_000;

@@ -2,7 +2,7 @@
 ghost use Rattle.std.specs.Prelude.{◌≡◌, ◌<◌, ◌^◌, ℕ, List, IfOk, IfErr, IfSome, IsSomeAnd, [], ◌∷◌};
 ghost use Rattle.std.specs.Fmt.{decimal};
 ghost use Rattle.text_fields.specs.Hexadecimal.{hex_words};
-ghost use Rattle.command_text.specs.CommandText.{bank_word};
+ghost use Rattle.wire_text.specs.CommandText.{bank_word};
 ghost use Rattle.access_ops.specs.declared.Op.{Op};
 ghost use Rattle.access_ops.specs.laws.OperationLaws.{IsLegalOp};
 ghost use Rattle.scenario_lines.specs.Names.{op_field_count, op_kind, op_word};
@@ -16,11 +16,9 @@ use access_ops::Op;
 use bit_strings::Pointer;
 use checked_lines::FaultReason;
 use command_grammar::Bank;
-use command_text::{bank_named, block_of, payload_of, value_named};
 use reply_grammar::EpcWords;
-use reply_text::epc_of;
 use text_fields::{Fields, count_of, number, one_field, pointer_of, three_fields, word};
-use value_text::password_of;
+use wire_text::{bank_named, block_of, epc_of, password_of, payload_of, value_named};
 
 /// The EPC that the field behind `only` spells.
 pub(crate) fn read_only(others: Fields) -> Result<EpcWords, FaultReason>

@@ -12,9 +12,9 @@ ghost use Rattle.scenario_lines.specs.Reading.{MisreadsRound};
 use crate::Version;
 use crate::names::sel_named;
 use checked_lines::FaultReason;
-use command_text::side_named;
 use q_round::{RoundSpec, Rule};
 use text_fields::{Fields, number, number_from, q_of, session_of, six_fields};
+use wire_text::side_named;
 
 /// By how much a slot moves Qfp, in thousandths, which a field spells.
 fn step_of(field: &[u8]) -> Option<u32>

@@ -8,8 +8,8 @@ ghost use Rattle.scenario_lines.specs.Reading.{Misreads};
 
 use crate::Selection;
 use checked_lines::FaultReason;
-use command_text::{flag_named, mask_bank_named, mask_of};
 use text_fields::{Fields, action_of, five_fields, pointer_of};
+use wire_text::{flag_named, mask_bank_named, mask_of};
 
 /// What the fields behind `select` name.
 pub(crate) fn read_select(others: Fields) -> Result<Selection, FaultReason>

@@ -15,7 +15,7 @@ use air_events::MOST_TAGS;
 use checked_lines::FaultReason;
 use lock_rules::Locks;
 use text_fields::{Fields, Words, number_from, seven_fields, words_from};
-use value_text::{locks_of, password_of};
+use wire_text::{locks_of, password_of};
 
 /// The lists of words of a tag.
 #[derive(Drop)]

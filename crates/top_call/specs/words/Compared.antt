@@ -1,7 +1,7 @@
 -- Profile: what `portals` writes for the bytes that it reads. The whole input is read before anything is written.
 use Rattle.std.specs.Prelude.{◌≡◌, ◌⊎◌, ℕ, true, List, All, None, Some, codes}
-use Rattle.portal_text.specs.PortalFault.{portal_fault}
-use Rattle.portal_text.specs.PortalText.{portals_text}
+use Rattle.top_call.specs.PortalFault.{portal_fault}
+use Rattle.top_call.specs.PortalText.{portals_text}
 use Rattle.runs.specs.Portals.{ArePortalsIndependent, portals_told}
 use Rattle.scenario.specs.declared.values.Scenario.{Scenario}
 use Rattle.scenario.specs.Limits.{IsScenario}

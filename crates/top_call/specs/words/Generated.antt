@@ -3,8 +3,8 @@ use Rattle.std.specs.Prelude.{◌≡◌, ℕ, Bool, true, false, List, [], ◌�
 use Rattle.std.specs.Fmt.{decimal}
 use Rattle.runs.specs.Summary.{summary_of}
 use Rattle.runs.specs.declared.summary.Summary.{Summary}
-use Rattle.made_runs.specs.MadeRuns.{CountsAll}
-use Rattle.made_scenario.specs.Made.{made_scenario}
+use Rattle.made_runs.specs.CountsAll.{CountsAll}
+use Rattle.made_runs.specs.Made.{made_scenario}
 use Rattle.text_fields.specs.Lines.{text_with}
 use Rattle.top_call.specs.Job.{Job}
 

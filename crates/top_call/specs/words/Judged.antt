@@ -1,12 +1,12 @@
 -- Profile: what `judge` writes for the bytes that it read: a log of one tag. The whole input is read before anything is written.
 use Rattle.std.specs.Prelude.{◌≡◌, ℕ, true, List}
 use Rattle.checked_lines.specs.TextRules.{IsFaultText}
-use Rattle.judge_lines.specs.Judged.{IsJudged}
-use Rattle.judge_lines.specs.LogText.{IsLogText, log_rules}
-use Rattle.judge_lines.specs.VerdictLine.{line_of_verdict}
-use Rattle.log_verdicts.specs.Log.{AreDrawn, LogEntry, LoggedTag, tag_with}
-use Rattle.log_verdicts.specs.Verdicts.{Verdict, Yes}
-use Rattle.log_verdicts.specs.laws.Logs.{Deed, log_made}
+use Rattle.bench_lines.specs.Judged.{IsJudged}
+use Rattle.bench_lines.specs.LogText.{IsLogText, log_rules}
+use Rattle.bench_lines.specs.VerdictLine.{line_of_verdict}
+use Rattle.log_judge.specs.Log.{AreDrawn, LogEntry, LoggedTag, tag_with}
+use Rattle.log_judge.specs.Verdicts.{Verdict, Yes}
+use Rattle.log_judge.specs.laws.Logs.{Deed, log_made}
 use Rattle.top_call.specs.Job.{Job}
 
 -- the bytes are the text of a log

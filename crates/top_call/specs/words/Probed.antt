@@ -2,9 +2,9 @@
 use Rattle.std.specs.Prelude.{ℕ, true, List}
 use Rattle.checked_lines.specs.TextRules.{IsFaultText}
 use Rattle.scenario_lines.specs.declared.tag.TagSpec.{TagSpec}
-use Rattle.probe_lines.specs.Stimuli.{Stimulus}
-use Rattle.probe_lines.specs.AnswerLines.{TellsEffects, probed_tag}
-use Rattle.probe_lines.specs.ProbeText.{IsProbe, IsProbeText, probe_rules}
+use Rattle.bench_lines.specs.Stimuli.{Stimulus}
+use Rattle.bench_lines.specs.ProbeAnswers.{TellsEffects, probed_tag}
+use Rattle.bench_lines.specs.ProbeText.{IsProbe, IsProbeText, probe_rules}
 use Rattle.top_call.specs.Job.{Job}
 
 -- the text tells what comes of what the bytes say, done to the tag that they give

@@ -3,7 +3,7 @@ use Rattle.std.specs.Prelude.{◌≡◌, ◌↔◌, ℕ, true, List}
 use Rattle.scenario.specs.declared.values.Scenario.{Scenario}
 use Rattle.scenario.specs.Limits.{IsScenario}
 use Rattle.scenario.specs.Upgraded.{upgraded}
-use Rattle.scenario_text.specs.ScenarioText.{IsScenarioText, scenario_text}
+use Rattle.scenario.specs.ScenarioText.{IsScenarioText, scenario_text}
 use Rattle.report_lines.specs.declared.mode.Mode.{Mode}
 use Rattle.top_call.specs.Job.{Job}
 use Rattle.top_call.specs.words.Reported.{Reports, RefusesScenario}

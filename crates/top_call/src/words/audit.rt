@@ -16,9 +16,8 @@ use air_world::tags_at_start;
 use arrayvec::ArrayVec;
 use bit_strings::OutOfMemory;
 use runs::histories_keep_tags_legal;
-use scenario::Scenario;
-use scenario_text::{
-    read_scenario, scenario_texts_are_not_faulty, scenarios_are_told_apart,
+use scenario::{
+    Scenario, read_scenario, scenario_texts_are_not_faulty, scenarios_are_told_apart,
     texts_are_scenarios_or_faulty, texts_have_one_fault,
 };
 use std::alloc::Global;

@@ -4,7 +4,7 @@ ghost use Rattle.std.specs.Fmt.{decimal};
 ghost use Rattle.top_call.specs.Job.{IsLawful};
 ghost use Rattle.top_call.specs.words.Generated.{end_line, summary_text, gen_job};
 ghost use Rattle.top_call.specs.StatusMeanings.{EndsSo, sink_change};
-ghost use Rattle.made_scenario.specs.Made.{most_made_tags};
+ghost use Rattle.made_runs.specs.Made.{most_made_tags};
 ghost use Rattle.text_fields.specs.Lines.{line_feed};
 
 use crate::ending::{WriteEnd, Wrote, write_text};
@@ -12,8 +12,7 @@ use air_io::Sink;
 use air_world::{Summary, summarise};
 use arrayvec::ArrayVec;
 use itoa::Buffer;
-use made_runs::quiet_made_runs_list_every_tag;
-use made_scenario::made_scenario;
+use made_runs::{made_scenario, quiet_made_runs_list_every_tag};
 use std::alloc::Global;
 use text_fields::push_bytes;
 

@@ -6,12 +6,12 @@ ghost use Rattle.top_call.specs.words.Judged.{judge_job};
 
 use crate::ending::{WriteEnd, Wrote, write_text};
 use air_io::Sink;
-use checked_lines::{Unread, fault_text};
-use judge_lines::{
+use bench_lines::{
     judge_log, log_texts_are_not_faulty, log_texts_have_one_fault, log_texts_have_one_verdict,
     push_verdict, texts_are_logs_or_faulty,
 };
-use log_verdicts::logs_that_tags_make_are_explained;
+use checked_lines::{Unread, fault_text};
+use log_judge::logs_that_tags_make_are_explained;
 use std::alloc::Global;
 
 /// Writes what is defined for the bytes of an input: what is judged of the log that they say, or the one line that reports the first faulty

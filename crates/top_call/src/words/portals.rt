@@ -1,8 +1,8 @@
 //! The word `portals`: what two portals that share tags list, beside what each would list alone.
 ghost use Rattle.std.specs.Prelude.{◌≡◌, None, IfOk, ℕ, List};
 ghost use Rattle.std.specs.String.{string_bytes};
-ghost use Rattle.portal_text.specs.PortalFault.{portal_fault};
-ghost use Rattle.portal_text.specs.PortalText.{portals_text};
+ghost use Rattle.top_call.specs.PortalFault.{portal_fault};
+ghost use Rattle.top_call.specs.PortalText.{portals_text};
 ghost use Rattle.runs.specs.Portals.{portals_told};
 ghost use Rattle.scenario.specs.Limits.{IsScenario};
 ghost use Rattle.top_call.specs.Job.{Defines, IsLawful};
@@ -10,14 +10,15 @@ ghost use Rattle.top_call.specs.StatusMeanings.{EndsSo, sink_change};
 ghost use Rattle.top_call.specs.words.Compared.{portals_job};
 
 use crate::ending::{WriteEnd, Wrote, write_text};
+use crate::portal_faults::{portal_fault, portal_scenarios};
+use crate::portal_rounds::round_specs;
+use crate::portal_text::portals_text;
 use crate::words::refusal::write_refusal;
 use air_io::Sink;
 use air_world::compare_portals;
-use portal_text::{portal_fault, portal_scenarios, portals_text, round_specs};
 use runs::portals_are_independent;
-use scenario::Scenario;
-use scenario_text::{
-    read_scenario, scenario_texts_are_not_faulty, scenarios_are_told_apart,
+use scenario::{
+    Scenario, read_scenario, scenario_texts_are_not_faulty, scenarios_are_told_apart,
     texts_are_scenarios_or_faulty, texts_have_one_fault,
 };
 use std::alloc::{AllocError, Global};

@@ -6,7 +6,7 @@ ghost use Rattle.top_call.specs.words.Probed.{probe_job};
 
 use crate::ending::{WriteEnd, Wrote, write_text};
 use air_io::Sink;
-use probe_lines::{
+use bench_lines::{
     fault_text, play, probe_texts_are_not_faulty, probe_texts_have_one_fault,
     probes_are_told_apart, probes_have_one_text, read_probe,
 };

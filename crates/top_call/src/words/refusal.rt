@@ -1,6 +1,6 @@
 //! What the words that read a scenario write where a text spells none.
 ghost use Rattle.std.specs.Prelude.{ℕ, List};
-ghost use Rattle.scenario_text.specs.Faults.{IsRefused};
+ghost use Rattle.scenario.specs.Faults.{IsRefused};
 ghost use Rattle.top_call.specs.declared.forms.Form.{Form};
 ghost use Rattle.top_call.specs.Jobs.{job_of};
 ghost use Rattle.top_call.specs.StatusMeanings.{EndsSo, sink_change};

@@ -11,7 +11,7 @@ use air_audit::own_traces_are_audited;
 use air_io::Sink;
 use air_world::{Mode, play, set_up};
 use runs::{headline, rounds_are_complete};
-use scenario_text::{
+use scenario::{
     read_scenario, scenario_texts_are_not_faulty, scenarios_are_told_apart,
     texts_are_scenarios_or_faulty, texts_have_one_fault,
 };

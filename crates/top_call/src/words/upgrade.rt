@@ -8,10 +8,9 @@ use crate::ending::{WriteEnd, Wrote, write_text};
 use crate::words::refusal::write_refusal;
 use air_io::Sink;
 use runs::upgraded_scenarios_run_the_same;
-use scenario::{upgrade, upgraded_scenarios_are_legal};
-use scenario_text::{
+use scenario::{
     print_scenario, read_scenario, scenario_texts_are_not_faulty, scenarios_are_told_apart,
-    texts_are_scenarios_or_faulty, texts_have_one_fault,
+    texts_are_scenarios_or_faulty, texts_have_one_fault, upgrade, upgraded_scenarios_are_legal,
 };
 use std::alloc::Global;
 

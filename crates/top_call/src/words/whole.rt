@@ -7,12 +7,12 @@ ghost use Rattle.top_call.specs.StatusMeanings.{EndsSo, input_limit, source_chan
 
 use crate::ending::{MOST_INPUT_BYTES, WriteEnd, Wrote, status_of, unread_status};
 use crate::forms::{Form, reads_input};
+use crate::program_texts::{help_text, version_text};
 use crate::status::Status;
 use crate::words::{
     audit, encode, generate, judge, names, own_texts, portals, probe, run, upgrade,
 };
 use air_io::{Sink, Source, read_to_end};
-use program_texts::{help_text, version_text};
 use std::alloc::Global;
 
 /// Reads the input to its end, where the words of the form have one, and writes what is defined for it. The whole input is

@@ -1,9 +1,9 @@
 use Rattle.std.proofs.Common.{◌≡◌, ℕ, ◌∙◌, List, length, Option, Some, ap, rules, subst, sym}
 use Rattle.tag_machine.specs.Hearing.{tag_value_of}
 use Rattle.tag_machine.specs.TagValue.{TagValue}
-use Rattle.log_verdicts.specs.Log.{Seen, Exchange}
-use Rattle.log_verdicts.specs.Explaining.{ByTables}
-use Rattle.log_verdicts.specs.laws.Known.{want_of}
+use Rattle.log_judge.specs.Log.{Seen, Exchange}
+use Rattle.log_judge.specs.Explaining.{ByTables}
+use Rattle.log_judge.specs.laws.Known.{want_of}
 use Rattle.log_judge.specs.declared.draws.Draws.{Draws}
 use Rattle.log_judge.specs.Answers.{seen_in, want_in}
 use Rattle.log_judge.specs.Drawing.{draws_at, slots_behind, want_behind}

@@ -4,7 +4,7 @@ use Rattle.runs.specs.Headline.{IsLegalRound}
 use Rattle.runs.specs.ScenarioStart.{start_of}
 use Rattle.made_runs.proofs.MadeRuns.{made-own-epcs, made-round-legal, made-tags-count, made-take-part, quiet-made}
 use Rattle.made_runs.proofs.laws.quiet_made_runs_list_every_tag.Goals as goal
-use Rattle.made_scenario.specs.Made.{made_scenario, made_round}
+use Rattle.made_runs.specs.Made.{made_scenario, made_round}
 use Rattle.scenario.specs.Limits.{no_operations}
 
 -- no round has more operations than its list

@@ -2,7 +2,7 @@ use Rattle.std.proofs.Common.{◌≡◌, ◌∙◌, Bool, List, ap, inl, inr, re
 use Rattle.line_code.specs.Stream.{Streams}
 use Rattle.line_code.specs.Refusal.{RefusesStream}
 use Rattle.line_code.specs.declared.refusal.LineRefusal.{LineRefusal}
-use Rattle.line_codes.specs.Codes.{table_of}
+use Rattle.reply_wire.specs.Codes.{table_of}
 use Rattle.reply_grammar.specs.Replies.{AnswersExpected}
 use Rattle.reply_grammar.specs.declared.expected.Reply.{Reply}
 use Rattle.reply_grammar.specs.declared.expected.Received.{Received}

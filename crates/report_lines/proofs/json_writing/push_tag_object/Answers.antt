@@ -7,7 +7,7 @@ use Rattle.report_lines.specs.ReportLine.{TagLine, flags_word, state_word}
 use Rattle.tag_machine.specs.Hearing.{tag_value_of}
 use Rattle.tag_machine.specs.StateNames.{name_of}
 use Rattle.tag_memory.specs.Memory.{Banks}
-use Rattle.value_text.specs.ValueText.{locks_text}
+use Rattle.wire_text.specs.PasswordsAndLocks.{locks_text}
 use Rattle.report_lines.proofs.json_writing.push_tag_object.Goals as goal
 
 pub push_object-requires : goal.push_object-requires

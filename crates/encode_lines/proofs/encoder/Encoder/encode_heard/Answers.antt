@@ -4,7 +4,7 @@ use Rattle.std.proofs.lemmas.Bool.Decides.{not_from_Decides}
 use Rattle.std.proofs.lemmas.Result.{on_ok_weaker}
 use Rattle.bit_strings.specs.BitString.{BitString}
 use Rattle.line_code.specs.Stream.{stream_of}
-use Rattle.line_codes.specs.Codes.{table_of}
+use Rattle.reply_wire.specs.Codes.{table_of}
 use Rattle.reply_grammar.specs.Replies.{spelling}
 use Rattle.encode_lines.proofs.encoder.Encoder.encode_heard.Goals as goal
 

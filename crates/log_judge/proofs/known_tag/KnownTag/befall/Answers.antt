@@ -1,9 +1,9 @@
 use Rattle.std.proofs.Common.{ℕ, ◌∙◌, List, length, Option, ap, subst, sym}
 use Rattle.tag_machine.specs.Hearing.{tag_value_of}
 use Rattle.tag_machine.specs.TagValue.{TagValue}
-use Rattle.log_verdicts.specs.Explaining.{ByTables}
-use Rattle.log_verdicts.specs.Log.{Befalls}
-use Rattle.log_verdicts.specs.laws.Known.{Known}
+use Rattle.log_judge.specs.Explaining.{ByTables}
+use Rattle.log_judge.specs.Log.{Befalls}
+use Rattle.log_judge.specs.laws.Known.{Known}
 use Rattle.log_judge.specs.declared.draws.Draws.TheVariants as draws
 use Rattle.log_judge.specs.Drawing.{slots_behind}
 use Rattle.log_judge.specs.KnownTag.{Goes, HasFirstSlot, known_of}

@@ -2,10 +2,10 @@ use Rattle.std.proofs.Common.{◌≡◌, ℕ, ◌∷◌, List, [], length, true,
 use Rattle.tag_machine.specs.Hearing.{tag_value_of}
 use Rattle.tag_machine.specs.StateNumbers.{numbers_of}
 use Rattle.tag_machine.specs.TagValue.{StateValue, TagValue}
-use Rattle.log_verdicts.specs.Log.{Exchange, Seen}
-use Rattle.log_verdicts.specs.Explaining.{ByTables}
-use Rattle.log_verdicts.specs.laws.Kinds.{reworded}
-use Rattle.log_verdicts.specs.laws.Known.{Known, want_of, want_of_answer}
+use Rattle.log_judge.specs.Log.{Exchange, Seen}
+use Rattle.log_judge.specs.Explaining.{ByTables}
+use Rattle.log_judge.specs.laws.Kinds.{reworded}
+use Rattle.log_judge.specs.laws.Known.{Known, want_of, want_of_answer}
 use Rattle.log_judge.specs.declared.draws.Draws.{Draws}
 use Rattle.log_judge.specs.Answers.{seen_in}
 use Rattle.log_judge.specs.Drawing.{draws_at, fallen, first_word, words_given}

@@ -1,8 +1,8 @@
 use Rattle.std.proofs.Common.{◌∙◌, None, subst, sym}
 use Rattle.tag_machine.specs.Hearing.{tag_value_of}
-use Rattle.log_verdicts.specs.Explaining.{ByTables}
-use Rattle.log_verdicts.specs.Log.{Exchange}
-use Rattle.log_verdicts.specs.laws.Known.{Known}
+use Rattle.log_judge.specs.Explaining.{ByTables}
+use Rattle.log_judge.specs.Log.{Exchange}
+use Rattle.log_judge.specs.laws.Known.{Known}
 use Rattle.log_judge.specs.Answers.{seen_in}
 use Rattle.log_judge.specs.KnownTag.{Goes}
 use Rattle.log_judge.proofs.Tests.{nothing_seen}

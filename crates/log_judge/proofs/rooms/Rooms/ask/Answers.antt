@@ -3,7 +3,7 @@ use Rattle.command_grammar.specs.declared.commands.Command.{Command}
 use Rattle.command_grammar.specs.declared.commands.Command.TheVariants as commands
 use Rattle.tag_machine.specs.Hearing.{tag_value_of}
 use Rattle.tag_machine.specs.Step.{step}
-use Rattle.log_verdicts.specs.Explaining.{seen_answer_to}
+use Rattle.log_judge.specs.Explaining.{seen_answer_to}
 use Rattle.log_judge.specs.Optional.{IsUndone, Undoes}
 use Rattle.log_judge.proofs.Undone.{answers_some, erase_undone, write_undone}
 use Rattle.log_judge.proofs.rooms.Rooms.ask.Goals as goal

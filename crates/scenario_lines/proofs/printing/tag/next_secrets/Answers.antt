@@ -1,6 +1,6 @@
 use Rattle.std.proofs.Common.{◌∙◌, ◌++◌, ap, List, ℕ}
 use Rattle.std.proofs.lemmas.Result.{IfOk-equal}
-use Rattle.value_text.specs.ValueText.{locks_text}
+use Rattle.wire_text.specs.PasswordsAndLocks.{locks_text}
 use Rattle.scenario_lines.proofs.LinePieces.{three_fields}
 use Rattle.scenario_lines.proofs.printing.tag.next_secrets.Goals as goal
 

@@ -1,7 +1,7 @@
 -- One operation is spelled so.
 use Rattle.std.proofs.Common.{◌<◌, ◌^◌, rules, sym}
 use Rattle.access_ops.specs.declared.Op.TheVariants as ops
-use Rattle.command_text.proofs.ToldApart.{block_of_list}
+use Rattle.wire_text.proofs.CommandsToldApart.{block_of_list}
 use Rattle.scenario_lines.proofs.OneOp.{at_place, one_op}
 use Rattle.scenario_lines.proofs.reading.op.op_at.Goals as goal
 

@@ -2,7 +2,7 @@ use Rattle.std.proofs.Common.{◌∙◌, ap, arith, refl, List}
 use Rattle.tag_machine.specs.TagValue.{TagValue}
 use Rattle.tag_population.proofs.SeatedTags.{Back, written, back_long, back_read, back_tags, seats_within, steps_back_most}
 use Rattle.tag_population.specs.Floor.{FloorValue}
-use Rattle.waiting_tags.specs.Waiting.{participation_at}
+use Rattle.tag_population.specs.Waiting.{participation_at}
 use Rattle.tag_population.proofs.floor.Floor.tag.Goals as goal
 
 pub write_back-requires-clause-number : goal.write_back-requires-clause-number

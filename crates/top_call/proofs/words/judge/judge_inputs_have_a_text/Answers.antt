@@ -2,11 +2,11 @@
 use Rattle.std.proofs.Common.{◌⊎◌, ℕ, List, refl, inl, inr}
 use Rattle.checked_lines.specs.FaultWords.{reason_word}
 use Rattle.checked_lines.specs.declared.fault.FaultReason.{FaultReason}
-use Rattle.judge_lines.specs.Judged.{IsJudged}
-use Rattle.judge_lines.specs.LogText.{IsFirstLogFault, IsLogText}
-use Rattle.judge_lines.specs.VerdictLine.{line_of_verdict}
-use Rattle.log_verdicts.specs.Log.{LogEntry, LoggedTag}
-use Rattle.log_verdicts.specs.Verdicts.{Verdict}
+use Rattle.bench_lines.specs.Judged.{IsJudged}
+use Rattle.bench_lines.specs.LogText.{IsFirstLogFault, IsLogText}
+use Rattle.bench_lines.specs.VerdictLine.{line_of_verdict}
+use Rattle.log_judge.specs.Log.{LogEntry, LoggedTag}
+use Rattle.log_judge.specs.Verdicts.{Verdict}
 use Rattle.text_fields.specs.FaultLine.{fault_line}
 use Rattle.top_call.specs.Job.{Defines}
 use Rattle.top_call.specs.words.Judged.{judge_job}

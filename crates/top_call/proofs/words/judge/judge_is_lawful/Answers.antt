@@ -1,4 +1,4 @@
-use Rattle.judge_lines.specs.LogText.{log_rules}
+use Rattle.bench_lines.specs.LogText.{log_rules}
 use Rattle.top_call.proofs.Ends.{same_fault_text}
 use Rattle.top_call.proofs.JudgeEnds.{same_text, says_yes, text_not_refused}
 use Rattle.top_call.proofs.words.judge.judge_is_lawful.Goals as goal

@@ -1,4 +1,4 @@
-use Rattle.portal_text.specs.PortalText.{portals_text}
+use Rattle.top_call.specs.PortalText.{portals_text}
 use Rattle.runs.specs.Portals.{portals_told}
 use Rattle.top_call.proofs.RunEnds.{same_of_scenario}
 use Rattle.top_call.proofs.PortalEnds.{portals_not_refused, proves_portals, same_refusals}

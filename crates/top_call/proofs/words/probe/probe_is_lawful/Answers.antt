@@ -1,4 +1,4 @@
-use Rattle.probe_lines.specs.ProbeText.{probe_rules}
+use Rattle.bench_lines.specs.ProbeText.{probe_rules}
 use Rattle.top_call.proofs.Ends.{same_fault_text}
 use Rattle.top_call.proofs.ProbeEnds.{same_text, text_not_refused}
 use Rattle.top_call.proofs.words.probe.probe_is_lawful.Goals as goal

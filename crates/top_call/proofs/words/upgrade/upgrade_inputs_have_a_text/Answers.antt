@@ -1,7 +1,7 @@
 -- The text of version 2, or the line of the first fault.
 use Rattle.std.proofs.Common.{refl}
 use Rattle.scenario.specs.Upgraded.{upgraded}
-use Rattle.scenario_text.specs.ScenarioText.{scenario_text}
+use Rattle.scenario.specs.ScenarioText.{scenario_text}
 use Rattle.top_call.specs.words.Upgraded.{Upgrades}
 use Rattle.top_call.proofs.RunEnds.{some_text}
 use Rattle.top_call.proofs.words.upgrade.upgrade_inputs_have_a_text.Goals as goal

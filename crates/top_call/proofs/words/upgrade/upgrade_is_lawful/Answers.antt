@@ -1,5 +1,5 @@
 use Rattle.scenario.specs.Upgraded.{upgraded}
-use Rattle.scenario_text.specs.ScenarioText.{scenario_text}
+use Rattle.scenario.specs.ScenarioText.{scenario_text}
 use Rattle.top_call.proofs.RunEnds.{same_of_scenario, same_refusal, text_not_refused}
 use Rattle.top_call.proofs.UpgradeEnds.{proves}
 use Rattle.top_call.proofs.words.upgrade.upgrade_is_lawful.Goals as goal

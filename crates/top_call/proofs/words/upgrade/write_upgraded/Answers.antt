@@ -1,6 +1,6 @@
 -- The text of version 2, or the line of the first fault.
 use Rattle.std.proofs.Common.{◌∙◌, ap}
-use Rattle.scenario_text.specs.ScenarioText.{scenario_text}
+use Rattle.scenario.specs.ScenarioText.{scenario_text}
 use Rattle.top_call.specs.declared.forms.Form.TheVariants.{Upgrade}
 use Rattle.top_call.specs.words.Upgraded.{upgrade_job}
 use Rattle.top_call.proofs.Ends.{ends_so}

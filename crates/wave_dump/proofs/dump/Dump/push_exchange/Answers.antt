@@ -1,6 +1,6 @@
 use Rattle.std.proofs.Common.{◌≡◌, ℕ, List, ◌++◌, false, ap, ◌∙◌}
 use Rattle.std.specs.String.{string_bytes}
-use Rattle.command_text.specs.CommandText.{command_line}
+use Rattle.wire_text.specs.CommandText.{command_line}
 use Rattle.wave_dump.specs.Borrowed.{exchanged_of}
 use Rattle.wave_dump.specs.Drawing.{DrawingValue}
 use Rattle.wave_dump.specs.Exchanged.{Exchanged}

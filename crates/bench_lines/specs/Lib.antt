@@ -1,0 +1,14 @@
+pub mod Stimuli
+pub mod ProbeLine
+pub mod ProbeLineFaults
+pub mod ProbeText
+pub mod ProbeAnswers
+pub mod UnreadAnswers
+pub mod Played
+pub mod laws
+pub mod SeenLine
+pub mod LogText
+pub mod VerdictLine
+pub mod Judged
+pub mod ReadEntries
+pub use Rattle.log_judge.specs.Answers

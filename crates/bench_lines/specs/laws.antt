@@ -1,0 +1,3 @@
+pub mod SeenLaws
+pub mod LogLineLaws
+pub mod LineLaws

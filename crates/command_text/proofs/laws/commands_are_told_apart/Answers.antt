@@ -1,6 +1,0 @@
--- The law is a lemma of its own.
-use Rattle.command_text.proofs.CommandTexts.{command_told}
-use Rattle.command_text.proofs.laws.commands_are_told_apart.Goals as goal
-
-pub returns : goal.returns
-returns c = command_told

@@ -1,4 +1,0 @@
-pub mod CommandText
-pub mod NameLists
-pub mod laws
-pub mod FieldNames

@@ -1,1 +1,0 @@
--- Laws of the texts of commands, which crates above use as well.

@@ -1,5 +1,0 @@
-use Rattle.judge_lines.proofs.LogsComplete.{log_or_faulty}
-use Rattle.judge_lines.proofs.laws.texts_are_logs_or_faulty.Goals as goal
-
-pub returns : goal.returns
-returns c = log_or_faulty c.log_line_laws.ensures

@@ -1,2 +1,0 @@
--- Laws of the four line codes.
-pub mod Codes

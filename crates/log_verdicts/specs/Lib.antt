@@ -1,4 +1,0 @@
-pub mod Log
-pub mod Explaining
-pub mod Verdicts
-pub mod laws

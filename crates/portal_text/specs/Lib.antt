@@ -1,2 +1,0 @@
-pub mod PortalFault
-pub mod PortalText

@@ -1,9 +1,0 @@
-mod EventTexts
-mod LineTexts
-mod TagLines
-mod Walks
-mod Checking
-mod PlayedParts
-mod HeardAnswers
-mod FaultyLines
-mod Effects

@@ -1,5 +1,0 @@
-use Rattle.probe_lines.proofs.Walks.{probe_told}
-use Rattle.probe_lines.proofs.laws.probes_are_told_apart.Goals as goal
-
-pub returns : goal.returns
-returns c = probe_told (record { lines = c.line_laws.ensures.lines; tags = c.line_laws.ensures.tags })

@@ -1,4 +1,0 @@
-pub mod Cuts
-pub mod FieldTexts
-pub mod ReplyTexts
-pub mod ToldApart

@@ -1,6 +1,0 @@
--- The law is a lemma of its own.
-use Rattle.reply_text.proofs.ReplyTexts.{reply_comes_back}
-use Rattle.reply_text.proofs.laws.reply_lines_come_back.Goals as goal
-
-pub returns : goal.returns
-returns c = reply_comes_back

@@ -1,1 +1,0 @@
--- Laws of the texts of replies and of what is expected, which crates above use as well.

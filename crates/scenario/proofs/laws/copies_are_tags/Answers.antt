@@ -1,5 +1,0 @@
-use Rattle.scenario.proofs.Groups.{legal_tags}
-use Rattle.scenario.proofs.laws.copies_are_tags.Goals as goal
-
-pub returns : goal.returns
-returns c = legal_tags

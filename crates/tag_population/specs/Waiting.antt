@@ -1,0 +1,101 @@
+-- How tags take part in rounds, for each tag by its number: a tag waits for its slot, or it is called, so that it has to hear the
+-- next command. Where each stands: a waiting tag at the place that its slot counter has behind the base of its session.
+use Rattle.std.proofs.Common.{◌≡◌, ◌≢◌, ℕ, ◌+◌, ◌-◌, ◌*◌, ◌/◌, ◌%◌, ◌<◌, ◌≤◌, ◌==◌, Bool, true, false, List, length, map, Option, Some, None, get_or, if◌then◌else◌}
+use Rattle.air_events.specs.TagNumbers.{most_tags}
+use Rattle.tag_body.specs.RoundNumbers.{slot_below}
+use Rattle.tag_population.specs.declared.waiting.Participation.{Participation}
+use Rattle.tag_population.specs.declared.waiting.Participation.TheVariants.{Waits, Called}
+use Rattle.tag_population.specs.Wheel.{wheel_place_of}
+use Rattle.tag_population.specs.TagSets.{IsIn}
+
+-- how the tag of a number takes part; it doesn't where there is no such tag
+abbrev pub participation_at : List (Option Participation) → ℕ → Option Participation
+participation_at participations number = get_or participations number None
+
+-- the slot counter of a tag that waits for its slot; none of a tag that is called or takes no part
+abbrev pub waiting_slot : Option Participation → Option ℕ
+waiting_slot None = None
+waiting_slot (Some (Waits session slot)) = Some slot
+waiting_slot (Some Called) = None
+
+-- a tag waits in a round of a session
+abbrev pub waits_in : ℕ → Option Participation → Bool
+waits_in session None = false
+waits_in session (Some (Waits own slot)) = own == session
+waits_in session (Some Called) = false
+
+-- a tag is called
+abbrev pub is_called : Option Participation → Bool
+is_called None = false
+is_called (Some (Waits session slot)) = false
+is_called (Some Called) = true
+
+-- there are four sessions, and a slot counter has 15 bits
+abbrev pub IsLegalParticipation : Option Participation → Type 0
+IsLegalParticipation None = Unit {0}
+IsLegalParticipation (Some (Waits session slot)) = (session ≤ 3) × (slot < 32768)
+IsLegalParticipation (Some Called) = Unit {0}
+
+-- each slot counter has 15 bits
+abbrev pub AreSlots : List (Option Participation) → Type 0
+AreSlots participations = (number slot : ℕ) → waiting_slot (participation_at participations number) ≡ Some slot → slot < 32768
+
+-- the first tag with a number from one on that is called, or none where there is no such tag
+abbrev pub IsNextCalled : List (Option Participation) → ℕ → Option ℕ → Type 0
+IsNextCalled participations from None = (number : ℕ) → from ≤ number → participation_at participations number ≢ Some Called
+IsNextCalled participations from (Some next) =
+    (from ≤ next) × (participation_at participations next ≡ Some Called) × ((number : ℕ) → from ≤ number → number < next → participation_at participations number ≢ Some Called)
+
+-- a tag whose slot comes next in a session, or none where there is no such tag
+abbrev pub IsDue : List (Option Participation) → ℕ → Option ℕ → Type 0
+IsDue participations session None = (number : ℕ) → participation_at participations number ≢ Some (Waits session 1)
+IsDue participations session (Some due) = participation_at participations due ≡ Some (Waits session 1)
+
+-- a tag after the slot counters of a session were counted down
+abbrev pub counted_down : ℕ → Option Participation → Option Participation
+counted_down session None = None
+counted_down session (Some (Waits own slot)) = Some (Waits own (if own == session then slot_below slot else slot))
+counted_down session (Some Called) = Some Called
+
+-- the place that is for called tags, behind those of the slots of the four sessions
+abbrev pub called_place : ℕ
+called_place = 131072
+
+-- the place of the tags that wait with this slot counter in a session, behind the base of that session
+abbrev pub slot_place : ℕ → ℕ → ℕ → ℕ
+slot_place base session slot = session * 32768 + (base + slot) % 32768
+
+-- the place of a tag that takes part so; none of one that takes no part
+abbrev pub place_of : List ℕ → Option Participation → Option ℕ
+place_of bases None = None
+place_of bases (Some (Waits session slot)) = Some (slot_place (get_or bases session 0) session slot)
+place_of bases (Some Called) = Some called_place
+
+-- the slot counter of a place
+abbrev pub slot_behind : ℕ → ℕ → ℕ
+slot_behind base place = (place % 32768 + 32768 - base) % 32768
+
+-- how a tag takes part that stands on a place
+abbrev pub participation_there : List ℕ → ℕ → Participation
+participation_there bases place =
+    (if place == called_place then Called else Waits (place / 32768) (slot_behind (get_or bases (place / 32768) 0) place))
+
+-- how a tag takes part that stands on a place, or on none
+abbrev pub participation_on : List ℕ → Option ℕ → Option Participation
+participation_on bases None = None
+participation_on bases (Some place) = Some (participation_there bases place)
+
+-- ... for each tag
+abbrev pub participations_on : List ℕ → List (Option ℕ) → List (Option Participation)
+participations_on bases places = map (λ place. participation_on bases place) places
+
+-- a base of each session, which has 15 bits
+pub record AreBases (bases : List ℕ) : Type 0 where
+  pub count : length bases ≡ 4
+  pub each : (session : ℕ) → get_or bases session 0 < 32768
+
+-- the set of the numbers of the tags that stand on the place for called ones
+pub record AreCalled (numbers : List ℕ) (places : List (Option ℕ)) : Type 0 where
+  pub few : length places ≤ most_tags
+  pub called : (number : ℕ) → wheel_place_of places number ≡ Some called_place → IsIn numbers number
+  pub only : (number : ℕ) → IsIn numbers number → wheel_place_of places number ≡ Some called_place

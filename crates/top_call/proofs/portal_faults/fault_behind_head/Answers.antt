@@ -1,0 +1,48 @@
+use Rattle.std.proofs.Common.{◌≡◌, ◌+◌, ◌≤◌, Bool, true, false, List, length, Some, sym, ap, ◌∙◌, arith}
+use Rattle.std.specs.Prelude.{IsTrue}
+use Rattle.scenario.specs.declared.values.Step.{Step}
+use Rattle.scenario_lines.specs.declared.version.Version.{Version}
+use Rattle.scenario_lines.specs.declared.version.Version.TheVariants.{One, Two}
+use Rattle.top_call.specs.PortalFault.{first_refused, head_length, lines_of_steps}
+use Rattle.top_call.proofs.PortalsRefused.{few-groups, said, unsaid}
+use Rattle.top_call.proofs.portal_faults.fault_behind_head.Goals as goal
+
+short : (version : Version) → head_length version ≤ 3
+short One = omega arith
+short Two = omega arith
+
+not-both : (test : Bool) → test ≡ false → IsTrue test → ⊥
+not-both true is holds = absurd (cc)
+not-both false is holds = absurd (cc)
+
+pub overflow_add-behind_tags : goal.overflow_add-behind_tags
+overflow_add-behind_tags c =
+    let head = short c.args.scenario.now.version in
+    let few = few-groups c.args.scenario.now c.requires.scenario in
+    omega (arith, head, few, c.head_length.ensures, c.len.ensures)
+
+pub overflow_add-result : goal.overflow_add-result
+overflow_add-result c =
+    let head = short c.args.scenario.now.version in
+    let few = few-groups c.args.scenario.now c.requires.scenario in
+    omega (arith, head, few, c.head_length.ensures, c.len.ensures)
+
+pub returns-then-not-is_empty : goal.returns-then-not-is_empty
+returns-then-not-is_empty c =
+    ap (λ n. Some (n + 1)) (λ i. c.head_length.ensures i + c.len.ensures i)
+    ∙ sym (said c.args.scenario.now c.requires.scenario c.requires.breaks (λ none. not-both c.is_empty.result c.if-not-is_empty.true (c.is_empty.ensures.1 none)))
+
+pub step_fault-requires : goal.step_fault-requires
+step_fault-requires c =
+    let head = short c.args.scenario.now.version in
+    let few = few-groups c.args.scenario.now c.requires.scenario in
+    let steps = ap (λ (l : List Step). length l) c.as_slice.ensures.value in
+    omega (arith, head, few, c.head_length.ensures, c.len.ensures, steps, c.requires.scenario.few_steps)
+
+pub returns : goal.returns
+returns c =
+    let version = c.args.scenario.now.version in
+    c.step_fault.ensures version
+    ∙ ap (λ n. first_refused (n + 1) 2 (lines_of_steps version c.as_slice.result.now)) (λ i. c.head_length.ensures i + c.len.ensures i)
+    ∙ ap (λ (steps : List Step). first_refused (head_length version + length c.args.scenario.now.groups + 1) 2 (lines_of_steps version steps)) c.as_slice.ensures.value
+    ∙ sym (unsaid c.args.scenario.now c.requires.breaks (c.is_empty.ensures.0 c.if-not-is_empty.false))

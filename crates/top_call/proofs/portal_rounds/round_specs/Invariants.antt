@@ -1,0 +1,6 @@
+use Rattle.std.proofs.Common.{◌≡◌, take}
+use Rattle.runs.specs.Portals.{specs_of}
+use Rattle.top_call.proofs.portal_rounds.round_specs.Given as goal
+
+abbrev pub invariant-loop-step : goal.invariant-loop-step
+invariant-loop-step l = l.specs.items ≡ specs_of (take l.step-index l.steps)

@@ -1,3 +1,0 @@
-pub mod WheelLinks
-pub mod TagSetBits
-pub mod SlotPlaces

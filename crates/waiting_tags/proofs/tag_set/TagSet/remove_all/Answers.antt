@@ -1,5 +1,0 @@
-use Rattle.waiting_tags.proofs.TagSetBits.{emptied_none}
-use Rattle.waiting_tags.proofs.tag_set.TagSet.remove_all.Goals as goal
-
-pub loop-tag-init : goal.loop-tag-init
-loop-tag-init c = emptied_none c.args.self.now c.args.tags.now c.requires.all

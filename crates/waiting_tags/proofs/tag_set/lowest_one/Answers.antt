@@ -1,5 +1,0 @@
-use Rattle.waiting_tags.proofs.TagSetBits.{lowest_there}
-use Rattle.waiting_tags.proofs.tag_set.lowest_one.Goals as goal
-
-pub returns : goal.returns
-returns c = lowest_there c.args.word c.requires c.ranges.word.fits

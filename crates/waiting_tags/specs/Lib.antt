@@ -1,3 +1,0 @@
-pub mod Wheel
-pub mod TagSets
-pub mod Waiting
