@@ -1,4 +1,4 @@
--- The names of definitions and lemmas that several proofs of this crate cite.
+-- The names of definitions and lemmas of crates below, and of this one, that the proofs of this crate cite.
 pub use Rattle.access_ops.specs.declared.op_next.OpResult.{OpResult}
 pub use Rattle.air_audit.specs.AuditedTrace.{IsAudited, TraceMayEnd, trace_rules}
 pub use Rattle.air_audit.specs.Auditing.{AreAsGiven, AuditStopsAt, AuditorIsAt, AuditorIsBegun, AuditorStandsAt, AuditorValue, GivesStream, GoesOnOrStops, GoesOnWith, IsEarly, IsHearing, KeepsUp, Lists, SendsTo, TellsLine, TellsOther, position_behind}

@@ -1,4 +1,4 @@
--- The names of definitions and lemmas that several proofs of this crate cite.
+-- The names of definitions and lemmas of crates below, and of this one, that the proofs of this crate cite.
 pub use Rattle.air_channel.specs.Air.{AirValue, air_after, next_exchange}
 pub use Rattle.air_channel.specs.Giving.{AreSentAnswers, IsAnswer, answer_levels}
 pub use Rattle.air_model.specs.Channel.{Given, broken, first_broken, given_in, got_of, heard_levels, levels_of, wave_for, whole_or_silence}

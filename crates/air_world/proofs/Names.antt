@@ -1,4 +1,4 @@
--- The names of definitions and lemmas that several proofs of this crate cite.
+-- The names of definitions and lemmas of crates below, and of this one, that the proofs of this crate cite.
 pub use Rattle.access_ops.specs.OpRunValue.{IsNextOperation, OpRunStandsFor, OpRunValue, last_answer, turns_in, turns_left}
 pub use Rattle.access_ops.specs.Operations.{Dialogue, IsAnswerFor, Move, answered, dialogue_after, dialogue_behind, dialogue_of, done, reception_in, sends, told}
 pub use Rattle.access_ops.specs.declared.OpList.{OpList}

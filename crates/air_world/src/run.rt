@@ -11,7 +11,7 @@ ghost use Rattle.reply_wire.specs.Received.{IsReceived};
 ghost use Rattle.runs.specs.History.{outcome_of, past_behind_ack, past_behind_round, past_behind_slot, slot_reception};
 ghost use Rattle.runs.specs.NextItem.{expectation_of};
 
-mod head_and_end;
+mod end;
 mod operating;
 mod saying;
 mod steps;

@@ -1,4 +1,4 @@
--- How far the lines behind that of the tag are read.
+-- How far the lines of a probe behind that of the tag are read.
 use Rattle.std.proofs.Common.{◌≡◌, ◌≢◌, ◌≤◌, ◌<◌, ◌+◌, ℕ, List, [], ◌∷◌, ◌++◌, length, refl, sym, ap, subst, arith, append_assoc, length-append}
 use Rattle.std.proofs.lemmas.List.{append-nil}
 use Rattle.text_fields.specs.Lines.{fields_of, lines_of}

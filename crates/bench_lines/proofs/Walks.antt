@@ -1,4 +1,4 @@
--- Which line may stand where: it leads to one place, or is faulty for one reason.
+-- Which line of a probe may stand where: it leads to one place, or is faulty for one reason.
 use Rattle.std.proofs.Common.{◌≡◌, ℕ, List, [], length, refl, sym, ◌∙◌, ◌⊎◌, inl, inr, ap, arith}
 use Rattle.text_fields.specs.Lines.{fields_of}
 use Rattle.text_fields.specs.declared.fields_fault.FieldsFault.{FieldsFault}

@@ -1,3 +1,3 @@
 pub mod SeenLaws
 pub mod LogLineLaws
-pub mod LineLaws
+pub mod ProbeLineLaws

@@ -1,4 +1,4 @@
-//! The events of a probe, read: those of the one tag that there is.
+//! The events of a probe or a log, read: those of the one tag that there is.
 ghost use Rattle.std.specs.Prelude.{◌≡◌, IfOk, IfErr, IfSome, IfNone};
 ghost use Rattle.air_events.specs.declared.Event.{Event};
 ghost use Rattle.text_fields.specs.NamedFields.{AreFaulty, AreFilled, AreSpelling, SpellBehind};

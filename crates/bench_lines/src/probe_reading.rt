@@ -1,4 +1,4 @@
-//! The lines of a probe, read one by one.
+//! The lines of a probe or a log, read one by one.
 ghost use Rattle.std.specs.Prelude.{◌≡◌, ◌<◌, ◌≤◌, ◌↔◌, ◌⊎◌, [], ◌∷◌, length, IfOk, IfErr, IfSome, IfNone, IsOk, IsTrue, IsFalse, Some};
 ghost use Rattle.text_fields.specs.Binary.{binary};
 ghost use Rattle.text_fields.specs.Lines.{fields_of};

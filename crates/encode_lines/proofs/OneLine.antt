@@ -16,7 +16,7 @@ use Rattle.std.specs.Prelude.{Decides, nat_le, ◌==◌}
 use Rattle.std.proofs.lemmas.Bool.{eqb-true, eq-eqb, leb-true, le-leb}
 use Rattle.std.proofs.lemmas.Bool.Decides.{not_from_Decides}
 use Rattle.pie_line.specs.declared.frame.Lead.{Lead}
-use Rattle.reply_grammar.specs.Replies.{CanBeSent, Suits, suits}
+use Rattle.reply_grammar.specs.Replies.{CanBeSent, suits}
 use Rattle.reply_grammar.proofs.Suiting.{suits-true, suits-from}
 use Rattle.reply_grammar.specs.declared.expected.Reply.TheVariants.{Rn16, Epc, Handle, Words, Header, Error}
 

@@ -1,4 +1,4 @@
--- The tags of a made scenario: each is ready with the flags of a new tag, and each has an EPC of its own, so that a run that ended
+-- A run of a made scenario lists each tag: each is ready with the flags of a new tag, and each has an EPC of its own, so that a run that ended
 -- quiet lists each of them.
 use Rattle.std.proofs.Common.{◌≡◌, ◌==◌, ℕ, zero, suc, Bool, true, false, List, [], ◌∷◌, ◌++◌, length, map, get_or, Some, slice_get, if◌then◌else◌, ◌⊎◌, inl, inr, refl, ap, sym, ◌∙◌, subst, arith}
 use Rattle.std.proofs.lemmas.Bool.{and_parts}

@@ -1,3 +1,3 @@
--- Laws of the four line codes.
+-- Laws of the four line codes, and that levels are always received in some way.
 pub mod Codes
 pub mod SomeReceived

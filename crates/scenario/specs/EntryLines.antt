@@ -1,4 +1,4 @@
--- Profile: the air lines of a scenario.
+-- Profile: the air lines that spell what is said of exchanges.
 use Rattle.std.specs.Prelude.{ℕ, List, [], ◌∷◌, ◌++◌, map, Option, Some, None}
 use Rattle.std.specs.List.{flat_map}
 use Rattle.air_events.specs.declared.Choice.{Choice}

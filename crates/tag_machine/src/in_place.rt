@@ -13,7 +13,7 @@ use crate::states::{Arbitrate, Ready};
 use crate::step_counter::Steps;
 use crate::tag::Tag;
 use bit_strings::{QValue, Session};
-use command_grammar::{Command, UpDn};
+use command_grammar::Command;
 use std::sync::ledger::Ledger;
 use tag_body::{Slot, adjusted};
 

@@ -25,7 +25,7 @@ pub fn unanswered(tag: AnyTag, out: &mut Bits) -> Heard
     }
 }
 
-/// An answer that is a handle or a new RN16, whose preamble goes by the TRext of the Query. No other handle stands in it.
+/// An answer that is a handle or a new RN16, whose preamble goes by the TRext of the Query. Its bits are the same whichever handle it is told with.
 pub fn answer_handle(tag: AnyTag, number: u16, out: &mut Bits) -> Heard
     requires { reply_room ≤ out.old.capacity }
     ensures drawn { GivesOutcome

@@ -97,13 +97,13 @@ steps_back None = 0
 steps_back (Some (Waits session slot)) = 1
 steps_back (Some Called) = 0
 
--- a command that reaches so many tags reaches one that takes part so
+-- a command that reaches these tags reaches one that takes part so
 abbrev pub is_reached : Reach → Option Participation → Bool
 is_reached Every part = true
 is_reached InRound part = is_some part
 is_reached CalledOnly part = is_called part
 
--- the first tag with a number from one on that it reaches, or none where there is no such tag
+-- the first tag that it reaches, from a number on, or none where there is no such tag
 abbrev pub IsNextReached : Reach → List (Option Participation) → ℕ → Option ℕ → Type 0
 IsNextReached reach parts from None = (number : ℕ) → from ≤ number → number < length parts → is_reached reach (participation_at parts number) ≡ false
 IsNextReached reach parts from (Some next) =

@@ -25,7 +25,7 @@ abbrev pub hearing_from : ℕ → Command → Entry → List TagValue → List O
 hearing_from number command entry [] = []
 hearing_from number command entry (tag ∷ tags) = outcome_unless (is_missed number entry) command tag ∷ hearing_from (number + 1) command entry tags
 
--- which tags a command reaches
+-- which tags a command reaches, once a QueryRep has counted those that wait down
 abbrev pub reach_of : Command → Reach
 reach_of (commands.Query dr line_code trext sel session target q) = Every
 reach_of (commands.Select target action bank pointer mask) = Every

@@ -176,7 +176,7 @@ impl Floor {
         self.waiting.due(session)
     }
 
-    /// The number of the first seat from one on whose tag is reached, if there is one.
+    /// The number of the first seat, from this one on, whose tag is reached, if there is one.
     pub(crate) fn next_reached(&self, reach: Reach, from: usize) -> Option<TagNumber>
         requires { from ≤ length self.now.tags }
         ensures { IsNextReached reach self.now.parts from result }

@@ -212,7 +212,7 @@ fn hear_reached<L: Ledger>(
     }
 }
 
-/// Which tags a command reaches: no other tag may change at it, or answer it.
+/// Which tags a command reaches: no other tag may change at it, or answer it, once a QueryRep has counted those that wait down.
 fn reach_of(command: &Command) -> Reach
     ensures { result ≡ reach_of command.now }
 {

@@ -174,7 +174,7 @@ fn place_of(bases: &[u16; 4], participation: Option<Participation>) -> Option<us
     }
 }
 
-/// Keeps in the set of called tags whether a tag is called that stood on one place, or on none, and was put on another.
+/// Keeps in the set of called tags whether a tag is called that stood on one place, or on none, and was put on another, or on none.
 #[inline(always)]
 fn note_called(called: &mut TagSet, number: TagNumber, stood: Option<usize>, place: Option<usize>)
     ensures { (places : List (Option ℕ)) → AreCalled called.old places → number < length places

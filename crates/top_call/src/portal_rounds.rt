@@ -1,4 +1,4 @@
-//! The rounds of a scenario.
+//! The parameters of the rounds of two portals.
 ghost use Rattle.std.specs.Prelude.{◌≡◌, IfOk};
 ghost use Rattle.runs.specs.Portals.{specs_of};
 

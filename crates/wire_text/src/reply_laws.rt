@@ -1,4 +1,4 @@
-//! What holds of the spellings themselves. Each function here states one law by its contract, and does
+//! What holds of the texts of replies and of what is expected. Each function here states one law by its contract, and does
 //! nothing.
 ghost use Rattle.std.specs.Prelude.{◌≡◌, ℕ, List, All};
 ghost use Rattle.text_fields.specs.Lines.{IsFieldText, fields_of};

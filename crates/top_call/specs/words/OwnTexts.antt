@@ -1,4 +1,4 @@
--- Profile: what `--help` and `--version` write: one text each, whatever the input.
+-- Profile: the job of `--help` and `--version`: the text of ProgramTexts.antt, whatever the input.
 use Rattle.std.specs.Prelude.{◌≡◌, ℕ, false, List}
 use Rattle.top_call.specs.Job.{Job}
 

@@ -1,7 +1,7 @@
 use Rattle.air_world.proofs.Names.{[], seen_line}
 use Rattle.air_world.proofs.Passing.{tells-nothing}
 use Rattle.air_world.proofs.Saying.{tells-more}
-use Rattle.air_world.proofs.run.head_and_end.tell_counts.Goals as goal
+use Rattle.air_world.proofs.run.end.tell_counts.Goals as goal
 
 pub loop-at-init : goal.loop-at-init
 loop-at-init g c = record { told = tells-nothing }
