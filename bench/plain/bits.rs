@@ -110,6 +110,25 @@ fn behind_word(register: u16, word: u16) -> u16 {
     CRC_16[1][usize::from(upper)] ^ CRC_16[0][usize::from(lower)]
 }
 
+/// A CRC-16 register behind the last `width` bits of the number.
+pub fn crc16_behind(register: u16, number: u32, width: u32) -> u16 {
+    if width == 16 {
+        return behind_word(register, number as u16);
+    }
+    (0..width).rev().fold(register, |register, place| {
+        let feedback = u32::from(register >> 15) != number >> place & 1;
+        (register << 1) ^ if feedback { 0x1021 } else { 0 }
+    })
+}
+
+/// A CRC-5 register behind the last `width` bits of the number.
+pub fn crc5_behind(register: u32, number: u32, width: u32) -> u32 {
+    (0..width).rev().fold(register, |register, place| {
+        let feedback = register >> 4 != number >> place & 1;
+        (register << 1 & 0b11111) ^ if feedback { 0b01001 } else { 0 }
+    })
+}
+
 /// The CRC-16 of the bits of words.
 pub fn crc16_of_words(words: &[u16]) -> u16 {
     !words.iter().copied().fold(0xFFFF, behind_word)

@@ -1,14 +1,14 @@
-//! A frame as a tag hears it: interval by interval (6.3.1.2), and the bits of its command one by one (6.3.2.11).
+//! A frame as a tag hears it: symbol by symbol (6.3.1.2), and the bits of its command one by one (6.3.2.11).
 
 use std::borrow::Cow;
 
 use crate::access::{Access, Order, Password, Place};
+use crate::bits::{crc16_behind, crc5_behind};
 use crate::command::{Bank, Change, Command, Flag, Query, Sel, Select, Target};
 
 /// Where a frame stands.
 #[derive(Clone, Copy, PartialEq)]
 enum Stage {
-    Delimiter,
     Tari,
     Rtcal,
     /// TRcal, or the first data bit.
@@ -17,33 +17,24 @@ enum Stage {
     Refused,
 }
 
-/// Reads a frame by the interrogator's own Tari, RTcal and TRcal, an interval at a time.
+/// Reads a frame by the interrogator's own Tari, RTcal and TRcal, a symbol at a time, high and low.
 pub struct Edges {
     stage: Stage,
-    /// The high of a symbol whose low hasn't come.
-    high: Option<u32>,
     tari: u32,
     rtcal: u32,
 }
 
 impl Edges {
-    pub fn new() -> Edges {
-        Edges { stage: Stage::Delimiter, high: None, tari: 0, rtcal: 0 }
+    /// Behind the delimiter.
+    pub fn behind(delimiter: u32) -> Edges {
+        let fits = (11_875..=13_125).contains(&delimiter);
+        Edges { stage: if fits { Stage::Tari } else { Stage::Refused }, tari: 0, rtcal: 0 }
     }
 
-    /// The data bit that ends with this interval.
+    /// The data bit that the symbol is.
     #[inline]
-    pub fn push(&mut self, interval: u32) -> Option<bool> {
-        if self.stage == Stage::Delimiter {
-            let fits = (11_875..=13_125).contains(&interval);
-            self.stage = if fits { Stage::Tari } else { Stage::Refused };
-            return None;
-        }
-        let Some(high) = self.high.take() else {
-            self.high = Some(interval);
-            return None;
-        };
-        let symbol = high + interval;
+    pub fn push(&mut self, [high, low]: [u32; 2]) -> Option<bool> {
+        let symbol = high + low;
         if self.stage == Stage::Data {
             return self.data_bit(symbol);
         }
@@ -75,15 +66,15 @@ impl Edges {
                 self.stage = Stage::Data;
                 return self.data_bit(symbol);
             }
-            Stage::Delimiter | Stage::Data | Stage::Refused => (false, Stage::Refused),
+            Stage::Data | Stage::Refused => (false, Stage::Refused),
         };
         self.stage = if fits { next } else { Stage::Refused };
         None
     }
 
-    /// Whether the intervals so far are a frame.
+    /// Whether the symbols so far are a frame.
     pub fn is_frame(&self) -> bool {
-        self.high.is_none() && matches!(self.stage, Stage::First | Stage::Data)
+        matches!(self.stage, Stage::First | Stage::Data)
     }
 }
 
@@ -121,13 +112,53 @@ fn fields_of(code: u32, width: u32) -> Option<&'static [Field]> {
     })
 }
 
+/// The check number so far, of a command that has one.
+#[derive(Clone, Copy)]
+enum Check {
+    None,
+    Crc5(u32),
+    Crc16(u16),
+}
+
+impl Check {
+    /// That of a command, behind the bits of its code.
+    fn behind_code(code: u32, width: u32) -> Check {
+        let check = match (width, code) {
+            (4, 0b1000) => Check::Crc5(0b01001),
+            (4, 0b1010) => Check::Crc16(0xFFFF),
+            (8, code) if code != 0b1100_0000 => Check::Crc16(0xFFFF),
+            _ => Check::None,
+        };
+        check.behind(code, width)
+    }
+
+    /// Behind the last `width` bits of the number.
+    fn behind(self, number: u32, width: u32) -> Check {
+        match self {
+            Check::None => Check::None,
+            Check::Crc5(register) => Check::Crc5(crc5_behind(register, number, width)),
+            Check::Crc16(register) => Check::Crc16(crc16_behind(register, number, width)),
+        }
+    }
+
+    /// Whether the number is the one that is sent.
+    fn is(self, number: u32) -> bool {
+        match self {
+            Check::None => false,
+            Check::Crc5(register) => number == register,
+            Check::Crc16(register) => number == u32::from(!register),
+        }
+    }
+}
+
 /// Reads the bits of a command, one at a time.
 pub struct Framer {
     /// The first bits, where they tell the command.
     code: Option<u32>,
     fields: &'static [Field],
-    /// The field that is read, and how many bits of it are missing until the number read is looked at.
+    /// The field that is read, of how many bits the number is that is read of it, and how many of these are missing.
     field: usize,
+    width: u32,
     missing: u32,
     number: u32,
     numbers: [u32; 8],
@@ -136,8 +167,7 @@ pub struct Framer {
     items: u32,
     mask: Vec<bool>,
     words: Vec<u16>,
-    crc_5: u8,
-    crc_16: u16,
+    check: Check,
     is_done: bool,
     is_refused: bool,
 }
@@ -148,6 +178,7 @@ impl Framer {
             code: None,
             fields: &[],
             field: 0,
+            width: 2,
             missing: 2,
             number: 0,
             numbers: [0; 8],
@@ -155,8 +186,7 @@ impl Framer {
             items: 0,
             mask: Vec::new(),
             words: Vec::new(),
-            crc_5: 0b01001,
-            crc_16: 0xFFFF,
+            check: Check::None,
             is_done: false,
             is_refused: false,
         }
@@ -172,8 +202,6 @@ impl Framer {
 
     #[inline]
     pub fn push(&mut self, bit: bool) {
-        self.crc_16 = (self.crc_16 << 1) ^ if (self.crc_16 >> 15 == 1) != bit { 0x1021 } else { 0 };
-        self.crc_5 = (self.crc_5 << 1 & 0b11111) ^ if (self.crc_5 >> 4 == 1) != bit { 0b01001 } else { 0 };
         self.number = self.number << 1 | u32::from(bit);
         self.missing = self.missing.wrapping_sub(1);
         if self.missing == 0 {
@@ -190,6 +218,9 @@ impl Framer {
             self.take_code(number);
             return;
         }
+        if !matches!(self.fields[self.field], Field::Crc5 | Field::Crc16) {
+            self.check = self.check.behind(number, self.width);
+        }
         let is_over = match self.fields[self.field] {
             Field::Number(_) => {
                 self.keep(number);
@@ -204,18 +235,14 @@ impl Framer {
             }
             Field::Mask => {
                 self.mask.push(number == 1);
-                self.goes_on(1)
+                self.was_last()
             }
             Field::Words => {
                 self.words.push(number as u16);
-                self.goes_on(16)
+                self.was_last()
             }
-            Field::Crc5 => {
-                self.is_refused |= self.crc_5 != 0;
-                true
-            }
-            Field::Crc16 => {
-                self.is_refused |= self.crc_16 != 0x1D0F;
+            Field::Crc5 | Field::Crc16 => {
+                self.is_refused |= !self.check.is(number);
                 true
             }
         };
@@ -230,10 +257,10 @@ impl Framer {
         self.count += 1;
     }
 
-    /// Whether the item of so many bits was the last.
-    fn goes_on(&mut self, width: u32) -> bool {
+    /// Whether the item was the last of its list.
+    fn was_last(&mut self) -> bool {
         self.items -= 1;
-        self.missing = width;
+        self.missing = self.width;
         self.items == 0
     }
 
@@ -252,7 +279,7 @@ impl Framer {
         self.count = 0;
         match fields_of(number, width) {
             Some(fields) => {
-                (self.code, self.fields) = (Some(number), fields);
+                (self.code, self.fields, self.check) = (Some(number), fields, Check::behind_code(number, width));
                 self.begin_field();
             }
             None => self.is_refused = true,
@@ -261,7 +288,7 @@ impl Framer {
 
     /// Says how many bits the next field begins with, if there is one.
     fn begin_field(&mut self) {
-        self.missing = match self.fields.get(self.field) {
+        self.width = match self.fields.get(self.field) {
             None => {
                 self.is_done = true;
                 0
@@ -279,6 +306,7 @@ impl Framer {
                 if let Field::Mask = field { 1 } else { 16 }
             }
         };
+        self.missing = self.width;
     }
 
     /// The command that the bits spell.

@@ -4,7 +4,7 @@
 //! summarises generated scenarios as `gen2run gen` does, in plain Rust and unproved, so that the time of the proved program can be
 //! compared with it. It does the same work in the same form: in a run each command is encoded as a frame and decoded, each tag that hears
 //! it does so by a method of its own and draws its own words, each answer is written as bits, and the one that the channel gives is
-//! encoded as a stream of levels and decoded. A frame is heard interval by interval as it is made, and its command bit by bit; built with
+//! encoded as a stream of levels and decoded. A frame is heard symbol by symbol as it is made, high and low together, and its command bit by bit; built with
 //! `--cfg whole_frames` it is written as a list and read as a whole, so that the two tell what that costs.
 
 mod access;

@@ -13,7 +13,12 @@ pub struct Timing {
 impl Timing {
     /// The intervals of data-0 and of data-1.
     pub fn symbols(&self) -> [[u32; 2]; 2] {
-        [self.tari, self.rtcal - self.tari].map(|length| [length - self.pw, self.pw])
+        [self.tari, self.rtcal - self.tari].map(|length| self.symbol(length))
+    }
+
+    /// High and low of a symbol of this length.
+    fn symbol(&self, length: u32) -> [u32; 2] {
+        [length - self.pw, self.pw]
     }
 
     /// The name of the first length that is out of its range (6.3.1.2.3, 6.3.1.2.8).
@@ -33,33 +38,28 @@ impl Timing {
     }
 }
 
-const DELIMITER: u32 = 12_500;
+pub const DELIMITER: u32 = 12_500;
 
-/// Gives each interval of the frame of the bits as it is made: delimiter, data-0, RTcal, TRcal where there is a preamble, and the bits.
+/// Gives each symbol of the frame of the bits behind its delimiter, high and low, as it is made.
 #[inline]
-pub fn send_frame(timing: &Timing, preamble: bool, bits: &[bool], mut give: impl FnMut(u32)) {
-    let pair = |length: u32| [length - timing.pw, timing.pw];
-    give(DELIMITER);
-    pair(timing.tari).into_iter().for_each(&mut give);
-    pair(timing.rtcal).into_iter().for_each(&mut give);
+pub fn send_symbols(timing: &Timing, preamble: bool, bits: &[bool], mut give: impl FnMut([u32; 2])) {
+    give(timing.symbol(timing.tari));
+    give(timing.symbol(timing.rtcal));
     if preamble {
-        pair(timing.trcal).into_iter().for_each(&mut give);
+        give(timing.symbol(timing.trcal));
     }
     let symbols = timing.symbols();
-    for &bit in bits {
-        symbols[usize::from(bit)].into_iter().for_each(&mut give);
-    }
+    bits.iter().for_each(|&bit| give(symbols[usize::from(bit)]));
 }
 
-/// Writes the frame of the bits, the same as a whole.
+/// Writes the frame of the bits as a whole: delimiter, data-0, RTcal, TRcal where there is a preamble, and the bits.
 pub fn encode_frame(timing: &Timing, preamble: bool, bits: &[bool], intervals: &mut Vec<u32>) {
-    let pair = |length: u32| [length - timing.pw, timing.pw];
     intervals.clear();
     intervals.push(DELIMITER);
-    intervals.extend(pair(timing.tari));
-    intervals.extend(pair(timing.rtcal));
+    intervals.extend(timing.symbol(timing.tari));
+    intervals.extend(timing.symbol(timing.rtcal));
     if preamble {
-        intervals.extend(pair(timing.trcal));
+        intervals.extend(timing.symbol(timing.trcal));
     }
     let symbols = timing.symbols();
     let start = intervals.len();

@@ -226,12 +226,13 @@ impl World {
             return;
         }
         let World { scenario, bits, intervals, framer, answers, .. } = self;
-        let mut edges = Edges::new();
         framer.begin();
         intervals.clear();
-        pie::send_frame(&scenario.link.timing, preamble, bits, |interval| {
-            intervals.push(interval);
-            if let Some(bit) = edges.push(interval) {
+        intervals.push(pie::DELIMITER);
+        let mut edges = Edges::behind(pie::DELIMITER);
+        pie::send_symbols(&scenario.link.timing, preamble, bits, |symbol| {
+            intervals.extend(symbol);
+            if let Some(bit) = edges.push(symbol) {
                 framer.push(bit);
             }
         });
