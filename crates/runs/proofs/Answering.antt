@@ -1,32 +1,12 @@
 -- What tags answer to the commands of an inventory is what the interrogator expects, and what they answer to the commands of a
 -- dialogue is unmistakable.
-use Rattle.std.proofs.Common.{◌≡◌, ℕ, zero, suc, ◌⊎◌, inl, inr, Bool, true, false, ◌&&◌, List, length, Some, refl, sym, ap, ◌∙◌, subst, arith}
-use Rattle.std.proofs.lemmas.Bool.{eq-eqb}
-use Rattle.access_ops.specs.laws.OperationLaws.{Expects}
-use Rattle.access_ops.specs.Operations.{words_expected}
-use Rattle.tag_machine.specs.TagsInExchange.{AreLegalTags, outcomes_in, replies_in}
-use Rattle.air_model.specs.Channel.{given_in}
-use Rattle.air_model.specs.Past.{Start}
-use Rattle.air_model.specs.Reception.{has_handle, is_expected, HoldsOfSent, IsReplyFor, IsGivenFor, IsUnmistakable}
-use Rattle.air_events.specs.declared.Entry.{Entry}
-use Rattle.air_model.proofs.ReceptionLaws.{expected_answers}
-use Rattle.air_model.proofs.GivenLaws.{given_of_sent}
-use Rattle.runs.specs.NextItem.{expectation_of}
-use Rattle.runs.specs.laws.Replies.{AnswersSo, StaysLegal, outcomes-answered, replies-answered}
-use Rattle.command_grammar.specs.declared.commands.Command.{Command}
+use Rattle.runs.proofs.Names.{◌≡◌, ℕ, zero, suc, ◌⊎◌, inl, inr, Bool, true, false, ◌&&◌, List, length, Some, refl, sym, ap, ◌∙◌, subst, arith, eq-eqb, Expects, words_expected, AreLegalTags}
+use Rattle.runs.proofs.Names.{outcomes_in, replies_in, given_in, Start, has_handle, is_expected, HoldsOfSent, IsReplyFor, IsGivenFor, IsUnmistakable, Entry, expected_answers, given_of_sent}
+use Rattle.runs.proofs.Names.{expectation_of, AnswersSo, StaysLegal, outcomes-answered, replies-answered, Command, answers_pass, suits-from, AnswersExpected, Suits, handle_of, spelling, suits, Expect}
+use Rattle.runs.proofs.Names.{Reply, Rn16, Epc, Handle, Words, Header, Error, Sent, IsSent, has_half, IsAnswerTo, IsHandleAnswer, IsHeaderOrError, IsDelayedAnswer, IsReadReply, IsReadAnswer}
+use Rattle.runs.proofs.Names.{IsKillAnswer, step, TagValue, StateValue, BodyValue, IsLegalTag}
 use Rattle.command_grammar.specs.declared.commands.Command.TheVariants as commands
-use Rattle.reply_grammar.specs.laws.Passing.{answers_pass}
-use Rattle.reply_grammar.proofs.Suiting.{suits-from}
-use Rattle.reply_grammar.specs.Replies.{AnswersExpected, Suits, handle_of, spelling, suits}
-use Rattle.reply_grammar.specs.declared.expected.Expect.{Expect}
 use Rattle.reply_grammar.specs.declared.expected.Expect.TheVariants as expects
-use Rattle.reply_grammar.specs.declared.expected.Reply.{Reply}
-use Rattle.reply_grammar.specs.declared.expected.Reply.TheVariants.{Rn16, Epc, Handle, Words, Header, Error}
-use Rattle.tag_machine.specs.Answers.{Sent, IsSent}
-use Rattle.tag_machine.specs.laws.Extended.{has_half}
-use Rattle.tag_machine.specs.laws.Replies.{IsAnswerTo, IsHandleAnswer, IsHeaderOrError, IsDelayedAnswer, IsReadReply, IsReadAnswer, IsKillAnswer}
-use Rattle.tag_machine.specs.Step.{step}
-use Rattle.tag_machine.specs.TagValue.{TagValue, StateValue, BodyValue, IsLegalTag}
 
 -- the laws of tag_machine
 abbrev pub AnswersByRow : Type 0

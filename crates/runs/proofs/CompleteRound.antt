@@ -1,18 +1,11 @@
 -- What an honest round says of the tags that it lists, in the history of a run.
-use Rattle.std.proofs.Common.{◌≡◌, ℕ, ◌+◌, ◌≤◌, ◌==◌, ◌&&◌, not, Bool, true, false, ◌⊎◌, inl, inr, List, ◌∷◌, ◌++◌, length, Option, Some, None, slice_get, if◌then◌else◌, refl, ap, sym, ◌∙◌, subst, arith, add-one, eq-eqb}
-use Rattle.std.proofs.lemmas.Option.{slice_get_past}
-use Rattle.access_ops.specs.declared.OpList.{OpList}
-use Rattle.air_model.specs.Past.{Start, Item, ended, tag_behind}
+use Rattle.runs.proofs.Names.{◌≡◌, ℕ, ◌+◌, ◌≤◌, ◌==◌, ◌&&◌, not, Bool, true, false, ◌⊎◌, inl, inr, List, ◌∷◌, ◌++◌, length, Option, Some, None, slice_get, if◌then◌else◌, refl, ap, sym, ◌∙◌, subst}
+use Rattle.runs.proofs.Names.{arith, add-one, eq-eqb, slice_get_past, OpList, Start, Item, ended, tag_behind, AreLegalSteps, rounds_of, history_of, HasNumber, IsMatchedTag, ListsNoTagTwice}
+use Rattle.runs.proofs.Names.{StepsFlags, IsQuietComplete, EndsByLimit, CompleteInventory, is_spoken_to, CountedRound, IsHonest, IsApart, is_of_round, is_of_slot, tags_listed_in, tags_listed_in_slot}
+use Rattle.runs.proofs.Names.{times, Ending, ending_of, past_after_query, tag_after_query, is_matched_in, flags_after_query, StandsAtQuiet, StandsAtEnd, IsListedOnce, is_matched, flags_in_round}
+use Rattle.runs.proofs.Names.{LinkValue, RoundFacts, SpecValue, IsLegalSpec, RoundEnd, Step, TagValue}
 use Rattle.air_events.specs.declared.Several.TheVariants as severals
-use Rattle.runs.specs.Headline.{AreLegalSteps, rounds_of}
-use Rattle.runs.specs.History.{history_of}
-use Rattle.runs.specs.Complete.{HasNumber, IsMatchedTag, ListsNoTagTwice, StepsFlags, IsQuietComplete, EndsByLimit, CompleteInventory}
-use Rattle.runs.specs.CountedTags.{is_spoken_to, CountedRound}
-use Rattle.runs.specs.Honest.{IsHonest, IsApart}
-use Rattle.runs.specs.Listed.{is_of_round, is_of_slot, tags_listed_in, tags_listed_in_slot, times}
-use Rattle.runs.specs.MomentsOfRound.{Ending, ending_of, past_after_query, tag_after_query, is_matched_in, flags_after_query}
-use Rattle.runs.specs.TagAtEnd.{StandsAtQuiet, StandsAtEnd, IsListedOnce}
-use Rattle.runs.specs.TagInRound.{is_matched, flags_in_round}
+use Rattle.q_round.specs.declared.round.RoundEnd.TheVariants as round_ends
 use Rattle.runs.proofs.Records.{AllRecords, records-at, records-behind, records-all}
 use Rattle.runs.proofs.RoundsAmong.{RoundAmong, steps_around, played, stands-among}
 use Rattle.runs.proofs.OtherRounds.{AreOfOthers, listed-others, query-others, ending-others, records-others}
@@ -24,13 +17,6 @@ use Rattle.runs.proofs.TagEnds.{listed-once, quiet-stands, end-stands}
 use Rattle.runs.proofs.Times.{bit, bit-some}
 use Rattle.runs.proofs.Totals.{as-many-listed}
 use Rattle.runs.proofs.WholeRound.{IsFairIn, round-test, slot-test, LastSlot, slots_to, IsSilentWhereQuiet, IsOver, round-stands}
-use Rattle.pie_line.specs.Link.{LinkValue}
-use Rattle.q_round.specs.laws.RoundFacts.{RoundFacts}
-use Rattle.q_round.specs.SpecValue.{SpecValue, IsLegalSpec}
-use Rattle.q_round.specs.declared.round.RoundEnd.{RoundEnd}
-use Rattle.q_round.specs.declared.round.RoundEnd.TheVariants as ends
-use Rattle.scenario.specs.declared.values.Step.{Step}
-use Rattle.tag_machine.specs.TagValue.{TagValue}
 
 -- The round as the whole history tells it: in slots before the last one and in the last one a number was listed or not, and each tag
 -- stands where it stands at the end of the round, seen from where it stood just after the Query.
@@ -139,7 +125,7 @@ module _ (round : PlayedRound) (last : LastSlot) (history : List Item) (by : IsT
       → StandsAtEnd round.spec.session (tag_after_query (number_of round) history number tag) (by.listed number) (by.listed_now number) (tag_behind number tag last.now)
   at-end number tag numbered = end-stands (frame_behind round last.earlier) last.outcome (member_told round last history by number tag) (tag_behind number tag last.now) (by.tags number tag numbered)
 
-  pub at-quiet : last.end ≡ ends.Quiet → (number : ℕ) (tag : TagValue) → HasNumber round.start number tag
+  pub at-quiet : last.end ≡ round_ends.Quiet → (number : ℕ) (tag : TagValue) → HasNumber round.start number tag
       → StandsAtQuiet round.spec.session (tag_after_query (number_of round) history number tag) (by.listed number) (by.listed_now number) (tag_behind number tag last.now)
   at-quiet is number tag numbered =
       quiet-stands (frame_behind round last.earlier) last.outcome (member_told round last history by number tag) (tag_behind number tag last.now) (by.quiet is) (by.tags number tag numbered)
@@ -182,7 +168,7 @@ module _ (round : PlayedRound) (last : LastSlot) (history : List Item) (by : IsT
         same number tag numbered).other no_slot no_query;
   }
 
-  quiet-complete : last.end ≡ ends.Quiet → IsQuietComplete round.start history (number_of round) round.spec.session last.now
+  quiet-complete : last.end ≡ round_ends.Quiet → IsQuietComplete round.start history (number_of round) round.spec.session last.now
   quiet-complete is = record {
     listed = λ number tag numbered.
         let stands = at-quiet is number tag numbered in
@@ -217,11 +203,11 @@ module _ (round : PlayedRound) (last : LastSlot) (history : List Item) (by : IsT
     no_tag_twice = no-tag-twice;
     flag_steps = flag-steps;
     quiet_is_complete = λ slots past is.
-        let same : ending_with last.end (slots_to last) last.now ≡ ending_with ends.Quiet slots past = let both = sym by.ending ∙ is in cc in
+        let same : ending_with last.end (slots_to last) last.now ≡ ending_with round_ends.Quiet slots past = let both = sym by.ending ∙ is in cc in
         subst (λ (ending : Ending). IsQuietComplete round.start history (number_of round) round.spec.session ending.past) same
         (quiet-complete (ap (λ (ending : Ending). ending.end) same));
     limit_end = λ slots past is.
-        let same : ending_with last.end (slots_to last) last.now ≡ ending_with ends.Limit slots past = let both = sym by.ending ∙ is in cc in
+        let same : ending_with last.end (slots_to last) last.now ≡ ending_with round_ends.Limit slots past = let both = sym by.ending ∙ is in cc in
         subst (λ (ending : Ending). EndsByLimit round.start history (number_of round) round.spec.session ending.slots ending.past) same limit-end;
   }
 

@@ -1,29 +1,17 @@
 -- A run of one honest round that ends quiet lists every tag once, where each takes part; where no two tags have one EPC, it lists as many
 -- EPCs.
-use Rattle.std.proofs.Common.{◌≡◌, ◌≢◌, ℕ, suc, ◌+◌, ◌≤◌, ◌==◌, ◌&&◌, not, Bool, true, false, List, [], ◌∷◌, ◌++◌, length, map, filter, Option, Some, None, slice_get, if◌then◌else◌, refl, ap, sym, ◌∙◌, subst, arith, eq-eqb}
-use Rattle.std.proofs.lemmas.Bool.{and_parts}
-use Rattle.std.proofs.lemmas.List.{length-append, map-append, length-map}
-use Rattle.std.specs.Cmp.Lexicographic.{pointwise, same_text}
-use Rattle.std.specs.List.{AllByRecursion}
-use Rattle.std.specs.Prelude.{nat_eq}
-use Rattle.access_ops.specs.declared.OpList.{OpList}
-use Rattle.air_model.specs.Channel.{Given, whole, raw, IsOfReplies}
-use Rattle.tag_machine.specs.TagsInExchange.{Replied}
-use Rattle.air_model.specs.Past.{Start, Record, Item, exchanged, tag_behind, next_entry}
-use Rattle.air_model.specs.Reception.{is_expected, reception_of}
-use Rattle.air_events.specs.Entries.{no_entry, entry_at}
-use Rattle.air_events.specs.declared.Entry.{Entry}
-use Rattle.runs.specs.Headline.{IsLegalRound, Acknowledges, HasNoRawStream}
-use Rattle.runs.specs.History.{past_behind_round, history_of}
-use Rattle.runs.specs.Listing.{Listed, reception_of_ack, listed_from, listed_by, listing_of}
-use Rattle.command_grammar.specs.declared.commands.Command.{Command}
+use Rattle.runs.proofs.Names.{◌≡◌, ◌≢◌, ℕ, suc, ◌+◌, ◌≤◌, ◌==◌, ◌&&◌, not, Bool, true, false, List, [], ◌∷◌, ◌++◌, length, map, filter, Option, Some, None, slice_get, if◌then◌else◌, refl, ap, sym}
+use Rattle.runs.proofs.Names.{◌∙◌, subst, arith, eq-eqb, and_parts, length-append, map-append, length-map, pointwise, same_text, AllByRecursion, nat_eq, OpList, Given, whole, raw, IsOfReplies}
+use Rattle.runs.proofs.Names.{Replied, Start, Record, Item, exchanged, tag_behind, next_entry, is_expected, reception_of, no_entry, entry_at, Entry, IsLegalRound, Acknowledges, HasNoRawStream}
+use Rattle.runs.proofs.Names.{past_behind_round, history_of, Listed, reception_of_ack, listed_from, listed_by, listing_of, Command, HasNumber, is_spoken_to, tags_spoken_to, AllTakePart, HaveOwnEpcs}
+use Rattle.runs.proofs.Names.{pairs_listed, ListsEveryTag, listed_as, sender_where, sender_listed_by, is_of_round, tags_listed_where, tags_listed_in, times, Ending, ending_of, tag_after_query}
+use Rattle.runs.proofs.Names.{is_matched, flags_behind_query, LinkValue, SpecValue, IsLegalSpec, RoundEnd, whole_reply, no_such_reply, Reply, same_pair, distinct, matches, TagValue, StateValue}
+use Rattle.runs.proofs.Names.{ReadyState, is_present, Banks, pc_of, epc_of}
 use Rattle.command_grammar.specs.declared.commands.Command.TheVariants as commands
-use Rattle.runs.specs.Complete.{HasNumber}
-use Rattle.runs.specs.CountedTags.{is_spoken_to, tags_spoken_to}
-use Rattle.runs.specs.EveryTag.{AllTakePart, HaveOwnEpcs, pairs_listed, ListsEveryTag}
-use Rattle.runs.specs.Listed.{listed_as, sender_where, sender_listed_by, is_of_round, tags_listed_where, tags_listed_in, times}
-use Rattle.runs.specs.MomentsOfRound.{Ending, ending_of, tag_after_query}
-use Rattle.runs.specs.TagInRound.{is_matched, flags_behind_query}
+use Rattle.q_round.specs.declared.round.RoundEnd.TheVariants as round_ends
+use Rattle.reply_grammar.specs.declared.expected.Expect.TheVariants as expects
+use Rattle.reply_grammar.specs.declared.expected.Reply.TheVariants as replies
+use Rattle.scenario.specs.declared.values.Step.TheVariants as steps
 use Rattle.runs.proofs.CompleteRound.{IsTold, IsToldBy, RoundsHaveFacts, IsFairRound, history-told, told-counted}
 use Rattle.runs.proofs.RoundsAmong.{RoundAmong, played}
 use Rattle.runs.proofs.MadeRecords.{made-record, none-given}
@@ -34,20 +22,6 @@ use Rattle.runs.proofs.TagQuery.{query-matched, query-memory}
 use Rattle.runs.proofs.Times.{times-append, times-one, times-first, bit, lists-one}
 use Rattle.runs.proofs.Turns.{round-holds}
 use Rattle.runs.proofs.TagsInRound.{query_command}
-use Rattle.pie_line.specs.Link.{LinkValue}
-use Rattle.q_round.specs.SpecValue.{SpecValue, IsLegalSpec}
-use Rattle.q_round.specs.declared.round.RoundEnd.{RoundEnd}
-use Rattle.q_round.specs.declared.round.RoundEnd.TheVariants as ends
-use Rattle.reply_grammar.specs.Reception.{whole_reply, no_such_reply}
-use Rattle.reply_grammar.specs.declared.expected.Expect.TheVariants as expects
-use Rattle.reply_grammar.specs.declared.expected.Reply.{Reply}
-use Rattle.reply_grammar.specs.declared.expected.Reply.TheVariants as replies
-use Rattle.reply_grammar.specs.PcAndEpc.{same_pair}
-use Rattle.report_lines.specs.SeenCounts.{distinct}
-use Rattle.scenario.specs.declared.values.Step.TheVariants as steps
-use Rattle.session_flags.specs.Flags.{matches}
-use Rattle.tag_machine.specs.TagValue.{TagValue, StateValue, ReadyState, is_present}
-use Rattle.tag_memory.specs.Memory.{Banks, pc_of, epc_of}
 
 -- each record of a past is one of the round
 abbrev AreOfRound : ℕ → List Item → Type 0
@@ -354,7 +328,7 @@ lists-tags keeps facts start spec operations one =
     }
 
 end_of : Option Ending → RoundEnd
-end_of None = ends.Limit
+end_of None = round_ends.Limit
 end_of (Some ending) = ending.end
 
 -- a run of one round that is fair, of which nothing is said, in which each tag takes part and has an EPC of its own
@@ -366,7 +340,7 @@ pub record IsPlainRun (start : Start) (spec : SpecValue) (operations : OpList) :
   pub fair : IsFairRound start (history_of_round start spec operations) 1 operations
 
 pub every-tag : RoundsKeepLimit → RoundsHaveFacts → (start : Start) (spec : SpecValue) (operations : OpList) (slots : ℕ) (past : List Item) → IsPlainRun start spec operations
-    → ending_of 1 (history_of_round start spec operations) ≡ Some (record { end = ends.Quiet; slots = slots; past = past })
+    → ending_of 1 (history_of_round start spec operations) ≡ Some (record { end = round_ends.Quiet; slots = slots; past = past })
     → ListsEveryTag start (history_of_round start spec operations)
 unfolding end_of
 every-tag keeps facts start spec operations slots past plain quiet =
@@ -377,7 +351,7 @@ every-tag keeps facts start spec operations slots past plain quiet =
     let told : IsTold (played among) history = history-told keeps facts among (plain.legal, tt) plain.fair in
     let by : IsToldBy (played among) told.last history = told.by in
     let (ending, ending_is, counted) = told-counted (played among) told.last history told.by in
-    let ends_quiet : ending.end ≡ ends.Quiet = ap end_of (sym ending_is ∙ quiet) in
+    let ends_quiet : ending.end ≡ round_ends.Quiet = ap end_of (sym ending_is ∙ quiet) in
     let spoken : (number : ℕ) (tag : TagValue) → HasNumber start number tag → is_spoken_to spec (tag_after_query 1 history number tag) ≡ true =
     λ number tag numbered.
     sym (by.spoken number tag numbered)

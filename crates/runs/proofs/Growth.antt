@@ -1,36 +1,17 @@
 -- A past only grows. What each command and each result of a dialogue keeps, the dialogue keeps; what holds after each slot of a
 -- round and at both of its ends holds of the round; what holds after each step holds of the run; and what each item keeps, all keep.
-use Rattle.std.proofs.Common.{◌≡◌, ℕ, zero, suc, ◌+◌, ◌≤◌, Bool, true, false, List, [], ◌∷◌, ◌++◌, length, None, refl, ap, sym, ◌∙◌, append_assoc, append-nil, arith}
-use Rattle.std.specs.List.{AllByRecursion}
-use Rattle.access_ops.proofs.DialogueLaws.{AwaitsReplies, dialogues-await}
-use Rattle.access_ops.specs.laws.OperationLaws.{Expects}
-use Rattle.access_ops.specs.Operations.{Dialogue, sends, tells, done, dialogue_of}
-use Rattle.access_ops.specs.declared.OpList.{OpList}
-use Rattle.access_ops.specs.declared.op_next.OpResult.{OpResult}
-use Rattle.air_events.specs.declared.Event.{Event}
-use Rattle.air_model.specs.Past.{Start, Item, befell, operated, ended, past_behind_command, rounds_in}
-use Rattle.reply_grammar.specs.Reception.{Reception, no_stream, whole_reply, no_such_reply}
-use Rattle.runs.specs.History.{outcome_of, operation_reception, past_behind_dialogue, dialogue_begun, past_behind_listing, ack_reception, past_behind_ack, past_behind_answer, slot_reception, past_behind_slot, past_behind_turn, past_behind_turns, past_behind_step, past_behind}
-use Rattle.runs.specs.NextItem.{rn_of}
-use Rattle.runs.specs.Report.{item_lines, past_lines}
-use Rattle.runs.proofs.PlayedRounds.{SlotOfRun, PlayedRound, number_of, past_behind_played, DoesNext}
-use Rattle.command_grammar.specs.declared.commands.Command.{Command}
+use Rattle.runs.proofs.Names.{◌≡◌, ℕ, zero, suc, ◌+◌, ◌≤◌, Bool, true, false, List, [], ◌∷◌, ◌++◌, length, None, refl, ap, sym, ◌∙◌, append_assoc, append-nil, arith, AllByRecursion, AwaitsReplies}
+use Rattle.runs.proofs.Names.{dialogues-await, Expects, Dialogue, sends, tells, done, dialogue_of, OpList, OpResult, Event, Start, Item, befell, operated, ended, past_behind_command, rounds_in}
+use Rattle.runs.proofs.Names.{Reception, no_stream, whole_reply, no_such_reply, outcome_of, operation_reception, past_behind_dialogue, dialogue_begun, past_behind_listing, ack_reception}
+use Rattle.runs.proofs.Names.{past_behind_ack, past_behind_answer, slot_reception, past_behind_slot, past_behind_turn, past_behind_turns, past_behind_step, past_behind, rn_of, item_lines, past_lines}
+use Rattle.runs.proofs.Names.{Command, LinkValue, SpecValue, IsLegalSpec, Turn, quiet, limit, is_last_turn, turn_of, is_over, AreOutcomes, slots_of, next_of_turn, next_command, slots-underway}
+use Rattle.runs.proofs.Names.{slots-over, Outcome, Whole, Next, RoundEnd, Expect, ReportLine, Step}
 use Rattle.command_grammar.specs.declared.commands.Command.TheVariants as commands
-use Rattle.pie_line.specs.Link.{LinkValue}
-use Rattle.q_round.specs.SpecValue.{SpecValue, IsLegalSpec}
-use Rattle.q_round.specs.Rounds.{Turn, quiet, limit, is_last_turn, turn_of, is_over, AreOutcomes, slots_of, next_of_turn, next_command}
-use Rattle.q_round.proofs.SlotLaws.{slots-underway, slots-over}
-use Rattle.q_round.specs.declared.frame.Outcome.{Outcome}
-use Rattle.q_round.specs.declared.frame.Outcome.TheVariants.{Whole}
-use Rattle.q_round.specs.declared.round.Next.{Next}
 use Rattle.q_round.specs.declared.round.Next.TheVariants as nexts
-use Rattle.q_round.specs.declared.round.RoundEnd.{RoundEnd}
 use Rattle.q_round.specs.declared.round.RoundEnd.TheVariants as round_ends
-use Rattle.reply_grammar.specs.declared.expected.Expect.{Expect}
 use Rattle.reply_grammar.specs.declared.expected.Reply.TheVariants as replies
-use Rattle.report_lines.specs.ReportLine.{ReportLine}
-use Rattle.scenario.specs.declared.values.Step.{Step}
 use Rattle.scenario.specs.declared.values.Step.TheVariants as steps
+use Rattle.runs.proofs.PlayedRounds.{SlotOfRun, PlayedRound, number_of, past_behind_played, DoesNext}
 
 -- a past, and what was added to it
 pub record Grows (past behind : List Item) : Type 0 where

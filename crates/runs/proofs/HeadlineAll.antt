@@ -1,13 +1,9 @@
 -- The headline, from what is proved of its parts.
-use Rattle.std.proofs.Common.{◌≡◌, ℕ, ◌+◌, List, [], ◌∷◌, ◌++◌, filter, refl, ◌∙◌, subst, sym}
-use Rattle.access_ops.specs.declared.OpList.{OpList}
-use Rattle.air_model.specs.Past.{Start, Record, Item}
-use Rattle.air_model.specs.Reception.{reception_of}
-use Rattle.runs.specs.Headline.{AreLegalSteps, IsRecordOf, Acknowledges, is_list_line, is_round_line, rounds_of, KeepsLimit, Headline}
-use Rattle.runs.specs.History.{history_of}
-use Rattle.runs.specs.Listing.{Listed}
-use Rattle.runs.specs.Report.{list_line, report_of, run_lines}
-use Rattle.report_lines.specs.declared.mode.Mode.{Mode}
+use Rattle.runs.proofs.Names.{◌≡◌, ℕ, ◌+◌, List, [], ◌∷◌, ◌++◌, filter, refl, ◌∙◌, subst, sym, OpList, Start, Record, Item, reception_of, AreLegalSteps, IsRecordOf, Acknowledges, is_list_line}
+use Rattle.runs.proofs.Names.{is_round_line, rounds_of, KeepsLimit, Headline, history_of, Listed, list_line, report_of, run_lines, Mode, SpecValue, whole_reply, Step}
+use Rattle.reply_grammar.specs.declared.expected.Expect.TheVariants as expects
+use Rattle.reply_grammar.specs.declared.expected.Reply.TheVariants as replies
+use Rattle.scenario.specs.declared.values.Step.TheVariants as steps
 use Rattle.runs.proofs.Growth.{RoundsKeepLimit}
 use Rattle.runs.proofs.HeadlineKept.{kept-pass}
 use Rattle.runs.proofs.HeadlineLines.{list-no-trace, round-no-trace}
@@ -16,12 +12,6 @@ use Rattle.runs.proofs.HeadlineSent.{sent-by-a-tag}
 use Rattle.runs.proofs.HeadlineSlots.{round-keeps}
 use Rattle.runs.proofs.HeadlineTags.{report-tags}
 use Rattle.runs.proofs.HeadlineTold.{told-report}
-use Rattle.q_round.specs.SpecValue.{SpecValue}
-use Rattle.reply_grammar.specs.Reception.{whole_reply}
-use Rattle.reply_grammar.specs.declared.expected.Expect.TheVariants as expects
-use Rattle.reply_grammar.specs.declared.expected.Reply.TheVariants as replies
-use Rattle.scenario.specs.declared.values.Step.{Step}
-use Rattle.scenario.specs.declared.values.Step.TheVariants as steps
 
 round-of-steps : RoundsKeepLimit → (start : Start) (taken before after : List Step) (spec : SpecValue) (operations : OpList)
     → AreLegalSteps taken → taken ≡ before ++ steps.Round spec operations ∷ after

@@ -1,20 +1,12 @@
 -- How many exchanges a run has: one for a Select or NAK, and for each slot of a round at most the slot command, an ACK, one command
 -- for the handle and four for each operation.
-use Rattle.std.proofs.Common.{◌≡◌, ℕ, ◌+◌, ◌-◌, ◌*◌, ◌≤◌, List, [], ◌∷◌, length, arith}
-use Rattle.std.proofs.Math.Nat.{mul-add, mul-one, mul-le-mul, mul-le-mul_left}
-use Rattle.access_ops.proofs.DialogueLaws.{SendsAtMost, dialogues-are-few}
-use Rattle.access_ops.specs.Operations.{Dialogue, dialogue_of}
-use Rattle.access_ops.specs.declared.OpList.{OpList}
-use Rattle.air_model.specs.Past.{Start, Item, past_behind_command, exchanges_in, rounds_in}
-use Rattle.runs.specs.Headline.{AreLegalSteps, most_operating, most_exchanges}
-use Rattle.runs.specs.History.{past_behind_dialogue, ack_reception, past_behind_ack, slot_reception, past_behind_slot, past_behind_round, past_behind_step, past_behind}
+use Rattle.runs.proofs.Names.{◌≡◌, ℕ, ◌+◌, ◌-◌, ◌*◌, ◌≤◌, List, [], ◌∷◌, length, arith, mul-add, mul-one, mul-le-mul, mul-le-mul_left, SendsAtMost, dialogues-are-few, Dialogue, dialogue_of, OpList}
+use Rattle.runs.proofs.Names.{Start, Item, past_behind_command, exchanges_in, rounds_in, AreLegalSteps, most_operating, most_exchanges, past_behind_dialogue, ack_reception, past_behind_ack}
+use Rattle.runs.proofs.Names.{slot_reception, past_behind_slot, past_behind_round, past_behind_step, past_behind, Command, SpecValue, IsLegalSpec, Step}
+use Rattle.command_grammar.specs.declared.commands.Command.TheVariants as commands
+use Rattle.scenario.specs.declared.values.Step.TheVariants as steps
 use Rattle.runs.proofs.Growth.{RoundsKeepLimit, dialogue-holds, listing-holds, answer-holds, round-holds, few-outcomes}
 use Rattle.runs.proofs.PlayedRounds.{SlotOfRun}
-use Rattle.command_grammar.specs.declared.commands.Command.{Command}
-use Rattle.command_grammar.specs.declared.commands.Command.TheVariants as commands
-use Rattle.q_round.specs.SpecValue.{SpecValue, IsLegalSpec}
-use Rattle.scenario.specs.declared.values.Step.{Step}
-use Rattle.scenario.specs.declared.values.Step.TheVariants as steps
 
 -- what is left of a dialogue, with so many commands at most, adds no more exchanges than those
 record FewLeft (most : ℕ) (dialogue : Dialogue) (past : List Item) : Type 0 where

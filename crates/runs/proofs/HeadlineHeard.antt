@@ -1,34 +1,16 @@
 -- What is listed is what was heard, whoever sent it.
-use Rattle.std.proofs.Common.{◌≡◌, ℕ, ◌∷◌, ◌++◌, [], List, length, Some, ap, arith}
-use Rattle.tag_machine.specs.TagsInExchange.{AreLegalTags}
-use Rattle.air_model.specs.Channel.{Given, silence, whole, broken, raw, heard_levels, IsReadBy}
-use Rattle.air_model.specs.Past.{Item, Record, exchanged, tags_behind}
-use Rattle.air_model.specs.Reception.{IsGivenFor, reception_of}
-use Rattle.air_model.proofs.ReceptionLaws.{stream_reception, whole_is_heard}
-use Rattle.command_grammar.specs.declared.commands.Command.{Command}
-use Rattle.reply_wire.specs.Codes.{table_of}
-use Rattle.reply_wire.specs.laws.Codes.{stream_least}
-use Rattle.pie_line.specs.Link.{LinkValue}
-use Rattle.reply_grammar.specs.Reception.{whole_reply}
-use Rattle.reply_grammar.specs.declared.expected.Expect.{Expect}
+use Rattle.runs.proofs.Names.{◌≡◌, ℕ, ◌∷◌, ◌++◌, [], List, length, Some, ap, arith, AreLegalTags, Given, silence, whole, broken, raw, heard_levels, IsReadBy, Item, Record, exchanged, tags_behind}
+use Rattle.runs.proofs.Names.{IsGivenFor, reception_of, stream_reception, whole_is_heard, Command, table_of, stream_least, LinkValue, whole_reply, Expect, Reply, IsWhole, Mode, AreLegalSteps}
+use Rattle.runs.proofs.Names.{AreHeardAsListed, IsRecordOf, Acknowledges, Listed, expectation_of, report_of, history, start_of, Scenario}
 use Rattle.reply_grammar.specs.declared.expected.Expect.TheVariants as expects
-use Rattle.reply_grammar.specs.declared.expected.Received.TheVariants.{Whole}
-use Rattle.reply_grammar.specs.declared.expected.Reply.{Reply}
 use Rattle.reply_grammar.specs.declared.expected.Reply.TheVariants as replies
-use Rattle.reply_wire.specs.Received.{IsWhole}
-use Rattle.report_lines.specs.declared.mode.Mode.{Mode}
-use Rattle.runs.specs.Headline.{AreLegalSteps, AreHeardAsListed, IsRecordOf, Acknowledges}
-use Rattle.runs.specs.Listing.{Listed}
-use Rattle.runs.specs.NextItem.{expectation_of}
-use Rattle.runs.specs.Report.{report_of}
-use Rattle.runs.specs.ScenarioStart.{history, start_of}
+use Rattle.reply_grammar.specs.declared.expected.Received.TheVariants.{Whole}
 use Rattle.runs.proofs.Growth.{RoundsKeepLimit}
 use Rattle.runs.proofs.Answering.{TagLaws}
 use Rattle.runs.proofs.HeadlineAll.{listed-kept, told-whole}
 use Rattle.runs.proofs.HeadlineListed.{IsTold}
 use Rattle.runs.proofs.HeadlineTold.{told-report, told-ack}
 use Rattle.runs.proofs.MadeRecords.{behind-record, recorded-expected, made-record, made-read}
-use Rattle.scenario.specs.declared.values.Scenario.{Scenario}
 
 -- the tags of a scenario are legal behind each past of its history
 abbrev pub StayLegal : Scenario → Type 0

@@ -1,9 +1,5 @@
 -- What holds of all that a run has to tell, where a mode leaves out lines that not each report has.
-use Rattle.std.proofs.Common.{◌≡◌, inl, inr, Bool, true, false, not, ◌&&◌, List, [], ◌∷◌, filter, refl}
-use Rattle.report_lines.specs.ModeLines.{is_of_exchanges, is_of_trace, is_plain, keeps}
-use Rattle.report_lines.specs.ReportLine.{ReportLine}
-use Rattle.report_lines.specs.declared.mode.Mode.{Mode}
-use Rattle.report_lines.specs.declared.mode.Mode.TheVariants.{Trace, Exchanges, Vcd}
+use Rattle.runs.proofs.Names.{◌≡◌, inl, inr, Bool, true, false, not, ◌&&◌, List, [], ◌∷◌, filter, refl, is_of_exchanges, is_of_trace, is_plain, keeps, ReportLine, Mode, Trace, Exchanges, Vcd}
 use Rattle.runs.proofs.Among.{Among}
 use Rattle.runs.proofs.HeadlineLines.{PassesNoTrace, and-false}
 

@@ -1,16 +1,7 @@
 -- The limits of a scenario, as the laws of its run take them.
-use Rattle.std.proofs.Common.{ℕ, List, [], ◌∷◌, length}
-use Rattle.std.proofs.lemmas.List.Elements.{recursion_from_All}
-use Rattle.std.specs.List.{AllByRecursion}
-use Rattle.runs.specs.Headline.{IsSelect, IsLegalStep, AreLegalSteps}
-use Rattle.command_grammar.specs.declared.commands.Command.{Command}
+use Rattle.runs.proofs.Names.{ℕ, List, [], ◌∷◌, length, recursion_from_All, AllByRecursion, IsSelect, IsLegalStep, AreLegalSteps, Command, tags_of, IsStep, IsScenario, Scenario, Step, Version}
 use Rattle.command_grammar.specs.declared.commands.Command.TheVariants as commands
-use Rattle.scenario.specs.Groups.{tags_of}
-use Rattle.scenario.specs.Limits.{IsStep, IsScenario}
-use Rattle.scenario.specs.declared.values.Scenario.{Scenario}
-use Rattle.scenario.specs.declared.values.Step.{Step}
 use Rattle.scenario.specs.declared.values.Step.TheVariants as steps
-use Rattle.scenario_lines.specs.declared.version.Version.{Version}
 
 legal-select : (version : Version) (tags : ℕ) (command : Command) → IsStep version tags (steps.Select command) → IsSelect command
 legal-select version tags (commands.Select target action bank pointer mask) is = tt

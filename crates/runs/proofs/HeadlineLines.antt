@@ -1,17 +1,8 @@
 -- Which lines of a report pass a test that only lines of listed EPCs, of results and of ends of rounds may pass.
-use Rattle.std.proofs.Common.{◌≡◌, ℕ, ◌+◌, Bool, true, false, ◌&&◌, List, [], ◌∷◌, ◌++◌, length, map, filter, refl, ap, ◌∙◌, append-nil, append_assoc}
-use Rattle.std.proofs.lemmas.List.Elements.{filter-append}
-use Rattle.air_model.specs.Channel.{heard_levels, wave_for}
-use Rattle.air_model.specs.Past.{Start, Record, Item, exchanged, tags_behind}
-use Rattle.runs.specs.Headline.{is_round_line, is_list_line}
-use Rattle.runs.specs.Listing.{Listed, listed_by, listing_of}
-use Rattle.runs.specs.Said.{answer_line, exchanged_by}
-use Rattle.runs.specs.Report.{exchange_lines, list_line, item_lines, past_lines, tag_lines, last_lines}
-use Rattle.report_lines.specs.ModeLines.{is_plain}
-use Rattle.pie_line.specs.Link.{LinkValue}
-use Rattle.report_lines.specs.ReportLine.{ReportLine, ExchangeLine, MissedLine, GivenLine, TxLine, RxLine, ListLine, RoundLine, SeenLine, TagLine, DoneLine}
-use Rattle.report_lines.specs.SeenCounts.{SeenCount, seen_counts}
-use Rattle.tag_machine.specs.TagValue.{TagValue}
+use Rattle.runs.proofs.Names.{◌≡◌, ℕ, ◌+◌, Bool, true, false, ◌&&◌, List, [], ◌∷◌, ◌++◌, length, map, filter, refl, ap, ◌∙◌, append-nil, append_assoc, filter-append, heard_levels, wave_for, Start}
+use Rattle.runs.proofs.Names.{Record, Item, exchanged, tags_behind, is_round_line, is_list_line, Listed, listed_by, listing_of, answer_line, exchanged_by, exchange_lines, list_line, item_lines}
+use Rattle.runs.proofs.Names.{past_lines, tag_lines, last_lines, is_plain, LinkValue, ReportLine, ExchangeLine, MissedLine, GivenLine, TxLine, RxLine, ListLine, RoundLine, SeenLine, TagLine, DoneLine}
+use Rattle.runs.proofs.Names.{SeenCount, seen_counts, TagValue}
 
 -- no line passes that not each report has
 abbrev pub PassesNoTrace : (ReportLine → Bool) → Type 0

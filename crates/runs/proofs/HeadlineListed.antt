@@ -1,33 +1,18 @@
 -- What came whole is listed once: the rounds and slots of ACKs rise along a history, so that each list line has its own.
-use Rattle.std.proofs.Common.{◌≡◌, ℕ, suc, ◌+◌, ◌<◌, ◌==◌, ◌&&◌, Bool, true, false, ◌⊎◌, inl, inr, List, [], ◌∷◌, ◌++◌, length, map, filter, if◌then◌else◌, refl, ap, sym, ◌∙◌, subst, append-nil, arith, ne_eqb, eq-eqb}
-use Rattle.access_ops.specs.laws.OperationLaws.{Expects}
-use Rattle.access_ops.specs.declared.OpList.{OpList}
-use Rattle.air_model.specs.Channel.{Given, whole}
-use Rattle.tag_machine.specs.TagsInExchange.{Replied}
-use Rattle.air_model.specs.Past.{Start, Record, Item, exchanged, past_behind_command, rounds_in}
-use Rattle.air_model.specs.Reception.{has_handle, is_expected, reception_of}
-use Rattle.reply_grammar.specs.Reception.{Reception, whole_reply, no_such_reply}
-use Rattle.runs.specs.Headline.{IsSelect, IsLegalStep, AreLegalSteps, IsRecordOf, Acknowledges, IsGivenWhole, is_list_line, begins_slot}
-use Rattle.runs.specs.History.{past_behind_round, past_behind_step, history_of}
-use Rattle.runs.specs.Listing.{Listed, reception_of_ack, listed_from, listed_by}
-use Rattle.runs.specs.Report.{list_line, past_lines, run_lines}
+use Rattle.runs.proofs.Names.{◌≡◌, ℕ, suc, ◌+◌, ◌<◌, ◌==◌, ◌&&◌, Bool, true, false, ◌⊎◌, inl, inr, List, [], ◌∷◌, ◌++◌, length, map, filter, if◌then◌else◌, refl, ap, sym, ◌∙◌, subst, append-nil}
+use Rattle.runs.proofs.Names.{arith, ne_eqb, eq-eqb, Expects, OpList, Given, whole, Replied, Start, Record, Item, exchanged, past_behind_command, rounds_in, has_handle, is_expected, reception_of}
+use Rattle.runs.proofs.Names.{Reception, whole_reply, no_such_reply, IsSelect, IsLegalStep, AreLegalSteps, IsRecordOf, Acknowledges, IsGivenWhole, is_list_line, begins_slot, past_behind_round}
+use Rattle.runs.proofs.Names.{past_behind_step, history_of, Listed, reception_of_ack, listed_from, listed_by, list_line, past_lines, run_lines, Command, LinkValue, SpecValue, IsLegalSpec, handle_of}
+use Rattle.runs.proofs.Names.{suits, Expect, Reply, ReportLine, ListLine, Step}
+use Rattle.command_grammar.specs.declared.commands.Command.TheVariants as commands
+use Rattle.reply_grammar.specs.declared.expected.Expect.TheVariants as expects
+use Rattle.reply_grammar.specs.declared.expected.Reply.TheVariants as replies
+use Rattle.scenario.specs.declared.values.Step.TheVariants as steps
 use Rattle.runs.proofs.Growth.{RoundsKeepLimit, steps-hold}
 use Rattle.runs.proofs.Records.{AllRecords, records-at, records-behind, records-weaker}
 use Rattle.runs.proofs.Turns.{round-holds}
 use Rattle.runs.proofs.HeadlineLines.{list-lines-pass, sent-passes, item-passes, run-passes, and-false}
 use Rattle.runs.proofs.HeadlineSlots.{next-begins}
-use Rattle.command_grammar.specs.declared.commands.Command.{Command}
-use Rattle.command_grammar.specs.declared.commands.Command.TheVariants as commands
-use Rattle.pie_line.specs.Link.{LinkValue}
-use Rattle.q_round.specs.SpecValue.{SpecValue, IsLegalSpec}
-use Rattle.reply_grammar.specs.Replies.{handle_of, suits}
-use Rattle.reply_grammar.specs.declared.expected.Expect.{Expect}
-use Rattle.reply_grammar.specs.declared.expected.Expect.TheVariants as expects
-use Rattle.reply_grammar.specs.declared.expected.Reply.{Reply}
-use Rattle.reply_grammar.specs.declared.expected.Reply.TheVariants as replies
-use Rattle.report_lines.specs.ReportLine.{ReportLine, ListLine}
-use Rattle.scenario.specs.declared.values.Step.{Step}
-use Rattle.scenario.specs.declared.values.Step.TheVariants as steps
 
 -- a record tells of this PC and EPC, in its round and slot: they came whole in reply to its ACK
 pub record Tells (sent : Record) (listed : Listed) : Type 0 where
@@ -306,14 +291,14 @@ pub record IsAckAt (history : List Item) (round slot : ℕ) : Type 0 where
   pub round_is : sent.round ≡ round
   pub slot_is : sent.slot ≡ slot
 
-pub one-ack : RoundsKeepLimit → (start : Start) (steps : List Step) (round slot : ℕ) → AreLegalSteps steps
-    → (one other : IsAckAt (history_of start steps) round slot) → one.sent ≡ other.sent
-one-ack keeps start steps round slot legal one other =
-    same-record one.recorded.later one.sent one.earlier other.recorded.later other.sent other.earlier (sym one.recorded.is ∙ other.recorded.is)
+pub one-ack : RoundsKeepLimit → (start : Start) (steps : List Step) (listed : Listed) → AreLegalSteps steps
+    → (one : IsAckAt (history_of start steps) listed.round listed.slot) (told : IsTold (history_of start steps) listed) → one.sent ≡ told.sent
+one-ack keeps start steps listed legal one told =
+    same-record one.recorded.later one.sent one.earlier told.recorded.later told.sent told.earlier (sym one.recorded.is ∙ told.recorded.is)
     (subst AcksRise one.recorded.is (history-rises keeps start steps legal))
     (record {
       left_ack = ack-of one.sent one.rn one.acknowledges;
-      right_ack = ack-of other.sent other.rn other.acknowledges;
-      round = one.round_is ∙ sym other.round_is;
-      slot = one.slot_is ∙ sym other.slot_is;
+      right_ack = ack-of told.sent told.tells.rn told.tells.acknowledges;
+      round = one.round_is ∙ sym told.tells.round_is;
+      slot = one.slot_is ∙ sym told.tells.slot_is;
     })

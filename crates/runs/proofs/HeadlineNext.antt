@@ -1,29 +1,19 @@
 -- A history grows by what comes next alone, and stops where nothing does.
-use Rattle.std.proofs.Common.{◌≡◌, ℕ, suc, ◌+◌, ◌==◌, Bool, true, false, List, [], ◌∷◌, ◌++◌, length, map, Option, Some, None, slice_get, refl, ap, sym, ◌∙◌, subst, arith, add-one, ne_eqb, eq-eqb, ◌⊎◌, inl, inr, append-nil}
-use Rattle.access_ops.proofs.DialogueLaws.{AwaitsReplies}
-use Rattle.access_ops.specs.laws.OperationLaws.{Expects}
-use Rattle.access_ops.specs.Operations.{Dialogue, sends, tells, done}
-use Rattle.access_ops.specs.declared.OpList.{OpList}
-use Rattle.air_model.specs.Past.{Start, Record, Item, exchanged, operated, ended, next_record, past_behind_command, rounds_in}
-use Rattle.reply_grammar.specs.Reception.{Reception}
-use Rattle.runs.specs.Headline.{IsSelect, IsLegalStep, AreLegalSteps, begins_slot, begins_slot_of, slot_records, rounds_of}
-use Rattle.runs.specs.History.{outcome_of, operation_reception, past_behind_dialogue, dialogue_begun, ack_reception, past_behind_ack, past_behind_answer, slot_reception, past_behind_round, past_behind_step, past_behind, history_of}
-use Rattle.runs.specs.NextItem.{finished_in, reception_of_slot, outcomes_of_round, rn_of, rn_received, item_by_rule, dialogue_behind_record, dialogue_behind_result, dialogue_behind_exchange, dialogue_left, results_behind_exchange, results_told_in, item_of_slots, item_in_round, item_of_step, next_item, GrowsByNext}
+use Rattle.runs.proofs.Names.{◌≡◌, ℕ, suc, ◌+◌, ◌==◌, Bool, true, false, List, [], ◌∷◌, ◌++◌, length, map, Option, Some, None, slice_get, refl, ap, sym, ◌∙◌, subst, arith, add-one, ne_eqb, eq-eqb}
+use Rattle.runs.proofs.Names.{◌⊎◌, inl, inr, append-nil, AwaitsReplies, Expects, Dialogue, sends, tells, done, OpList, Start, Record, Item, exchanged, operated, ended, next_record}
+use Rattle.runs.proofs.Names.{past_behind_command, rounds_in, Reception, IsSelect, IsLegalStep, AreLegalSteps, begins_slot, begins_slot_of, slot_records, rounds_of, outcome_of, operation_reception}
+use Rattle.runs.proofs.Names.{past_behind_dialogue, dialogue_begun, ack_reception, past_behind_ack, past_behind_answer, slot_reception, past_behind_round, past_behind_step, past_behind, history_of}
+use Rattle.runs.proofs.Names.{finished_in, reception_of_slot, outcomes_of_round, rn_of, rn_received, item_by_rule, dialogue_behind_record, dialogue_behind_result, dialogue_behind_exchange}
+use Rattle.runs.proofs.Names.{dialogue_left, results_behind_exchange, results_told_in, item_of_slots, item_in_round, item_of_step, next_item, GrowsByNext, Command, SpecValue, IsLegalSpec, Outcome}
+use Rattle.runs.proofs.Names.{Next, RoundEnd, Expect, Step}
+use Rattle.command_grammar.specs.declared.commands.Command.TheVariants as commands
+use Rattle.q_round.specs.declared.round.RoundEnd.TheVariants as round_ends
+use Rattle.scenario.specs.declared.values.Step.TheVariants as steps
 use Rattle.runs.proofs.Growth.{Grows, grows-more, RoundsKeepLimit, dialogue-holds, begun-awaits, answer-cases, next_at_end, round-holds}
 use Rattle.runs.proofs.HeadlineLines.{and-true}
 use Rattle.runs.proofs.HeadlineSlots.{no-slots, next-begins, expects-begins-none}
 use Rattle.runs.proofs.OtherRounds.{Adds, adds-none, adds-on, step-adds}
 use Rattle.runs.proofs.RoundsAmong.{none-of-later}
-use Rattle.command_grammar.specs.declared.commands.Command.{Command}
-use Rattle.command_grammar.specs.declared.commands.Command.TheVariants as commands
-use Rattle.q_round.specs.SpecValue.{SpecValue, IsLegalSpec}
-use Rattle.q_round.specs.declared.frame.Outcome.{Outcome}
-use Rattle.q_round.specs.declared.round.Next.{Next}
-use Rattle.q_round.specs.declared.round.RoundEnd.{RoundEnd}
-use Rattle.q_round.specs.declared.round.RoundEnd.TheVariants as round_ends
-use Rattle.reply_grammar.specs.declared.expected.Expect.{Expect}
-use Rattle.scenario.specs.declared.values.Step.{Step}
-use Rattle.scenario.specs.declared.values.Step.TheVariants as steps
 
 -- a round that is under way: the step of a run that it is, behind so many finished steps and so many ended rounds
 record UnderWay : Type 0 where

@@ -1,16 +1,8 @@
 -- The lines for the results of operations in a report are those of its history.
-use Rattle.std.proofs.Common.{◌≡◌, List, [], ◌∷◌, ◌++◌, filter, refl, ap, ◌∙◌}
-use Rattle.std.proofs.lemmas.List.Elements.{filter-append}
-use Rattle.air_model.specs.Past.{Start, Item, exchanged, operated}
-use Rattle.runs.specs.Headline.{is_op_line, op_lines}
-use Rattle.runs.specs.History.{history_of}
-use Rattle.runs.specs.Report.{past_lines, last_lines, run_lines, report_of}
-use Rattle.report_lines.specs.declared.mode.Mode.{Mode}
+use Rattle.runs.proofs.Names.{◌≡◌, List, [], ◌∷◌, ◌++◌, filter, refl, ap, ◌∙◌, filter-append, Start, Item, exchanged, operated, is_op_line, op_lines, history_of, past_lines, last_lines, run_lines}
+use Rattle.runs.proofs.Names.{report_of, Mode, Step, LinkValue, ReportLine, OpLine}
 use Rattle.runs.proofs.HeadlineKept.{kept-pass}
-use Rattle.scenario.specs.declared.values.Step.{Step}
 use Rattle.runs.proofs.HeadlineLines.{PassesNoTrace, PassesFew, sent-adds-none, item-passes, run-passes}
-use Rattle.pie_line.specs.Link.{LinkValue}
-use Rattle.report_lines.specs.ReportLine.{ReportLine, OpLine}
 
 op-no-trace : PassesNoTrace is_op_line
 op-no-trace (OpLine round slot index result) is = absurd (cc)

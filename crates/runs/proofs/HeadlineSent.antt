@@ -1,35 +1,21 @@
 -- Each list line is what a present tag sent, where no raw stream is given: from what the channel gave to a reply, and from the
 -- reply to the tag with its number.
-use Rattle.std.proofs.Common.{◌≡◌, ℕ, zero, suc, ◌+◌, Bool, true, false, inl, inr, List, [], ◌∷◌, Contains, Option, Some, None, slice_get, if◌then◌else◌, refl, ap, sym, ◌∙◌, subst, arith}
-use Rattle.tag_machine.specs.TagsInExchange.{replies_in, Replied, is_missed, outcome_unless, tag_after_events}
-use Rattle.air_model.specs.Channel.{given_in, Given, whole, broken, raw, whole_or_silence, first_broken, default_given, given_of, IsOfReplies}
-use Rattle.air_model.specs.Past.{Start, Record, Item, tag_behind, tags_behind, next_entry, next_record, hearers_of}
-use Rattle.air_model.specs.Reception.{is_expected, reception_of}
-use Rattle.reply_grammar.specs.Reception.{whole_reply, no_such_reply}
-use Rattle.air_events.specs.declared.Choice.{Choice}
+use Rattle.runs.proofs.Names.{◌≡◌, ℕ, zero, suc, ◌+◌, Bool, true, false, inl, inr, List, [], ◌∷◌, Contains, Option, Some, None, slice_get, if◌then◌else◌, refl, ap, sym, ◌∙◌, subst, arith, replies_in}
+use Rattle.runs.proofs.Names.{Replied, is_missed, outcome_unless, tag_after_events, given_in, Given, whole, broken, raw, whole_or_silence, first_broken, default_given, given_of, IsOfReplies, Start}
+use Rattle.runs.proofs.Names.{Record, Item, tag_behind, tags_behind, next_entry, next_record, hearers_of, is_expected, reception_of, whole_reply, no_such_reply, Choice, Entry, Several, AreLegalSteps}
+use Rattle.runs.proofs.Names.{Acknowledges, tag_in_exchange, IsFromTag, IsGivenWhole, IsSentByATag, HasNoRawStream, history_of, Listed, Command, LinkValue, Reply, Step, Sent, step, TagValue}
+use Rattle.runs.proofs.Names.{StateValue, BodyValue, KilledState, UnpoweredState, is_present}
 use Rattle.air_events.specs.declared.Choice.TheVariants as choices
-use Rattle.air_events.specs.declared.Entry.{Entry}
-use Rattle.air_events.specs.declared.Several.{Several}
 use Rattle.air_events.specs.declared.Several.TheVariants as severals
-use Rattle.runs.specs.Headline.{AreLegalSteps, Acknowledges, tag_in_exchange, IsFromTag, IsGivenWhole, IsSentByATag, HasNoRawStream}
-use Rattle.runs.specs.History.{history_of}
-use Rattle.runs.specs.Listing.{Listed}
+use Rattle.command_grammar.specs.declared.commands.Command.TheVariants as commands
+use Rattle.reply_grammar.specs.declared.expected.Expect.TheVariants as expects
+use Rattle.reply_grammar.specs.declared.expected.Reply.TheVariants as replies
 use Rattle.runs.proofs.Growth.{RoundsKeepLimit}
 use Rattle.runs.proofs.Among.{Among, contains-of}
 use Rattle.runs.proofs.HeadlineListed.{IsTold}
 use Rattle.runs.proofs.HeadlineTold.{told-ack}
 use Rattle.runs.proofs.MadeRecords.{made-record, none-given}
 use Rattle.runs.proofs.Population.{answerer}
-use Rattle.command_grammar.specs.declared.commands.Command.{Command}
-use Rattle.command_grammar.specs.declared.commands.Command.TheVariants as commands
-use Rattle.pie_line.specs.Link.{LinkValue}
-use Rattle.reply_grammar.specs.declared.expected.Expect.TheVariants as expects
-use Rattle.reply_grammar.specs.declared.expected.Reply.{Reply}
-use Rattle.reply_grammar.specs.declared.expected.Reply.TheVariants as replies
-use Rattle.scenario.specs.declared.values.Step.{Step}
-use Rattle.tag_machine.specs.Answers.{Sent}
-use Rattle.tag_machine.specs.Step.{step}
-use Rattle.tag_machine.specs.TagValue.{TagValue, StateValue, BodyValue, ReadyState, ArbitrateState, ReplyState, AcknowledgedState, OpenState, SecuredState, KilledState, UnpoweredState, is_present}
 
 among-get : {A : Type 0} (list : List A) (place : ℕ) (item : A) → slice_get list place ≡ Some item → Among item list
 among-get [] place item is = absurd (cc)
@@ -70,14 +56,9 @@ hears false command tag sent answered = record { not_missed = refl; answered = a
 
 -- who answers an ACK is present
 answers-present : (rn : ℕ) (state : StateValue) (body : BodyValue) (sent : Sent) → (step (commands.Ack rn) state body).answer ≡ Some sent → is_present state ≡ true
-answers-present rn ReadyState body sent answered = refl
-answers-present rn (ArbitrateState session q slot) body sent answered = refl
-answers-present rn (ReplyState session q rn16) body sent answered = refl
-answers-present rn (AcknowledgedState session q rn16) body sent answered = refl
-answers-present rn (OpenState held) body sent answered = refl
-answers-present rn (SecuredState held) body sent answered = refl
 answers-present rn KilledState body sent answered = absurd (cc)
 answers-present rn UnpoweredState body sent answered = absurd (cc)
+answers-present rn state body sent answered = refl
 
 -- what a record of an ACK gives whole is from a tag
 pub from-tag : (start : Start) (sent : Record) (earlier : List Item) (rn : ℕ) (replied : Replied) → sent ≡ next_record start sent.round sent.slot sent.command earlier

@@ -1,28 +1,16 @@
 -- How many slot commands a round has: at most its limit, as many as its line says, and no other round adds to them.
-use Rattle.std.proofs.Common.{◌≡◌, ◌≢◌, ℕ, suc, ◌+◌, ◌≤◌, ◌==◌, Bool, true, false, List, [], ◌∷◌, ◌++◌, length, filter, if◌then◌else◌, refl, ap, sym, ◌∙◌, subst, append-nil, ne_eqb, eq-eqb}
-use Rattle.std.proofs.lemmas.List.Elements.{filter-append}
-use Rattle.access_ops.specs.laws.OperationLaws.{Expects}
-use Rattle.air_model.specs.Past.{Record, Item, exchanged, operated, ended, next_record}
-use Rattle.runs.specs.Headline.{AreLegalSteps, is_round_line, begins_slot, begins_slot_of, slot_records, rounds_of, KeepsLimit}
-use Rattle.runs.specs.History.{history_of}
-use Rattle.runs.specs.Report.{past_lines, last_lines, run_lines}
+use Rattle.runs.proofs.Names.{◌≡◌, ◌≢◌, ℕ, suc, ◌+◌, ◌≤◌, ◌==◌, Bool, true, false, List, [], ◌∷◌, ◌++◌, length, filter, if◌then◌else◌, refl, ap, sym, ◌∙◌, subst, append-nil, ne_eqb, eq-eqb}
+use Rattle.runs.proofs.Names.{filter-append, Expects, Record, Item, exchanged, operated, ended, next_record, AreLegalSteps, is_round_line, begins_slot, begins_slot_of, slot_records, rounds_of}
+use Rattle.runs.proofs.Names.{KeepsLimit, history_of, past_lines, last_lines, run_lines, Command, LinkValue, SpecValue, IsLegalSpec, Turn, quiet, limit, turn_of, next_of_turn, next_command, Outcome}
+use Rattle.runs.proofs.Names.{Next, RoundEnd, Expect, ReportLine, RoundLine}
+use Rattle.command_grammar.specs.declared.commands.Command.TheVariants as commands
+use Rattle.q_round.specs.declared.round.Next.TheVariants as nexts
 use Rattle.runs.proofs.HeadlineLines.{round-lines-pass, sent-adds-none, item-passes, run-passes, and-false, and-true}
 use Rattle.runs.proofs.Growth.{RoundsKeepLimit, few-outcomes}
 use Rattle.runs.proofs.OtherRounds.{AreOfOthers}
 use Rattle.runs.proofs.PlayedRounds.{PlayedRound, number_of, past_behind_played}
 use Rattle.runs.proofs.RoundsAmong.{RoundAmong, steps_around, played, stands-among}
 use Rattle.runs.proofs.Turns.{round-holds}
-use Rattle.command_grammar.specs.declared.commands.Command.{Command}
-use Rattle.command_grammar.specs.declared.commands.Command.TheVariants as commands
-use Rattle.pie_line.specs.Link.{LinkValue}
-use Rattle.q_round.specs.SpecValue.{SpecValue, IsLegalSpec}
-use Rattle.q_round.specs.Rounds.{Turn, query, adjust, rep, quiet, limit, turn_of, next_of_turn, next_command}
-use Rattle.q_round.specs.declared.frame.Outcome.{Outcome}
-use Rattle.q_round.specs.declared.round.Next.{Next}
-use Rattle.q_round.specs.declared.round.Next.TheVariants as nexts
-use Rattle.q_round.specs.declared.round.RoundEnd.{RoundEnd}
-use Rattle.reply_grammar.specs.declared.expected.Expect.{Expect}
-use Rattle.report_lines.specs.ReportLine.{ReportLine, RoundLine}
 
 -- the lines for the end of a round among the lines of a past
 abbrev pub round_lines : LinkValue → ℕ → List Item → List ReportLine
@@ -71,11 +59,9 @@ sends_slot nexts.Quiet = false
 sends_slot nexts.Limit = false
 
 answer-begins : (spec : SpecValue) (link : LinkValue) (turn : Turn) (command : Command) → next_of_turn spec link turn ≡ nexts.Send command → begins_slot command ≡ true
-answer-begins spec link query command sends = sym (ap sends_slot sends)
-answer-begins spec link (adjust updn) command sends = sym (ap sends_slot sends)
-answer-begins spec link rep command sends = sym (ap sends_slot sends)
 answer-begins spec link quiet command sends = absurd (cc)
 answer-begins spec link limit command sends = absurd (cc)
+answer-begins spec link turn command sends = sym (ap sends_slot sends)
 
 -- what a round sends next begins a slot
 pub next-begins : (spec : SpecValue) (link : LinkValue) (outcomes : List Outcome) (command : Command)

@@ -1,19 +1,9 @@
 -- The tag lines of a report are those of each tag as it stands in the end.
-use Rattle.std.proofs.Common.{◌≡◌, ℕ, ◌+◌, List, [], ◌∷◌, ◌++◌, map, filter, refl, ap, ◌∙◌}
-use Rattle.std.proofs.lemmas.List.Elements.{filter-append}
-use Rattle.air_model.specs.Past.{Start, Item, exchanged, tag_behind, tags_behind_from}
-use Rattle.runs.specs.Headline.{is_tag_line, tag_lines_behind}
-use Rattle.runs.specs.Listing.{listed_by, listing_of}
-use Rattle.runs.specs.Report.{exchange_lines, list_line, item_lines, past_lines, tag_lines, last_lines, run_lines, report_of}
+use Rattle.runs.proofs.Names.{◌≡◌, ℕ, ◌+◌, List, [], ◌∷◌, ◌++◌, map, filter, refl, ap, ◌∙◌, filter-append, Start, Item, exchanged, tag_behind, tags_behind_from, is_tag_line, tag_lines_behind}
+use Rattle.runs.proofs.Names.{listed_by, listing_of, exchange_lines, list_line, item_lines, past_lines, tag_lines, last_lines, run_lines, report_of, Mode, history_of, Step, LinkValue, ReportLine}
+use Rattle.runs.proofs.Names.{SeenLine, TagLine, DoneLine, SeenCount, seen_counts, TagValue}
 use Rattle.runs.proofs.HeadlineKept.{kept-pass}
 use Rattle.runs.proofs.HeadlineLines.{PassesNoTrace, no-exchange, no-listed}
-use Rattle.report_lines.specs.declared.mode.Mode.{Mode}
-use Rattle.runs.specs.History.{history_of}
-use Rattle.scenario.specs.declared.values.Step.{Step}
-use Rattle.pie_line.specs.Link.{LinkValue}
-use Rattle.report_lines.specs.ReportLine.{ReportLine, SeenLine, TagLine, DoneLine}
-use Rattle.report_lines.specs.SeenCounts.{SeenCount, seen_counts}
-use Rattle.tag_machine.specs.TagValue.{TagValue}
 
 tag-no-trace : PassesNoTrace is_tag_line
 tag-no-trace (TagLine number tag) is = absurd (cc)

@@ -1,27 +1,15 @@
 -- Each list line is that of one record: from the line to the record, and to what came whole in reply to its ACK.
-use Rattle.std.proofs.Common.{◌≡◌, ◌==◌, inl, inr, true, List, [], ◌∷◌, ◌++◌, map, filter, Contains, refl, ap, subst, eq-eqb}
-use Rattle.air_model.specs.Past.{Start, Record, Item, exchanged, tags_behind}
-use Rattle.air_model.specs.Reception.{reception_of}
-use Rattle.reply_grammar.specs.Reception.{Reception, no_stream, whole_reply, no_such_reply}
-use Rattle.runs.specs.Headline.{AreLegalSteps, IsAckOf, is_list_line}
-use Rattle.runs.specs.History.{history_of}
-use Rattle.runs.specs.Listing.{Listed, reception_of_ack, listed_from, listed_by, listing_of}
-use Rattle.runs.specs.Report.{first_lines, exchange_lines, list_line, item_lines, past_lines, last_lines, run_lines, report_of}
-use Rattle.report_lines.specs.ModeLines.{keeps}
-use Rattle.report_lines.specs.declared.mode.Mode.{Mode}
+use Rattle.runs.proofs.Names.{◌≡◌, ◌==◌, inl, inr, true, List, [], ◌∷◌, ◌++◌, map, filter, Contains, refl, ap, subst, eq-eqb, Start, Record, Item, exchanged, tags_behind, reception_of, Reception}
+use Rattle.runs.proofs.Names.{no_stream, whole_reply, no_such_reply, AreLegalSteps, IsAckOf, is_list_line, history_of, Listed, reception_of_ack, listed_from, listed_by, listing_of, first_lines}
+use Rattle.runs.proofs.Names.{exchange_lines, list_line, item_lines, past_lines, last_lines, run_lines, report_of, keeps, Mode, Command, LinkValue, ReportLine, seen_counts, Step}
+use Rattle.command_grammar.specs.declared.commands.Command.TheVariants as commands
+use Rattle.reply_grammar.specs.declared.expected.Expect.TheVariants as expects
+use Rattle.reply_grammar.specs.declared.expected.Reply.TheVariants as replies
 use Rattle.runs.proofs.Growth.{RoundsKeepLimit}
 use Rattle.runs.proofs.Among.{Among, among-filter, among-of, among-split}
 use Rattle.runs.proofs.HeadlineLines.{and-true, list-lines-pass, list-no-trace, no-exchange, no-last}
 use Rattle.runs.proofs.HeadlineKept.{among-kept}
 use Rattle.runs.proofs.HeadlineListed.{Tells, IsTold, one-ack}
-use Rattle.command_grammar.specs.declared.commands.Command.{Command}
-use Rattle.command_grammar.specs.declared.commands.Command.TheVariants as commands
-use Rattle.pie_line.specs.Link.{LinkValue}
-use Rattle.reply_grammar.specs.declared.expected.Expect.TheVariants as expects
-use Rattle.reply_grammar.specs.declared.expected.Reply.TheVariants as replies
-use Rattle.report_lines.specs.ReportLine.{ReportLine}
-use Rattle.report_lines.specs.SeenCounts.{seen_counts}
-use Rattle.scenario.specs.declared.values.Step.{Step}
 
 -- a line is what a record lists of what came
 record IsLineOf (sent : Record) (reception : Reception) (listed : Listed) : Type 0 where
@@ -109,15 +97,7 @@ told-ack keeps start steps listed legal told = record {
   rn = told.tells.rn;
   acknowledges = told.tells.acknowledges;
   only = λ other other_earlier other_rn recorded acknowledges same_round same_slot.
-      one-ack keeps start steps listed.round listed.slot legal
+      one-ack keeps start steps listed legal
       (record { sent = other; earlier = other_earlier; recorded = recorded; rn = other_rn; acknowledges = acknowledges; round_is = same_round; slot_is = same_slot })
-      (record {
-        sent = told.sent;
-        earlier = told.earlier;
-        recorded = told.recorded;
-        rn = told.tells.rn;
-        acknowledges = told.tells.acknowledges;
-        round_is = told.tells.round_is;
-        slot_is = told.tells.slot_is;
-      });
+      told;
 }

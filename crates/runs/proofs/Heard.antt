@@ -1,33 +1,16 @@
 -- What the interrogator hears of a slot command, of which nothing is said, tells who answered it; and whom an ACK lists.
-use Rattle.std.proofs.Common.{◌≡◌, ℕ, ◌+◌, ◌==◌, inl, inr, Bool, true, false, List, [], ◌∷◌, Option, Some, None, slice_get, if◌then◌else◌, refl, ap, sym, ◌∙◌, subst, arith, eq-eqb}
-use Rattle.std.proofs.lemmas.Bool.{eqb-true}
-use Rattle.air_model.specs.Channel.{given_in, Given, whole, default_given}
-use Rattle.tag_machine.specs.TagsInExchange.{Replied}
-use Rattle.air_model.specs.Past.{Start, Item, tag_behind, tags_behind, next_entry, next_record}
-use Rattle.air_model.specs.Reception.{is_expected, reception_of}
-use Rattle.reply_grammar.specs.Reception.{Reception, whole_reply, no_such_reply}
-use Rattle.air_events.specs.Entries.{no_entry}
-use Rattle.air_events.specs.declared.Entry.{Entry}
-use Rattle.air_events.specs.declared.Several.{Several}
+use Rattle.runs.proofs.Names.{◌≡◌, ℕ, ◌+◌, ◌==◌, inl, inr, Bool, true, false, List, [], ◌∷◌, Option, Some, None, slice_get, if◌then◌else◌, refl, ap, sym, ◌∙◌, subst, arith, eq-eqb, eqb-true, given_in}
+use Rattle.runs.proofs.Names.{Given, whole, default_given, Replied, Start, Item, tag_behind, tags_behind, next_entry, next_record, is_expected, reception_of, Reception, whole_reply, no_such_reply}
+use Rattle.runs.proofs.Names.{no_entry, Entry, Several, outcome_of, slot_reception, listed_from, listed_by, Command, HasNumber, AreApart, sender_where, sender_listed_by, listed_as, slot_answer_of}
+use Rattle.runs.proofs.Names.{is_acknowledged_by, Reply, Sent, epc_reply, TagValue, StateValue, BodyValue, ReplyState}
 use Rattle.air_events.specs.declared.Several.TheVariants as severals
-use Rattle.runs.specs.History.{outcome_of, slot_reception}
-use Rattle.runs.specs.Listing.{listed_from, listed_by}
-use Rattle.command_grammar.specs.declared.commands.Command.{Command}
 use Rattle.command_grammar.specs.declared.commands.Command.TheVariants as commands
-use Rattle.runs.specs.Complete.{HasNumber}
-use Rattle.runs.specs.Honest.{AreApart}
-use Rattle.runs.specs.Listed.{sender_where, sender_listed_by, listed_as}
-use Rattle.runs.specs.TagInRound.{slot_answer_of, is_acknowledged_by}
+use Rattle.q_round.specs.declared.frame.Outcome.TheVariants as outcomes
+use Rattle.reply_grammar.specs.declared.expected.Expect.TheVariants as expects
+use Rattle.reply_grammar.specs.declared.expected.Reply.TheVariants as replies
 use Rattle.runs.proofs.Among.{Among, contains-of}
 use Rattle.runs.proofs.HeadlineSent.{whole-reply}
 use Rattle.runs.proofs.Population.{answer_behind, reply_by, replies_behind, answer-replied, Answerer, answerer}
-use Rattle.q_round.specs.declared.frame.Outcome.TheVariants as outcomes
-use Rattle.reply_grammar.specs.declared.expected.Expect.TheVariants as expects
-use Rattle.reply_grammar.specs.declared.expected.Reply.{Reply}
-use Rattle.reply_grammar.specs.declared.expected.Reply.TheVariants as replies
-use Rattle.tag_machine.specs.Answers.{Sent}
-use Rattle.tag_machine.specs.Inventory.{epc_reply}
-use Rattle.tag_machine.specs.TagValue.{TagValue, StateValue, BodyValue, ReplyState}
 
 -- where nothing is said of an exchange, the channel goes by its default
 pub slot-heard : (start : Start) (round slot : ℕ) (command : Command) (past : List Item) (reception : Reception) → next_entry start past ≡ no_entry

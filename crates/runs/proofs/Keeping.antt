@@ -1,16 +1,10 @@
 -- What the commands of a round without operations keep of a tag: its memory, its locks, and that it is present.
-use Rattle.std.proofs.Common.{◌≡◌, ℕ, Bool, true, false, refl, ◌∙◌}
-use Rattle.std.specs.Prelude.{◌==◌, Option, Some, None, if◌then◌else◌}
-use Rattle.command_fields.specs.declared.choices.Sel.{Sel}
-use Rattle.command_fields.specs.declared.choices.Side.{Side}
-use Rattle.command_fields.specs.declared.choices.UpDn.{UpDn}
+use Rattle.runs.proofs.Names.{◌≡◌, ℕ, Bool, true, false, refl, ◌∙◌, ◌==◌, Option, Some, None, if◌then◌else◌, Sel, Side, UpDn, enter, slot_of_draw, ack, end_turn, q_after_adjust, query_adjust}
+use Rattle.runs.proofs.Names.{query_rep, slot_below, unless_half, StateValue, ReadyState, ArbitrateState, ReplyState, AcknowledgedState, OpenState, SecuredState, KilledState, UnpoweredState}
+use Rattle.runs.proofs.Names.{BodyValue, TagValue, is_present, Half, Held}
 use Rattle.tag_machine.specs.Answers.{Outcome}
-use Rattle.tag_machine.specs.Draws.{enter, slot_of_draw}
-use Rattle.tag_machine.specs.Inventory.{ack, end_turn, q_after_adjust, query, query_adjust, query_rep, slot_below, unless_half}
-use Rattle.tag_machine.specs.TagValue.{StateValue, ReadyState, ArbitrateState, ReplyState, AcknowledgedState, OpenState, SecuredState, KilledState, UnpoweredState, BodyValue, TagValue, is_present}
+use Rattle.tag_machine.specs.Inventory.{query}
 use Rattle.runs.proofs.TagQuery.{query-begins}
-use Rattle.tag_machine.specs.declared.states.Half.{Half}
-use Rattle.tag_machine.specs.declared.states.Held.{Held}
 
 -- what a tag keeps
 pub record Keeps (before after : TagValue) : Type 0 where

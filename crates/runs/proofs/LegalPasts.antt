@@ -1,64 +1,24 @@
 -- The tags behind each past of a history are legal, since each command that is sent has its numbers in their fields.
-use Rattle.std.proofs.Common.{◌≡◌, ℕ, ◌+◌, Bool, true, false, ◌&&◌, ◌||◌, List, [], ◌∷◌, ◌++◌, length, Some, if◌then◌else◌, refl, ap, sym, ◌∙◌, subst}
-use Rattle.std.proofs.lemmas.Bool.{and_parts}
-use Rattle.std.proofs.lemmas.List.Elements.{recursion_from_All}
-use Rattle.std.specs.List.{AllByRecursion}
-use Rattle.access_ops.specs.laws.OperationLaws.{IsLegalOp}
-use Rattle.access_ops.specs.Operations.{Dialogue, dialogue_of, dialogue_after, dialogue_behind, first_of, next_operation, reception_in, Move, answered, told, IsAnswerFor, IsMoveFor, AreMoves}
-use Rattle.access_ops.specs.declared.OpList.{OpList}
-use Rattle.access_ops.specs.declared.op_next.Answer.{Answer}
-use Rattle.access_ops.specs.declared.op_next.Answer.TheVariants.{Silence, Got}
-use Rattle.access_ops.specs.declared.op_next.OpNext.{OpNext}
-use Rattle.access_ops.specs.declared.op_next.OpNext.TheVariants.{Send, Result}
-use Rattle.access_ops.specs.declared.op_next.OpResult.{OpResult}
-use Rattle.tag_machine.specs.TagsInExchange.{AreLegalTags, outcome_unless, outcomes_from, tags_after, tags_after_event, tag_after_events, is_missed}
-use Rattle.air_model.specs.Channel.{given_in, Given, whole, raw}
-use Rattle.air_model.specs.Past.{Start, Record, Item, befell, exchanged, operated, ended, next_record, next_entry, past_behind_command, rounds_in, tags_behind, tags_behind_from}
-use Rattle.air_model.specs.Reception.{has_handle, has_preamble, is_expected, reception_of, reception_with, IsGiven}
-use Rattle.air_events.specs.declared.Entry.{Entry}
-use Rattle.air_events.specs.declared.Event.{Event}
-use Rattle.air_model.proofs.ReceptionLaws.{from_whole}
-use Rattle.bit_strings.specs.declared.code.Code.{Code}
+use Rattle.runs.proofs.Names.{◌≡◌, ℕ, ◌+◌, Bool, true, false, ◌&&◌, ◌||◌, List, [], ◌∷◌, ◌++◌, length, Some, if◌then◌else◌, refl, ap, sym, ◌∙◌, subst, and_parts, recursion_from_All, AllByRecursion}
+use Rattle.runs.proofs.Names.{IsLegalOp, Dialogue, dialogue_of, dialogue_after, dialogue_behind, first_of, next_operation, reception_in, Move, answered, told, IsAnswerFor, IsMoveFor, AreMoves, OpList}
+use Rattle.runs.proofs.Names.{Answer, Got, OpNext, Send, Result, OpResult, AreLegalTags, outcome_unless, outcomes_from, tags_after, tags_after_event, tag_after_events, is_missed, given_in, Given}
+use Rattle.runs.proofs.Names.{whole, raw, Start, Record, Item, befell, exchanged, operated, ended, next_record, next_entry, past_behind_command, rounds_in, tags_behind, tags_behind_from, has_handle}
+use Rattle.runs.proofs.Names.{has_preamble, is_expected, reception_of, reception_with, IsGiven, Entry, Event, from_whole, Code, StaysLegal, events-legal, IsRecordOf, operation_reception}
+use Rattle.runs.proofs.Names.{past_behind_dialogue, ack_reception, past_behind_ack, slot_reception, past_behind_slot, past_behind_round, past_behind_step, start_of, history, IsWord, IsLegalCommand}
+use Rattle.runs.proofs.Names.{Command, table_of, LinkValue, IsLegalNext, next_command, SpecValue, IsLegalSpec, Outcome, RoundEnd, Reception, no_stream, whole_reply, no_such_reply, reception_from}
+use Rattle.runs.proofs.Names.{suits-true, Suits, suits, handle_of, IsReply, Expect, Received, Refused, Reply, IsReceived, received_of, received_there, tags_of, IsStep, IsScenario, Scenario, Step}
+use Rattle.runs.proofs.Names.{Version, Sent, IsSent, step, TagValue, StateValue, BodyValue, IsLegalTag}
+use Rattle.command_grammar.specs.declared.commands.Command.TheVariants as commands
+use Rattle.reply_grammar.specs.declared.expected.Expect.TheVariants as expects
+use Rattle.reply_grammar.specs.declared.expected.Reply.TheVariants as replies
+use Rattle.scenario.specs.declared.values.Step.TheVariants as steps
+use Rattle.access_ops.specs.declared.op_next.Answer.TheVariants.{Silence}
 use Rattle.runs.proofs.Answering.{SendsInRange, given-of-answers}
 use Rattle.runs.proofs.Growth.{RoundsKeepLimit, dialogue-holds, listing-holds, answer-holds, round-holds, steps-hold}
 use Rattle.runs.proofs.PlayedRounds.{SlotOfRun}
 use Rattle.runs.proofs.LegalStart.{CopiesAreTags, start-legal, selection-legal}
-use Rattle.runs.specs.laws.Replies.{StaysLegal, events-legal}
 use Rattle.runs.proofs.Tags.{tags-exchanged, tags-befell, tags-operated, tags-ended}
-use Rattle.runs.specs.Headline.{IsRecordOf}
-use Rattle.runs.specs.History.{operation_reception, past_behind_dialogue, ack_reception, past_behind_ack, slot_reception, past_behind_slot, past_behind_round, past_behind_step}
-use Rattle.runs.specs.ScenarioStart.{start_of, history}
-use Rattle.command_grammar.specs.Commands.{IsWord, IsLegalCommand}
-use Rattle.command_grammar.specs.declared.commands.Command.{Command}
-use Rattle.command_grammar.specs.declared.commands.Command.TheVariants as commands
-use Rattle.reply_wire.specs.Codes.{table_of}
-use Rattle.pie_line.specs.Link.{LinkValue}
-use Rattle.q_round.specs.laws.RoundLaws.{IsLegalNext}
-use Rattle.q_round.specs.Rounds.{next_command}
-use Rattle.q_round.specs.SpecValue.{SpecValue, IsLegalSpec}
-use Rattle.q_round.specs.declared.frame.Outcome.{Outcome}
-use Rattle.q_round.specs.declared.round.RoundEnd.{RoundEnd}
-use Rattle.reply_grammar.specs.Reception.{Reception, no_stream, whole_reply, no_such_reply, reception_from}
-use Rattle.reply_grammar.proofs.Suiting.{suits-true}
-use Rattle.reply_grammar.specs.Replies.{Suits, suits, handle_of, IsReply}
-use Rattle.reply_grammar.specs.declared.expected.Expect.{Expect}
-use Rattle.reply_grammar.specs.declared.expected.Expect.TheVariants as expects
-use Rattle.reply_grammar.specs.declared.expected.Received.{Received}
-use Rattle.reply_grammar.specs.declared.expected.Received.TheVariants.{Whole, Refused}
-use Rattle.reply_grammar.specs.declared.expected.Reply.{Reply}
-use Rattle.reply_grammar.specs.declared.expected.Reply.TheVariants as replies
-use Rattle.reply_wire.specs.Received.{IsReceived}
-use Rattle.reply_wire.specs.Receiving.{received_of}
-use Rattle.reply_wire.proofs.ReceivedLaws.{received_there}
-use Rattle.scenario.specs.Groups.{tags_of}
-use Rattle.scenario.specs.Limits.{IsStep, IsScenario}
-use Rattle.scenario.specs.declared.values.Scenario.{Scenario}
-use Rattle.scenario.specs.declared.values.Step.{Step}
-use Rattle.scenario.specs.declared.values.Step.TheVariants as steps
-use Rattle.scenario_lines.specs.declared.version.Version.{Version}
-use Rattle.tag_machine.specs.Answers.{Sent, IsSent}
-use Rattle.tag_machine.specs.Step.{step}
-use Rattle.tag_machine.specs.TagValue.{TagValue, StateValue, BodyValue, IsLegalTag}
+use Rattle.reply_grammar.specs.declared.expected.Received.TheVariants.{Whole}
 
 -- the laws of tags, of rounds and of operations that this goes by
 abbrev pub HeardLegal : Type 0

@@ -1,30 +1,9 @@
 -- The tags of a scenario are legal at its start, and its steps are legal.
-use Rattle.std.proofs.Common.{ℕ, ◌/◌, ◌%◌, ◌^◌, ◌<◌, List, [], ◌∷◌, map, subst, arith}
-use Rattle.std.proofs.lemmas.List.Elements.{All-cons, All-from_recursion, recursion_from_All}
-use Rattle.std.specs.List.{AllByRecursion}
-use Rattle.std.specs.Prelude.{All}
-use Rattle.tag_machine.specs.TagsInExchange.{AreLegalTags}
-use Rattle.runs.specs.ScenarioStart.{start_of, scenario_tag}
-use Rattle.bit_strings.specs.laws.NumbersInBits.{value_of-below}
-use Rattle.bit_strings.specs.Words.{bits_of_words}
-use Rattle.command_grammar.specs.Commands.{IsWord, IsLegalCommand}
-use Rattle.command_grammar.specs.declared.commands.Command.{Command}
+use Rattle.runs.proofs.Names.{ℕ, ◌/◌, ◌%◌, ◌^◌, ◌<◌, List, [], ◌∷◌, map, subst, arith, All-cons, All-from_recursion, recursion_from_All, AllByRecursion, All, AreLegalTags, start_of, scenario_tag}
+use Rattle.runs.proofs.Names.{value_of-below, bits_of_words, IsWord, IsLegalCommand, Command, crc16_of, length-crc16_of, AreWords, tags_of, IsGroup, IsStep, IsScenario, Scenario, TagGroup, Version}
+use Rattle.runs.proofs.Names.{IsTag, banks-legal, TagSpec, IsLegalTag, banks_of, image_banks, Banks, AreBanksOfWords, pc_of, epc_of, stored_crc_of}
 use Rattle.command_grammar.specs.declared.commands.Command.TheVariants as commands
-use Rattle.gen2_crc.specs.Crc.{crc16_of}
-use Rattle.gen2_crc.specs.laws.CheckNumbers.{length-crc16_of}
-use Rattle.reply_grammar.specs.Replies.{AreWords}
-use Rattle.scenario.specs.Groups.{tags_of}
-use Rattle.scenario.specs.Limits.{IsGroup, IsStep, IsScenario}
-use Rattle.scenario.specs.declared.values.Scenario.{Scenario}
 use Rattle.scenario.specs.declared.values.Step.TheVariants as steps
-use Rattle.scenario.specs.declared.values.TagGroup.{TagGroup}
-use Rattle.scenario_lines.specs.declared.version.Version.{Version}
-use Rattle.scenario_lines.specs.TagForm.{IsTag}
-use Rattle.scenario_lines.proofs.TagLaws.{banks-legal}
-use Rattle.scenario_lines.specs.declared.tag.TagSpec.{TagSpec}
-use Rattle.tag_machine.specs.TagValue.{IsLegalTag}
-use Rattle.tag_memory.specs.Image.{banks_of, image_banks}
-use Rattle.tag_memory.specs.Memory.{Banks, AreBanksOfWords, pc_of, epc_of, stored_crc_of}
 
 -- StoredCRC has 16 bits
 crc-below : (banks : Banks) → stored_crc_of banks < 2 ^ 16

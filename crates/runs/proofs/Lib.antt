@@ -1,3 +1,4 @@
+pub mod Names
 pub mod Among
 pub mod Answering
 pub mod HeadlineAll

@@ -1,17 +1,8 @@
 -- The list lines of a round and the tags that are listed in it come of the same records, one by one.
-use Rattle.std.proofs.Common.{◌≡◌, ℕ, ◌==◌, Bool, true, false, List, [], ◌∷◌, ◌++◌, filter, if◌then◌else◌, refl, ap, sym, ◌∙◌, subst, eq-eqb}
-use Rattle.std.proofs.lemmas.Bool.{eqb-true}
-use Rattle.std.proofs.lemmas.List.Elements.{filter-append}
-use Rattle.std.specs.List.{AllZip}
-use Rattle.air_model.specs.Past.{Record, Item, exchanged}
-use Rattle.air_model.specs.Channel.{IsOfReplies}
-use Rattle.runs.specs.Headline.{Acknowledges}
-use Rattle.runs.specs.Listing.{Listed, reception_of_ack, listed_from, listed_by, listing_of}
-use Rattle.reply_grammar.specs.Reception.{Reception, whole_reply}
-use Rattle.reply_grammar.specs.declared.expected.Reply.{Reply}
+use Rattle.runs.proofs.Names.{◌≡◌, ℕ, ◌==◌, Bool, true, false, List, [], ◌∷◌, ◌++◌, filter, if◌then◌else◌, refl, ap, sym, ◌∙◌, subst, eq-eqb, eqb-true, filter-append, AllZip, Record, Item, exchanged}
+use Rattle.runs.proofs.Names.{IsOfReplies, Acknowledges, Listed, reception_of_ack, listed_from, listed_by, listing_of, Reception, whole_reply, Reply, entries_in, IsOfRepliesIn, IsEntryOf}
+use Rattle.runs.proofs.Names.{sender_listed_by, is_of_round, tags_listed_in}
 use Rattle.reply_grammar.specs.declared.expected.Reply.TheVariants as replies
-use Rattle.runs.specs.ListLines.{entries_in, IsOfRepliesIn, IsEntryOf}
-use Rattle.runs.specs.Listed.{sender_listed_by, is_of_round, tags_listed_in}
 use Rattle.runs.proofs.EveryTag.{Lists, nobody, somebody, lists}
 use Rattle.runs.proofs.Records.{later-record}
 

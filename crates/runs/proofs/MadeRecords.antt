@@ -1,27 +1,12 @@
 -- What is known of each record of a history: it is the one that its command makes; what the channel gave in it is a raw stream only where one is
 -- chosen, and is else what is expected; and a round is honest where nothing is said of its records.
-use Rattle.std.proofs.Common.{◌≡◌, ℕ, ◌+◌, ◌==◌, Bool, true, false, List, [], ◌∷◌, ◌++◌, if◌then◌else◌, refl, ap, sym, ◌∙◌, subst, Some, append_assoc}
-use Rattle.air_events.specs.Entries.{entry_at, no_entry}
-use Rattle.air_events.specs.declared.Entry.{Entry}
-use Rattle.air_model.specs.Channel.{Given, raw, IsReadBy, IsOfReplies, GoesByReplies}
-use Rattle.tag_machine.specs.TagsInExchange.{replies_in, AreLegalTags}
-use Rattle.air_model.specs.Past.{Start, Record, Item, tags_behind, exchanges_in, next_entry, next_record, exchanged}
-use Rattle.air_model.proofs.GivenLaws.{given_is_read, given_of_replies}
-use Rattle.bit_strings.specs.declared.code.Code.{Code}
-use Rattle.runs.specs.Headline.{IsRecordOf, HasNoRawStream}
-use Rattle.runs.specs.History.{history_of}
-use Rattle.runs.specs.Listed.{sender_where, sender_listed_by}
-use Rattle.runs.specs.Listing.{Listed, listed_by}
+use Rattle.runs.proofs.Names.{◌≡◌, ℕ, ◌+◌, ◌==◌, Bool, true, false, List, [], ◌∷◌, ◌++◌, if◌then◌else◌, refl, ap, sym, ◌∙◌, subst, Some, append_assoc, entry_at, no_entry, Entry, Given, raw, IsReadBy}
+use Rattle.runs.proofs.Names.{IsOfReplies, GoesByReplies, replies_in, AreLegalTags, Start, Record, Item, tags_behind, exchanges_in, next_entry, next_record, exchanged, given_is_read, given_of_replies}
+use Rattle.runs.proofs.Names.{Code, IsRecordOf, HasNoRawStream, history_of, sender_where, sender_listed_by, Listed, listed_by, Step, Expects, HoldsOfSent, IsGivenFor, IsUnmistakable, expectation_of}
+use Rattle.runs.proofs.Names.{Expect, OpList, IsHonest}
 use Rattle.runs.proofs.Growth.{run-always}
 use Rattle.runs.proofs.Records.{AllRecords, records-at}
-use Rattle.scenario.specs.declared.values.Step.{Step}
-use Rattle.access_ops.specs.laws.OperationLaws.{Expects}
-use Rattle.air_model.specs.Reception.{HoldsOfSent, IsGivenFor, IsUnmistakable}
 use Rattle.runs.proofs.Answering.{TagLaws, given-in-expected, given-unmistakable}
-use Rattle.runs.specs.NextItem.{expectation_of}
-use Rattle.reply_grammar.specs.declared.expected.Expect.{Expect}
-use Rattle.access_ops.specs.declared.OpList.{OpList}
-use Rattle.runs.specs.Honest.{IsHonest}
 
 -- each record is the one that its command makes, sent when this was past
 abbrev AreMade : Start → List Item → Type 0

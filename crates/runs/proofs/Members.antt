@@ -1,8 +1,5 @@
 -- A frame of a round so far, and a tag that stands in the round.
-use Rattle.std.proofs.Common.{ℕ, Bool, List}
-use Rattle.q_round.specs.declared.frame.Outcome.{Outcome}
-use Rattle.runs.specs.TagInRound.{is_matched, IsBeforeSlot, StandsAfterSlot, StandsBeforeSlot}
-use Rattle.tag_machine.specs.TagValue.{StateValue, TagValue}
+use Rattle.runs.proofs.Names.{ℕ, Bool, List, Outcome, is_matched, IsBeforeSlot, StandsAfterSlot, StandsBeforeSlot, StateValue, TagValue}
 
 -- a frame of a round so far
 pub record Frame : Type 0 where

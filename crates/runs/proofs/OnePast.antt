@@ -1,19 +1,15 @@
 -- Of two pasts that grow by what comes next, one is a front of the other. So the events and the exchanges determine a past, but for
 -- the results and ends that follow them.
-use Rattle.std.proofs.Common.{◌≡◌, ◌+◌, ◌⊎◌, inl, inr, List, [], ◌∷◌, ◌++◌, length, refl, ap, sym, ◌∙◌, arith, length-append}
-use Rattle.air_model.specs.Past.{Start, Item, befell, exchanged, operated, ended}
+use Rattle.runs.proofs.Names.{◌≡◌, ◌+◌, ◌⊎◌, inl, inr, List, [], ◌∷◌, ◌++◌, length, refl, ap, sym, ◌∙◌, arith, length-append, Start, Item, befell, exchanged, events_and_records_of, IsConcluded}
+use Rattle.runs.proofs.Names.{GrowsByNext, Step}
 use Rattle.runs.proofs.Growth.{Grows}
 use Rattle.runs.proofs.HeadlineNext.{fronts}
-use Rattle.runs.specs.EventsAndRecords.{events_and_records_of, IsConcluded}
-use Rattle.runs.specs.NextItem.{GrowsByNext}
-use Rattle.scenario.specs.declared.values.Step.{Step}
 
 events_and_records_of-append : (own past : List Item) → events_and_records_of (own ++ past) ≡ events_and_records_of own ++ events_and_records_of past
 events_and_records_of-append [] past = refl
 events_and_records_of-append (befell event number ∷ own) past = ap (λ (items : List Item). befell event number ∷ items) (events_and_records_of-append own past)
 events_and_records_of-append (exchanged sent ∷ own) past = ap (λ (items : List Item). exchanged sent ∷ items) (events_and_records_of-append own past)
-events_and_records_of-append (operated round slot index result ∷ own) past = events_and_records_of-append own past
-events_and_records_of-append (ended round end slots ∷ own) past = events_and_records_of-append own past
+events_and_records_of-append (item ∷ own) past = events_and_records_of-append own past
 
 none-added : (own past : List Item) → own ++ past ≡ past → own ≡ []
 none-added [] past is = refl

@@ -1,25 +1,11 @@
 -- What one round makes of tags: whom it lists, and what it leaves of each where it ends quiet.
-use Rattle.std.proofs.Common.{◌≡◌, ℕ, zero, suc, ◌+◌, Bool, true, List, [], ◌∷◌, map, Option, Some, slice_get, if◌then◌else◌, option_map, refl, ap, sym, ◌∙◌, subst, arith}
-use Rattle.std.specs.Prelude.{◌&&◌}
-use Rattle.std.specs.List.{AllByRecursion, AllZip}
-use Rattle.std.proofs.lemmas.List.Elements.{All-get_or}
-use Rattle.std.proofs.lemmas.Option.{get_or_from_slice_get, slice_get-map, slice_get_within}
-use Rattle.air_model.specs.Past.{Start, Item, ended, tag_behind, tags_behind_from}
-use Rattle.pie_line.specs.Link.{LinkValue}
-use Rattle.q_round.proofs.RoundFacts.{facts}
-use Rattle.q_round.proofs.RoundLaws.{slots-within}
-use Rattle.q_round.specs.SpecValue.{SpecValue, IsLegalSpec}
-use Rattle.q_round.specs.declared.round.RoundEnd.{RoundEnd}
-use Rattle.q_round.specs.declared.round.RoundEnd.TheVariants as ends
+use Rattle.runs.proofs.Names.{◌≡◌, ℕ, zero, suc, ◌+◌, Bool, true, List, [], ◌∷◌, map, Option, Some, slice_get, if◌then◌else◌, option_map, refl, ap, sym, ◌∙◌, subst, arith, ◌&&◌, AllByRecursion}
+use Rattle.runs.proofs.Names.{AllZip, All-get_or, get_or_from_slice_get, slice_get-map, slice_get_within, Start, Item, ended, tag_behind, tags_behind_from, LinkValue, facts, slots-within, SpecValue}
+use Rattle.runs.proofs.Names.{IsLegalSpec, RoundEnd, StateValue, TagValue, ReadyState, is_present, AreReady, IsLeftByRound, IsPairOf, IsQuietRound, ListsItsTags, Played, is_named, pc_and_epc_of, Laws}
+use Rattle.runs.proofs.Names.{tags_listed_in, tags_listed_where, ending_of, flags_after_query, is_matched_in, tag_after_query, no_operations, played_of, start_with, flags_behind_query}
+use Rattle.q_round.specs.declared.round.RoundEnd.TheVariants as round_ends
 use Rattle.scenario.specs.declared.values.Step.TheVariants as steps
-use Rattle.tag_machine.specs.TagValue.{StateValue, TagValue, ReadyState, is_present}
-use Rattle.two_portals.specs.Played.{AreReady, IsLeftByRound, IsPairOf, IsQuietRound, ListsItsTags, Played, flags_in_round, is_named, pc_and_epc_of, times}
-use Rattle.two_portals.proofs.Independence.{Laws}
-use Rattle.runs.specs.Listed.{tags_listed_in, tags_listed_where}
-use Rattle.runs.specs.MomentsOfRound.{ending_of, flags_after_query, is_matched_in, tag_after_query}
-use Rattle.scenario.specs.Limits.{no_operations}
-use Rattle.runs.specs.RoundsTold.{played_of, start_with}
-use Rattle.runs.specs.TagInRound.{flags_behind_query}
+use Rattle.two_portals.specs.Played.{flags_in_round, times}
 use Rattle.runs.proofs.Tags.{length-tags}
 use Rattle.runs.proofs.CompleteRound.{IsTold, complete-inventory, history-told}
 use Rattle.runs.proofs.RoundsAmong.{played}
@@ -99,18 +85,18 @@ ready-at tags number tag ready at =
     (All-get_or (λ (t : TagValue). t.state ≡ ReadyState) tags number tag (slice_get_within tags number tag at) ready)
 
 -- the end of a round that is told
-ending-is : (start : Start) (history : List Item) (end : RoundEnd) (slots : ℕ) (past : List Item) → history ≡ ended 1 end slots ∷ past → end ≡ ends.Quiet
-    → ending_of 1 history ≡ Some (record { end = ends.Quiet; slots = slots; past = past })
+ending-is : (start : Start) (history : List Item) (end : RoundEnd) (slots : ℕ) (past : List Item) → history ≡ ended 1 end slots ∷ past → end ≡ round_ends.Quiet
+    → ending_of 1 history ≡ Some (record { end = round_ends.Quiet; slots = slots; past = past })
 ending-is start history end slots past is quiet = ap (ending_of 1) is ∙ ap (λ (each : RoundEnd). Some (record { end = each; slots = slots; past = past })) quiet
 
-pub is-quiet-round : (tags : List TagValue) (spec : SpecValue) → IsLegalSpec spec → AreReady tags → (played_of tags spec).end ≡ ends.Quiet
+pub is-quiet-round : (tags : List TagValue) (spec : SpecValue) → IsLegalSpec spec → AreReady tags → (played_of tags spec).end ≡ round_ends.Quiet
     → IsQuietRound tags spec (played_of tags spec)
 is-quiet-round tags spec legal ready quiet =
     let start = start_with tags in
     let history = run_of tags spec in
     let plain = one-run tags spec legal in
     let one = one-round-played slots-within tags spec legal in
-    let ends_quiet : one.end ≡ ends.Quiet = sym (ap (λ (round : Played). round.end) one.played) ∙ quiet in
+    let ends_quiet : one.end ≡ round_ends.Quiet = sym (ap (λ (round : Played). round.end) one.played) ∙ quiet in
     let among = among_of start spec no_operations in
     let inventory = complete-inventory slots-within facts among (steps.Round spec no_operations ∷ []) (plain.legal, tt) refl plain.fair in
     let complete = inventory.quiet_is_complete one.slots one.past (ending-is start history one.end one.slots one.past one.is ends_quiet) in

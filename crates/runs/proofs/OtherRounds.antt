@@ -1,21 +1,14 @@
 -- What steps add to a past: items of rounds that came before or come behind. Nothing of it is of the round between.
-use Rattle.std.proofs.Common.{◌≡◌, ◌≢◌, ℕ, ◌+◌, ◌<◌, ◌≤◌, ◌==◌, ◌⊎◌, inl, inr, Bool, true, false, List, [], ◌∷◌, ◌++◌, length, Some, if◌then◌else◌, refl, ap, sym, ◌∙◌, subst, append_assoc, append-nil, arith, ne_eqb}
-use Rattle.std.specs.List.{AllByRecursion}
-use Rattle.access_ops.specs.declared.OpList.{OpList}
-use Rattle.air_model.specs.Past.{Start, Record, Item, befell, exchanged, operated, ended, next_record, past_behind_command, rounds_in}
-use Rattle.runs.specs.Headline.{IsLegalStep, AreLegalSteps, rounds_of}
-use Rattle.runs.specs.History.{past_behind_round, past_behind_step, past_behind}
-use Rattle.command_grammar.specs.declared.commands.Command.{Command}
+use Rattle.runs.proofs.Names.{◌≡◌, ◌≢◌, ℕ, ◌+◌, ◌<◌, ◌≤◌, ◌==◌, ◌⊎◌, inl, inr, Bool, true, false, List, [], ◌∷◌, ◌++◌, length, Some, if◌then◌else◌, refl, ap, sym, ◌∙◌, subst, append_assoc, append-nil}
+use Rattle.runs.proofs.Names.{arith, ne_eqb, AllByRecursion, OpList, Start, Record, Item, befell, exchanged, operated, ended, next_record, past_behind_command, rounds_in, IsLegalStep, AreLegalSteps}
+use Rattle.runs.proofs.Names.{rounds_of, past_behind_round, past_behind_step, past_behind, Command, sender_listed_by, tags_listed_where, is_query, is_query_of, past_after_query, ending_of, SpecValue}
+use Rattle.runs.proofs.Names.{IsLegalSpec, Step}
 use Rattle.command_grammar.specs.declared.commands.Command.TheVariants as commands
-use Rattle.runs.specs.Listed.{sender_listed_by, tags_listed_where}
-use Rattle.runs.specs.MomentsOfRound.{is_query, is_query_of, past_after_query, ending_of}
+use Rattle.scenario.specs.declared.values.Step.TheVariants as steps
 use Rattle.runs.proofs.HeadlineLines.{and-false}
 use Rattle.runs.proofs.Records.{AllRecords}
 use Rattle.runs.proofs.Turns.{round-holds}
 use Rattle.runs.proofs.Growth.{RoundsKeepLimit}
-use Rattle.q_round.specs.SpecValue.{SpecValue, IsLegalSpec}
-use Rattle.scenario.specs.declared.values.Step.{Step}
-use Rattle.scenario.specs.declared.values.Step.TheVariants as steps
 
 -- a round is none, or one of those behind the first and up to the last
 abbrev pub IsBetween : ℕ → ℕ → ℕ → Type 0

@@ -1,41 +1,19 @@
 -- A round of a plain run depends on what is past through its tags alone.
-use Rattle.std.proofs.Common.{◌≡◌, ℕ, zero, suc, ◌+◌, ◌≤◌, true, false, List, [], ◌∷◌, ◌++◌, length, map, refl, ap, sym, ◌∙◌, subst, arith}
-use Rattle.std.specs.List.{AllZip}
-use Rattle.std.proofs.lemmas.List.{map-append}
-use Rattle.access_ops.specs.Operations.{Dialogue}
-use Rattle.access_ops.specs.declared.OpList.{OpList}
-use Rattle.air_events.specs.Entries.{no_entry}
-use Rattle.air_events.specs.declared.Entry.{Entry}
+use Rattle.runs.proofs.Names.{◌≡◌, ℕ, zero, suc, ◌+◌, ◌≤◌, true, false, List, [], ◌∷◌, ◌++◌, length, map, refl, ap, sym, ◌∙◌, subst, arith, AllZip, map-append, Dialogue, OpList, no_entry, Entry}
+use Rattle.runs.proofs.Names.{Given, default_given, Start, Record, Item, ended, next_record, past_behind_command, rounds_in, tags_behind, tags_behind_from, reception_of, UpDn, Command, LinkValue}
+use Rattle.runs.proofs.Names.{SpecValue, IsLegalSpec, Turn, query, adjust, rep, quiet, limit, over, AreOutcomes, next_of_turn, is_over, turn_of, Outcome, RoundEnd, Reception, no_stream, whole_reply}
+use Rattle.runs.proofs.Names.{no_such_reply, TagOutcome, outcome_in, outcomes_from, replies_from, replies_in, tags_after, step, StateValue, BodyValue, TagValue, Played, outcome_of, past_behind_ack}
+use Rattle.runs.proofs.Names.{past_behind_answer, past_behind_dialogue, past_behind_round, past_behind_slot, past_behind_turn, past_behind_turns, ack_reception, slot_reception, sender_listed_by}
+use Rattle.runs.proofs.Names.{sender_where, tags_listed_where, listed_by, listed_from, listing_of, reception_of_ack, no_operations, GoesByTags, IsBetweenRounds, IsPlain, first_round, pair_listed}
+use Rattle.runs.proofs.Names.{pairs_listed_by, pairs_since, played_of, round_ended, rounds_told, senders_since, start_with, pairs_listed}
 use Rattle.air_events.specs.declared.Several.TheVariants as severals
-use Rattle.air_model.specs.Channel.{Given, default_given}
-use Rattle.air_model.specs.Past.{Start, Record, Item, ended, next_record, past_behind_command, rounds_in, tags_behind, tags_behind_from}
-use Rattle.air_model.specs.Reception.{reception_of}
-use Rattle.command_fields.specs.declared.choices.UpDn.{UpDn}
-use Rattle.command_grammar.specs.declared.commands.Command.{Command}
 use Rattle.command_grammar.specs.declared.commands.Command.TheVariants as commands
-use Rattle.pie_line.specs.Link.{LinkValue}
-use Rattle.q_round.specs.SpecValue.{SpecValue, IsLegalSpec}
-use Rattle.q_round.specs.Rounds.{Turn, query, adjust, rep, quiet, limit, is_last_turn as over, AreOutcomes, next_of_turn, is_over, turn_of}
-use Rattle.q_round.specs.declared.frame.Outcome.{Outcome}
 use Rattle.q_round.specs.declared.round.Next.TheVariants as nexts
-use Rattle.q_round.specs.declared.round.RoundEnd.{RoundEnd}
 use Rattle.q_round.specs.declared.round.RoundEnd.TheVariants as round_ends
-use Rattle.reply_grammar.specs.Reception.{Reception, no_stream, whole_reply, no_such_reply}
 use Rattle.reply_grammar.specs.declared.expected.Expect.TheVariants as expects
 use Rattle.reply_grammar.specs.declared.expected.Reply.TheVariants as replies
-use Rattle.tag_machine.specs.Answers.{Outcome as TagOutcome}
-use Rattle.tag_machine.specs.TagsInExchange.{outcome_in, outcomes_from, replies_from, replies_in, tags_after}
-use Rattle.tag_machine.specs.Step.{step}
-use Rattle.tag_machine.specs.TagValue.{StateValue, BodyValue, TagValue}
-use Rattle.two_portals.specs.Played.{Played}
-use Rattle.runs.specs.History.{outcome_of, past_behind_ack, past_behind_answer, past_behind_dialogue, past_behind_round, past_behind_slot, past_behind_turn, past_behind_turns, ack_reception, slot_reception}
-use Rattle.runs.specs.Listed.{sender_listed_by, sender_where, tags_listed_where}
-use Rattle.runs.specs.Listing.{listed_by, listed_from, listing_of, reception_of_ack}
-use Rattle.scenario.specs.Limits.{no_operations}
-use Rattle.runs.specs.RoundsTold.{GoesByTags, IsBetweenRounds, IsPlain, first_round, pair_listed, pairs_listed_by, pairs_since, played_of, round_ended, rounds_told, senders_since, start_with}
 use Rattle.runs.proofs.Growth.{RoundsKeepLimit, few-outcomes}
 use Rattle.runs.proofs.Tags.{tags-ended, tags-exchanged}
-use Rattle.runs.specs.EveryTag.{pairs_listed}
 use Rattle.runs.proofs.Keeping.{Keeps, ack-keeps, keeps-on, query-keeps, query_adjust-keeps, query_rep-keeps}
 use Rattle.runs.proofs.Turns.{nothing-begun}
 

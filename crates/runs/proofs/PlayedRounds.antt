@@ -1,12 +1,5 @@
 -- A round of a run as it is played, and a slot of a run: what the laws of rounds speak of.
-use Rattle.std.specs.Prelude.{◌≡◌, ℕ, ◌+◌, List}
-use Rattle.access_ops.specs.declared.OpList.{OpList}
-use Rattle.air_model.specs.Past.{Start, Item, rounds_in}
-use Rattle.q_round.specs.SpecValue.{SpecValue}
-use Rattle.q_round.specs.Rounds.{AreOutcomes, next_command}
-use Rattle.q_round.specs.declared.frame.Outcome.{Outcome}
-use Rattle.q_round.specs.declared.round.Next.{Next}
-use Rattle.runs.specs.History.{past_behind_round}
+use Rattle.runs.proofs.Names.{◌≡◌, ℕ, ◌+◌, List, OpList, Start, Item, rounds_in, SpecValue, AreOutcomes, next_command, Outcome, Next, past_behind_round}
 
 -- a slot of a run: the start of the run, the number of the round, and that of the slot in the round
 pub record SlotOfRun : Type 0 where

@@ -1,15 +1,9 @@
 -- Who answers a command among the tags of a start, where nothing is said of the exchange: from each tag's own answer to the replies
 -- of the exchange, and back.
-use Rattle.std.proofs.Common.{◌≡◌, ◌≢◌, ℕ, zero, suc, ◌+◌, inl, inr, Bool, true, false, if◌then◌else◌, List, [], ◌∷◌, ◌++◌, Option, Some, None, slice_get, refl, ap, sym, ◌∙◌, subst, arith}
-use Rattle.tag_machine.specs.TagsInExchange.{Replied, reply_of, replies_from, outcome_in, outcomes_from}
-use Rattle.air_model.specs.Past.{Start, Item, tag_behind, tags_behind_from, past_behind_command, next_entry, is_hearer, hearers_of}
-use Rattle.air_events.specs.Entries.{no_entry}
-use Rattle.air_events.specs.declared.Entry.{Entry}
-use Rattle.command_grammar.specs.declared.commands.Command.{Command}
+use Rattle.runs.proofs.Names.{◌≡◌, ◌≢◌, ℕ, zero, suc, ◌+◌, inl, inr, Bool, true, false, if◌then◌else◌, List, [], ◌∷◌, ◌++◌, Option, Some, None, slice_get, refl, ap, sym, ◌∙◌, subst, arith, Replied}
+use Rattle.runs.proofs.Names.{reply_of, replies_from, outcome_in, outcomes_from, Start, Item, tag_behind, tags_behind_from, past_behind_command, next_entry, is_hearer, hearers_of, no_entry, Entry}
+use Rattle.runs.proofs.Names.{Command, Sent, step, TagValue}
 use Rattle.runs.proofs.Among.{Among, among-later, among-left, among-right, among-split}
-use Rattle.tag_machine.specs.Answers.{Sent}
-use Rattle.tag_machine.specs.Step.{step}
-use Rattle.tag_machine.specs.TagValue.{TagValue}
 
 -- what the tag with a number answers a command, and what it becomes by it
 abbrev pub answer_behind : Command → List Item → ℕ → TagValue → Option Sent

@@ -1,26 +1,10 @@
 -- The rounds of a scenario of two portals, as its histories tell them.
-use Rattle.std.proofs.Common.{◌≡◌, ◌⊎◌, inl, inr, ℕ, Bool, true, false, List, [], ◌∷◌, ◌++◌, map, refl, ap, sym, ◌∙◌, subst, append_assoc, append-nil}
-use Rattle.std.specs.Prelude.{◌==◌, All, filter, if◌then◌else◌}
-use Rattle.std.specs.List.{AllByRecursion}
-use Rattle.std.proofs.lemmas.List.Elements.{All-cons, All-nil}
-use Rattle.air_model.specs.Past.{Start, Item, tags_behind}
-use Rattle.q_round.proofs.RoundLaws.{slots-within}
-use Rattle.q_round.specs.SpecValue.{SpecValue, IsLegalSpec}
-use Rattle.scenario.specs.Groups.{tags_of}
-use Rattle.scenario_lines.specs.declared.tag.TagSpec.{TagSpec}
-use Rattle.scenario.specs.declared.values.Scenario.{Scenario}
-use Rattle.scenario.specs.declared.values.Step.{Step}
+use Rattle.runs.proofs.Names.{◌≡◌, ◌⊎◌, inl, inr, ℕ, Bool, true, false, List, [], ◌∷◌, ◌++◌, map, refl, ap, sym, ◌∙◌, subst, append_assoc, append-nil, ◌==◌, All, filter, if◌then◌else◌, AllByRecursion}
+use Rattle.runs.proofs.Names.{All-cons, All-nil, Start, Item, tags_behind, slots-within, SpecValue, IsLegalSpec, tags_of, TagSpec, Scenario, Step, TagValue, Played, HaveTheSameSenders, IsNewTag}
+use Rattle.runs.proofs.Names.{IsOfPortal, is_of_session, portal_lines_of, lines_of_portal, portal_lines, portal_rounds_of, rounds_played, new-tags-agree, new-tags-same, PortalLine, AreLegalSteps}
+use Rattle.runs.proofs.Names.{history_of, past_behind, past_behind_round, AreTurns, ArePortalsIndependent, IsOfPortals, alone, is_round_of, lines_told, other_portal, portals_told, specs_of}
+use Rattle.runs.proofs.Names.{IsBetweenRounds, IsPlain, played_of, rounds_told, start_of, scenario_tag}
 use Rattle.scenario.specs.declared.values.Step.TheVariants as steps
-use Rattle.tag_machine.specs.TagValue.{TagValue}
-use Rattle.two_portals.specs.Played.{Played}
-use Rattle.two_portals.specs.PortalLines.{HaveTheSameSenders, IsNewTag, IsOfPortal, is_of_session, portal_lines_of, lines_of_portal, portal_lines, portal_rounds_of, rounds_played}
-use Rattle.two_portals.proofs.Independence.{new-tags-agree, new-tags-same}
-use Rattle.two_portals.specs.declared.portal_line.PortalLine.{PortalLine}
-use Rattle.runs.specs.Headline.{AreLegalSteps}
-use Rattle.runs.specs.History.{history_of, past_behind, past_behind_round}
-use Rattle.runs.specs.Portals.{AreTurns, ArePortalsIndependent, IsOfPortals, alone, is_round_of, lines_told, other_portal, portals_told, specs_of}
-use Rattle.runs.specs.RoundsTold.{IsBetweenRounds, IsPlain, played_of, rounds_told}
-use Rattle.runs.specs.ScenarioStart.{start_of, scenario_tag}
 use Rattle.runs.proofs.OneRound.{played-laws}
 use Rattle.runs.proofs.PlainRounds.{goes-by-tags, tags-from-none}
 
@@ -40,9 +24,7 @@ told-behind start plain (steps.Round spec operations ∷ taken) past each betwee
     told-behind start plain taken behind each.1 round.between
     ∙ (λ i. round.told i ++ rounds_played played_of (round.tags i) (specs_of taken))
     ∙ append_assoc (rounds_told start past) (played_of tags spec ∷ []) (rounds_played played_of (played_of tags spec).tags (specs_of taken))
-told-behind start plain (steps.Select command ∷ taken) past each between = absurd each.0
-told-behind start plain (steps.Nak ∷ taken) past each between = absurd each.0
-told-behind start plain (steps.Event event number ∷ taken) past each between = absurd each.0
+told-behind start plain (step ∷ taken) past each between = absurd each.0
 
 -- ... and so in a history
 pub told-whole : (start : Start) → IsPlain start → (taken : List Step) → AllByRecursion IsPlainStep taken

@@ -1,7 +1,5 @@
 -- What holds of each record of a past, with what was past before it.
-use Rattle.std.proofs.Common.{◌≡◌, List, [], ◌∷◌, ◌++◌, refl, ap}
-use Rattle.air_model.specs.Past.{Record, Item, exchanged}
-use Rattle.runs.specs.Headline.{IsRecordOf}
+use Rattle.runs.proofs.Names.{◌≡◌, List, [], ◌∷◌, ◌++◌, refl, ap, Record, Item, exchanged, IsRecordOf}
 
 -- this holds of each record of a past, with what was past before it
 abbrev pub AllRecords : (Record → List Item → Type 0) → List Item → Type 0

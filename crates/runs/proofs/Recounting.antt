@@ -1,18 +1,8 @@
 -- As many rounds side by side as make up for the unsound ones among them list a tag: by induction over the rounds.
-use Rattle.std.proofs.Common.{◌≡◌, ℕ, zero, suc, ◌+◌, ◌*◌, ◌≤◌, Bool, true, false, ◌⊎◌, inl, inr, List, [], ◌∷◌, ◌++◌, length, if◌then◌else◌, refl, ap, sym, ◌∙◌, subst, arith}
-use Rattle.std.proofs.lemmas.List.{append_assoc}
-use Rattle.access_ops.specs.declared.OpList.{OpList}
-use Rattle.command_fields.specs.declared.choices.Side.{Side}
-use Rattle.command_fields.specs.declared.choices.Sel.{Sel}
-use Rattle.q_round.specs.SpecValue.{SpecValue}
-use Rattle.scenario.specs.declared.values.Step.{Step}
+use Rattle.runs.proofs.Names.{◌≡◌, ℕ, zero, suc, ◌+◌, ◌*◌, ◌≤◌, Bool, true, false, ◌⊎◌, inl, inr, List, [], ◌∷◌, ◌++◌, length, if◌then◌else◌, refl, ap, sym, ◌∙◌, subst, arith, append_assoc, OpList}
+use Rattle.runs.proofs.Names.{Side, Sel, SpecValue, Step, side_of, Flags, TagValue, HasNumber, AreLegalSteps, AreInTurn, HoldsOfEach, IsFresh, IsListedBySound, IsRecount, IsSound, IsThere}
+use Rattle.runs.proofs.Names.{MayTakePart, Recount, enough_from_any, enough_from_fresh, history_with, other_side, round_behind, steps_with, tag_where, unsound_from}
 use Rattle.scenario.specs.declared.values.Step.TheVariants as steps
-use Rattle.session_flags.specs.Flags.{side_of}
-use Rattle.session_flags.specs.declared.flags.Flags.{Flags}
-use Rattle.tag_machine.specs.TagValue.{TagValue}
-use Rattle.runs.specs.Complete.{HasNumber}
-use Rattle.runs.specs.Headline.{AreLegalSteps, rounds_of}
-use Rattle.runs.specs.Recounts.{AreInTurn, HoldsOfEach, IsFresh, IsListedBySound, IsRecount, IsSound, IsThere, MayTakePart, Recount, enough_from_any, enough_from_fresh, history_with, other_side, round_behind, steps_with, tag_where, unsound_from}
 use Rattle.runs.proofs.Growth.{RoundsKeepLimit}
 use Rattle.runs.proofs.OtherRounds.{rounds_of-append}
 use Rattle.runs.proofs.CompleteRound.{RoundsHaveFacts}
@@ -167,9 +157,7 @@ module _ (keeps : RoundsKeepLimit) (facts : RoundsHaveFacts) (recount : Recount)
   found (steps.Round spec operations ∷ rounds) before target unsound stand =
       either-next before target spec operations rounds unsound (recount.sound (round_behind before)) stand refl
       (λ fewer next. found rounds (before ++ steps.Round spec operations ∷ []) (other_side target) fewer next)
-  found (steps.Select command ∷ rounds) before target unsound stand = absurd stand.turns
-  found (steps.Nak ∷ rounds) before target unsound stand = absurd stand.turns
-  found (steps.Event event tag_number ∷ rounds) before target unsound stand = absurd stand.turns
+  found (step ∷ rounds) before target unsound stand = absurd stand.turns
 
   listed : (unsound : ℕ) → IsRecount recount unsound → IsThere recount number tag
       → AreEnough recount number tag recount.before recount.target (length recount.rounds) unsound → IsListedBySound recount number tag

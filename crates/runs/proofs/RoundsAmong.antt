@@ -1,15 +1,10 @@
 -- A round among the steps of a run: what comes before it and behind it is of other rounds.
-use Rattle.std.proofs.Common.{◌≡◌, ℕ, ◌+◌, ◌<◌, inl, inr, List, [], ◌∷◌, ◌++◌, refl, ap, sym, ◌∙◌, subst, append-nil, arith}
-use Rattle.access_ops.specs.declared.OpList.{OpList}
-use Rattle.air_model.specs.Past.{Start, Item, rounds_in}
-use Rattle.q_round.specs.SpecValue.{SpecValue}
-use Rattle.runs.specs.Headline.{AreLegalSteps, IsLegalRound, rounds_of}
-use Rattle.runs.specs.History.{past_behind, past_behind_step, history_of}
+use Rattle.runs.proofs.Names.{◌≡◌, ℕ, ◌+◌, ◌<◌, inl, inr, List, [], ◌∷◌, ◌++◌, refl, ap, sym, ◌∙◌, subst, append-nil, arith, OpList, Start, Item, rounds_in, SpecValue, AreLegalSteps, IsLegalRound}
+use Rattle.runs.proofs.Names.{rounds_of, past_behind, past_behind_step, history_of, Step}
+use Rattle.scenario.specs.declared.values.Step.TheVariants as steps
 use Rattle.runs.proofs.Growth.{RoundsKeepLimit}
 use Rattle.runs.proofs.OtherRounds.{Adds, AreOfOthers, of-others, step-adds, steps-add}
 use Rattle.runs.proofs.PlayedRounds.{PlayedRound, number_of, past_behind_played}
-use Rattle.scenario.specs.declared.values.Step.{Step}
-use Rattle.scenario.specs.declared.values.Step.TheVariants as steps
 
 -- a round among the steps of a run
 pub record RoundAmong : Type 0 where

@@ -1,29 +1,13 @@
 -- Rounds that stand side by side: a sound one lists each tag that has the flag it asks for, and leaves each tag with the flag that the
 -- next one asks for.
-use Rattle.std.proofs.Common.{◌≡◌, ℕ, zero, suc, ◌+◌, ◌≤◌, ◌==◌, ◌&&◌, Bool, true, false, ◌⊎◌, inl, inr, List, [], ◌∷◌, ◌++◌, Some, if◌then◌else◌, refl, ap, sym, ◌∙◌, subst, arith}
-use Rattle.std.proofs.lemmas.Bool.{eqb-true}
-use Rattle.air_model.specs.Channel.{Given, silence, whole, broken, raw}
-use Rattle.air_events.specs.Entries.{no_entry}
-use Rattle.air_model.specs.Past.{Start, Record, Item, exchanged, tag_behind, next_entry, next_record}
-use Rattle.command_fields.specs.declared.choices.Side.{Side}
-use Rattle.command_fields.specs.declared.choices.Side.TheVariants.{A, B}
-use Rattle.session_flags.specs.Actions.{side_after}
-use Rattle.session_flags.specs.declared.flags.Effect.TheVariants.{Negate}
-use Rattle.q_round.specs.declared.round.RoundEnd.TheVariants as ends
-use Rattle.scenario.specs.declared.values.Step.{Step}
+use Rattle.runs.proofs.Names.{◌≡◌, ℕ, zero, suc, ◌+◌, ◌≤◌, ◌==◌, ◌&&◌, Bool, true, false, ◌⊎◌, inl, inr, List, [], ◌∷◌, ◌++◌, Some, if◌then◌else◌, refl, ap, sym, ◌∙◌, subst, arith, eqb-true, Given}
+use Rattle.runs.proofs.Names.{silence, whole, broken, raw, no_entry, Start, Record, Item, exchanged, tag_behind, next_entry, next_record, Side, A, B, side_after, Negate, Step, Flags}
+use Rattle.runs.proofs.Names.{flags_after_inversion, is_side, matches, sel_allows, side_of, StateValue, ReadyState, AcknowledgedState, OpenState, SecuredState, TagValue, is_present, HasNumber}
+use Rattle.runs.proofs.Names.{is_spoken_to, AreLegalSteps, IsRecordOf, rounds_of, history_of, is_of_round, listed_as, sender_listed_by, sender_where, tags_listed_in, times, Listed, listed_by, Ending}
+use Rattle.runs.proofs.Names.{ending_of, is_query_of, past_after_query, tag_after_query, IsSound, MayTakePart, is_inventoried_in, other_side, round_behind, tag_where, flags_behind_query}
+use Rattle.runs.proofs.Names.{flags_in_round, is_matched}
+use Rattle.q_round.specs.declared.round.RoundEnd.TheVariants as round_ends
 use Rattle.scenario.specs.declared.values.Step.TheVariants as steps
-use Rattle.session_flags.specs.declared.flags.Flags.{Flags}
-use Rattle.session_flags.specs.Flags.{flags_after_inversion, is_side, matches, sel_allows, side_of}
-use Rattle.tag_machine.specs.TagValue.{StateValue, ReadyState, AcknowledgedState, OpenState, SecuredState, TagValue, is_present}
-use Rattle.runs.specs.Complete.{HasNumber}
-use Rattle.runs.specs.CountedTags.{is_spoken_to}
-use Rattle.runs.specs.Headline.{AreLegalSteps, IsRecordOf, rounds_of}
-use Rattle.runs.specs.History.{history_of}
-use Rattle.runs.specs.Listed.{is_of_round, listed_as, sender_listed_by, sender_where, tags_listed_in, times}
-use Rattle.runs.specs.Listing.{Listed, listed_by}
-use Rattle.runs.specs.MomentsOfRound.{Ending, ending_of, is_query_of, past_after_query, tag_after_query}
-use Rattle.runs.specs.Recounts.{IsSound, MayTakePart, is_inventoried_in, other_side, round_behind, tag_where}
-use Rattle.runs.specs.TagInRound.{flags_behind_query, flags_in_round, is_matched}
 use Rattle.runs.proofs.Growth.{RoundsKeepLimit}
 use Rattle.runs.proofs.Records.{later-record}
 use Rattle.runs.proofs.PlayedRounds.{number_of}
@@ -156,10 +140,10 @@ pub record IsListedIn (history : List Item) (round number : ℕ) (tag : TagValue
 
 -- the end of a round that ended quiet
 same-end : (ending : Ending) (history : List Item) (round slots : ℕ) (past : List Item) → ending_of round history ≡ Some ending
-    → ending_of round history ≡ Some (record { end = ends.Quiet; slots = slots; past = past }) → ending.end ≡ ends.Quiet
+    → ending_of round history ≡ Some (record { end = round_ends.Quiet; slots = slots; past = past }) → ending.end ≡ round_ends.Quiet
 same-end ending history round slots past is quiet =
-    let both : Some ending ≡ Some (record { end = ends.Quiet; slots = slots; past = past }) = sym is ∙ quiet in
-    let same : ending ≡ record { end = ends.Quiet; slots = slots; past = past } = cc in
+    let both : Some ending ≡ Some (record { end = round_ends.Quiet; slots = slots; past = past }) = sym is ∙ quiet in
+    let same : ending ≡ record { end = round_ends.Quiet; slots = slots; past = past } = cc in
     ap (λ (e : Ending). e.end) same
 
 module _ (keeps : RoundsKeepLimit) (facts : RoundsHaveFacts) (among : RoundAmong) (taken : List Step) (legal : AreLegalSteps taken) (is : taken ≡ steps_around among)
@@ -215,7 +199,7 @@ module _ (keeps : RoundsKeepLimit) (facts : RoundsHaveFacts) (among : RoundAmong
       let history = history_of among.start taken in
       let round = round_behind among.before in
       let (ending, ending_is, counted) = counted-round keeps facts among taken legal is fair in
-      let quiet : ending.end ≡ ends.Quiet = same-end ending history round sound.slots sound.past ending_is sound.quiet in
+      let quiet : ending.end ≡ round_ends.Quiet = same-end ending history round sound.slots sound.past ending_is sound.quiet in
       let matched : is_matched (tag_after_query round history number tag).state ≡ true =
       subst (λ n. is_matched (tag_after_query n history number tag).state ≡ true) number-is
       (matched-is number tag part ∙ ap (is_side among.spec.target) (flag part.present) ∙ own-side among.spec.target) in
@@ -248,8 +232,8 @@ module _ (keeps : RoundsKeepLimit) (facts : RoundsHaveFacts) (among : RoundAmong
       let now = tag_where among.start among.before number tag in
       let found = flags_behind_query spec.session now.state now.body.flags in
       let left = tag_behind number tag last.now in
-      let quiet : last.end ≡ ends.Quiet = same-end (record { end = last.end; slots = slots_to last; past = last.now }) history round sound.slots sound.past
-      own-told.by.ending (subst (λ n. ending_of n history ≡ Some (record { end = ends.Quiet; slots = sound.slots; past = sound.past })) (sym number-is) sound.quiet) in
+      let quiet : last.end ≡ round_ends.Quiet = same-end (record { end = last.end; slots = slots_to last; past = last.now }) history round sound.slots sound.past
+      own-told.by.ending (subst (λ n. ending_of n history ≡ Some (record { end = round_ends.Quiet; slots = sound.slots; past = sound.past })) (sym number-is) sound.quiet) in
       let stands = at-quiet (played among) last history own-told.by quiet number tag numbered in
       let ready : left.state ≡ ReadyState = stands.ready (subst (λ (t : TagValue). is_present t.state ≡ true) (behind-round number tag) there) in
       let flags : left.body.flags ≡ flags_in_round spec.session (is_side spec.target (side_of found spec.session)) found =

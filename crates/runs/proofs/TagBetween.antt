@@ -1,14 +1,9 @@
 -- What becomes of a tag between the slot commands of a round: nothing, or an ACK.
-use Rattle.std.proofs.Common.{◌≡◌, ◌≢◌, ℕ, ◌==◌, Bool, true, false, Some, None, if◌then◌else◌, refl, inl, inr}
+use Rattle.runs.proofs.Names.{◌≡◌, ◌≢◌, ℕ, ◌==◌, Bool, true, false, Some, None, if◌then◌else◌, refl, inl, inr, SlotOutcome, Silence, Whole, plain_answer, back, epc_reply, ack, step, StateValue}
+use Rattle.runs.proofs.Names.{ReadyState, ArbitrateState, ReplyState, AcknowledgedState, KilledState, UnpoweredState, BodyValue, TagValue, is_matched, IsAfterSlot, IsBeforeSlot, slot_answer_of}
+use Rattle.runs.proofs.Names.{is_acknowledged_by}
 use Rattle.command_grammar.specs.declared.commands.Command.TheVariants as commands
-use Rattle.q_round.specs.declared.frame.Outcome.{Outcome as SlotOutcome}
-use Rattle.q_round.specs.declared.frame.Outcome.TheVariants.{Silence, Whole}
-use Rattle.tag_machine.specs.Answers.{Outcome, plain_answer}
-use Rattle.tag_machine.specs.Draws.{back}
-use Rattle.tag_machine.specs.Inventory.{epc_reply, ack}
-use Rattle.tag_machine.specs.Step.{step}
-use Rattle.tag_machine.specs.TagValue.{StateValue, ReadyState, ArbitrateState, ReplyState, AcknowledgedState, OpenState, SecuredState, KilledState, UnpoweredState, BodyValue, TagValue}
-use Rattle.runs.specs.TagInRound.{is_matched, IsAfterSlot, IsBeforeSlot, slot_answer_of, is_acknowledged_by}
+use Rattle.tag_machine.specs.Answers.{Outcome}
 use Rattle.runs.proofs.Members.{Frame, StandsAfter, StandsBefore}
 
 -- no ACK is sent
@@ -52,11 +47,9 @@ ack-goes on outcome matched listed rn (ReplyState own own_q own_rn) body heard i
     (own_rn == rn)
     (record { state = record { unlisted = is; now = refl; heard = heard }; body = refl; answer = refl })
     (record { state = record { unlisted = is; not_now = refl; counter = inr (refl, heard) }; body = refl; answer = refl })
-ack-goes on outcome matched listed rn (AcknowledgedState own own_q own_rn) body heard is = absurd is
-ack-goes on outcome matched listed rn (OpenState held) body heard is = absurd is
-ack-goes on outcome matched listed rn (SecuredState held) body heard is = absurd is
 ack-goes on outcome matched listed rn KilledState body heard is = record { state = (is, refl); body = refl; answer = refl }
 ack-goes on outcome matched listed rn UnpoweredState body heard is = record { state = (is, refl); body = refl; answer = refl }
+ack-goes on outcome matched listed rn state body heard is = absurd is
 
 -- An ACK lists the tag that is in reply with its number. It takes each other tag in reply to arbitrate with slot 0, and leaves all others as
 -- they are.

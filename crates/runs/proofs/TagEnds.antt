@@ -1,13 +1,7 @@
 -- What is known of a tag where a round ends.
-use Rattle.std.proofs.Common.{◌≡◌, ℕ, Bool, true, false, List, [], ◌∷◌, ◌++◌, length, refl, ap, sym, ◌∙◌, subst, inl, inr, add-one, arith}
-use Rattle.std.proofs.lemmas.Bool.{false_from_ne_true}
-use Rattle.std.specs.List.{AllByRecursion}
-use Rattle.q_round.specs.declared.frame.Outcome.{Outcome as SlotOutcome}
-use Rattle.q_round.specs.declared.frame.Outcome.TheVariants.{Silence}
-use Rattle.q_round.specs.laws.RoundLaws.{IsSilentFrame}
-use Rattle.tag_machine.specs.TagValue.{StateValue, ReadyState, ArbitrateState, AcknowledgedState, OpenState, SecuredState, KilledState, UnpoweredState, TagValue, is_present}
-use Rattle.runs.specs.TagInRound.{is_matched, IsCounterBefore, flags_in_round}
-use Rattle.runs.specs.TagAtEnd.{is_acknowledged, StandsAtQuiet, StandsAtEnd, IsListedOnce}
+use Rattle.runs.proofs.Names.{◌≡◌, ℕ, Bool, true, false, List, [], ◌∷◌, ◌++◌, length, refl, ap, sym, ◌∙◌, subst, inl, inr, add-one, arith, false_from_ne_true, AllByRecursion, SlotOutcome, Silence}
+use Rattle.runs.proofs.Names.{IsSilentFrame, StateValue, ReadyState, ArbitrateState, AcknowledgedState, OpenState, SecuredState, KilledState, UnpoweredState, TagValue, is_present, is_matched}
+use Rattle.runs.proofs.Names.{IsCounterBefore, flags_in_round, is_acknowledged, StandsAtQuiet, StandsAtEnd, IsListedOnce}
 use Rattle.runs.proofs.Members.{Frame, Member, MayStand, StandsBefore}
 
 -- a tag that is ready, or takes no part, isn't listed twice

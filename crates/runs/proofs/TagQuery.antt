@@ -1,18 +1,11 @@
 -- What the Query that begins a round makes of a tag, whatever the tag was before.
-use Rattle.std.proofs.Common.{◌≡◌, ◌≢◌, ℕ, ◌==◌, ◌&&◌, Bool, true, false, [], if◌then◌else◌, refl, ap, ◌∙◌, inl, eq-eqb}
-use Rattle.bit_strings.specs.declared.code.Code.{Code}
-use Rattle.command_fields.specs.declared.choices.Sel.{Sel}
-use Rattle.command_fields.specs.declared.choices.Side.{Side}
+use Rattle.runs.proofs.Names.{◌≡◌, ◌≢◌, ℕ, ◌==◌, ◌&&◌, Bool, true, false, [], if◌then◌else◌, refl, ap, ◌∙◌, inl, eq-eqb, Code, Sel, Side, Flags, matches, flags_after_inversion, silent}
+use Rattle.runs.proofs.Names.{body_after_draw, begin_reply, slot_of_draw, enter, body_after_inversion, take_part, body_after_close, step, StateValue, ReadyState, ArbitrateState, ReplyState}
+use Rattle.runs.proofs.Names.{AcknowledgedState, OpenState, SecuredState, BodyValue, TagValue, is_present, is_matched, IsAfterSlot, flags_closed, flags_behind_query, StandsAfterSlot, slot_answer_of}
 use Rattle.command_grammar.specs.declared.commands.Command.TheVariants as commands
-use Rattle.session_flags.specs.declared.flags.Flags.{Flags}
-use Rattle.session_flags.specs.Flags.{matches, flags_after_inversion}
-use Rattle.tag_machine.specs.Answers.{Outcome, silent}
-use Rattle.tag_machine.specs.Draws.{body_after_draw, begin_reply, slot_of_draw, enter, body_after_inversion}
-use Rattle.tag_machine.specs.Inventory.{take_part, body_after_close, query}
-use Rattle.tag_machine.specs.Step.{step}
-use Rattle.tag_machine.specs.TagValue.{StateValue, ReadyState, ArbitrateState, ReplyState, AcknowledgedState, OpenState, SecuredState, BodyValue, TagValue, is_present}
+use Rattle.tag_machine.specs.Answers.{Outcome}
+use Rattle.tag_machine.specs.Inventory.{query}
 use Rattle.runs.proofs.TagSteps.{slot_drawn}
-use Rattle.runs.specs.TagInRound.{is_matched, IsAfterSlot, flags_closed, flags_behind_query, StandsAfterSlot, slot_answer_of}
 
 -- What is known of what the Query makes of a tag that is present or not, and takes part or doesn't. The flags are those behind the
 -- Query, and the body is that before it.

@@ -1,24 +1,11 @@
 -- What each command of a round makes of a tag that stands in the round.
-use Rattle.std.proofs.Common.{◌≡◌, ◌≢◌, ℕ, ◌-◌, ◌^◌, ◌<◌, ◌≤◌, ◌==◌, ◌||◌, Bool, true, false, List, [], ◌∷◌, length, None, if◌then◌else◌, refl, ap, sym, ◌∙◌, subst, inl, inr, eq-eqb, arith}
-use Rattle.std.proofs.Math.Nat.{pow-le-pow_right}
-use Rattle.std.proofs.Math.Bool.{or-false, or-true}
-use Rattle.std.proofs.lemmas.Bool.{ne_eqb}
-use Rattle.std.proofs.lemmas.List.{length-append}
-use Rattle.std.proofs.lemmas.Nat.{mod_below, pow_pos}
-use Rattle.command_fields.specs.declared.choices.UpDn.{UpDn}
-use Rattle.command_fields.specs.declared.choices.UpDn.TheVariants.{Up, Same, Down}
-use Rattle.command_grammar.specs.declared.commands.Command.{Command}
+use Rattle.runs.proofs.Names.{◌≡◌, ◌≢◌, ℕ, ◌-◌, ◌^◌, ◌<◌, ◌≤◌, ◌==◌, ◌||◌, Bool, true, false, List, [], ◌∷◌, length, None, if◌then◌else◌, refl, ap, sym, ◌∙◌, subst, inl, inr, eq-eqb, arith}
+use Rattle.runs.proofs.Names.{pow-le-pow_right, or-false, or-true, ne_eqb, length-append, mod_below, pow_pos, UpDn, Up, Same, Down, Command, Flags, SlotOutcome, IsNextSlot, IsMoved, silent, draw_of}
+use Rattle.runs.proofs.Names.{body_after_draw, begin_reply, slot_of_draw, enter, close, back, slot_below, count_down, query_rep, q_after_adjust, query_adjust, step, StateValue, ReadyState}
+use Rattle.runs.proofs.Names.{ArbitrateState, ReplyState, AcknowledgedState, KilledState, UnpoweredState, BodyValue, TagValue, is_matched, IsToCome, HasAnswered, IsCounter, IsUnlisted, IsAfterSlot}
+use Rattle.runs.proofs.Names.{IsCounterBefore, flags_in_round, KeepsBody, slot_answer_of}
 use Rattle.command_grammar.specs.declared.commands.Command.TheVariants as commands
-use Rattle.session_flags.specs.declared.flags.Flags.{Flags}
-use Rattle.q_round.specs.declared.frame.Outcome.{Outcome as SlotOutcome}
-use Rattle.q_round.specs.laws.RoundFacts.{IsNextSlot}
-use Rattle.q_round.specs.laws.RoundLaws.{IsMoved}
-use Rattle.tag_machine.specs.Answers.{Outcome, silent}
-use Rattle.tag_machine.specs.Draws.{draw_of, body_after_draw, begin_reply, slot_of_draw, enter, close, back}
-use Rattle.tag_machine.specs.Inventory.{slot_below, count_down, query_rep, q_after_adjust, query_adjust}
-use Rattle.tag_machine.specs.Step.{step}
-use Rattle.tag_machine.specs.TagValue.{StateValue, ReadyState, ArbitrateState, ReplyState, AcknowledgedState, KilledState, UnpoweredState, BodyValue, TagValue}
-use Rattle.runs.specs.TagInRound.{is_matched, IsToCome, HasAnswered, IsCounter, IsUnlisted, IsAfterSlot, IsCounterBefore, flags_in_round, KeepsBody, slot_answer_of}
+use Rattle.tag_machine.specs.Answers.{Outcome}
 use Rattle.runs.proofs.Members.{Frame, Member, MayStand, StandsAfter, StandsBefore}
 
 -- a slot of the frame ends so, and behind it the round goes on with this Q and frame

@@ -1,11 +1,6 @@
 -- The tags behind a past that is one item longer.
-use Rattle.std.proofs.Common.{◌≡◌, ℕ, suc, ◌+◌, List, [], ◌∷◌, length, refl, ap, ◌∙◌}
-use Rattle.access_ops.specs.declared.op_next.OpResult.{OpResult}
-use Rattle.air_events.specs.declared.Event.{Event}
-use Rattle.tag_machine.specs.TagsInExchange.{outcome_in, outcomes_from, tags_after, tag_after_own_event, tags_after_event}
-use Rattle.air_model.specs.Past.{Start, Record, Item, befell, exchanged, operated, ended, tag_behind, tags_behind_from, tags_behind}
-use Rattle.q_round.specs.declared.round.RoundEnd.{RoundEnd}
-use Rattle.tag_machine.specs.TagValue.{TagValue}
+use Rattle.runs.proofs.Names.{◌≡◌, ℕ, suc, ◌+◌, List, [], ◌∷◌, length, refl, ap, ◌∙◌, OpResult, Event, outcome_in, outcomes_from, tags_after, tag_after_own_event, tags_after_event, Start, Record}
+use Rattle.runs.proofs.Names.{Item, befell, exchanged, operated, ended, tag_behind, tags_behind_from, tags_behind, RoundEnd, TagValue}
 
 -- behind an exchange
 tags-exchanged-from : (number : ℕ) (starts : List TagValue) (sent : Record) (past : List Item)

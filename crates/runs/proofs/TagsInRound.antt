@@ -1,19 +1,11 @@
 -- Where the tags of a start stand in a round of which nothing is said: just after each slot command, and just before the next.
-use Rattle.std.proofs.Common.{◌≡◌, ◌≢◌, ℕ, ◌+◌, ◌-◌, ◌<◌, ◌==◌, ◌||◌, Bool, true, false, List, [], ◌∷◌, ◌++◌, length, Option, Some, None, slice_get, if◌then◌else◌, refl, ap, sym, ◌∙◌, subst, arith, add-one, eq-eqb, ne_eqb}
-use Rattle.std.proofs.lemmas.Bool.{eqb-true}
-use Rattle.air_model.specs.Past.{Start, Record, Item, exchanged, tag_behind, next_entry, next_record, past_behind_command}
-use Rattle.reply_grammar.specs.Reception.{Reception}
-use Rattle.air_events.specs.Entries.{no_entry}
-use Rattle.runs.specs.Headline.{begins_slot}
-use Rattle.runs.specs.History.{outcome_of, slot_reception}
-use Rattle.runs.specs.Listing.{listed_from, listed_by, reception_of_ack}
-use Rattle.command_grammar.specs.declared.commands.Command.{Command}
+use Rattle.runs.proofs.Names.{◌≡◌, ◌≢◌, ℕ, ◌+◌, ◌-◌, ◌<◌, ◌==◌, ◌||◌, Bool, true, false, List, [], ◌∷◌, ◌++◌, length, Option, Some, None, slice_get, if◌then◌else◌, refl, ap, sym, ◌∙◌, subst, arith}
+use Rattle.runs.proofs.Names.{add-one, eq-eqb, ne_eqb, eqb-true, and_parts, not, Start, Record, Item, exchanged, tag_behind, next_entry, next_record, past_behind_command, Reception, no_entry}
+use Rattle.runs.proofs.Names.{begins_slot, outcome_of, slot_reception, listed_from, listed_by, reception_of_ack, Command, HasNumber, is_spoken_to, sender_where, sender_listed_by, listed_as}
+use Rattle.runs.proofs.Names.{is_of_round, is_of_slot, tags_listed_in, tags_listed_in_slot, times, is_query, begins_later_slot, is_query_of, past_after_query, flags_behind, is_matched, flags_in_round}
+use Rattle.runs.proofs.Names.{slot_answer_of, is_acknowledged_by, LinkValue, IsNextSlot, IsNextTurn, RoundFacts, q_of, frame_of, SpecValue, Outcome, Silence, Whole, Next, TagValue}
 use Rattle.command_grammar.specs.declared.commands.Command.TheVariants as commands
-use Rattle.runs.specs.Complete.{HasNumber}
-use Rattle.runs.specs.CountedTags.{is_spoken_to}
-use Rattle.runs.specs.Listed.{sender_where, sender_listed_by, listed_as, is_of_round, is_of_slot, tags_listed_in, tags_listed_in_slot, times}
-use Rattle.runs.specs.MomentsOfRound.{is_query, begins_later_slot, is_query_of, past_after_query, flags_behind}
-use Rattle.runs.specs.TagInRound.{is_matched, flags_in_round, slot_answer_of, is_acknowledged_by}
+use Rattle.q_round.specs.declared.round.Next.TheVariants as nexts
 use Rattle.runs.proofs.Heard.{slot-heard, silent-none, no-replies-none, IsOnlyAnswerer, same-tag, acknowledges-one, epc_sent, ack-lists, ack-lists-as}
 use Rattle.runs.proofs.HeadlineLines.{and-false}
 use Rattle.runs.proofs.Records.{AllRecords}
@@ -24,15 +16,6 @@ use Rattle.runs.proofs.Members.{Frame, Member, StandsAfter, StandsBefore}
 use Rattle.runs.proofs.TagSteps.{Turn, slot-stands, slot-answer, slot-flags}
 use Rattle.runs.proofs.Times.{bit, times-append, times-one, bit-either, bit-test, lists-none, lists-elsewhere, lists-one}
 use Rattle.runs.proofs.PlayedRounds.{SlotOfRun, PlayedRound, number_of, slot_in, DoesNext}
-use Rattle.pie_line.specs.Link.{LinkValue}
-use Rattle.q_round.specs.laws.RoundFacts.{IsNextSlot, IsNextTurn, RoundFacts}
-use Rattle.q_round.specs.Rounds.{q_of, frame_of}
-use Rattle.q_round.specs.SpecValue.{SpecValue}
-use Rattle.q_round.specs.declared.frame.Outcome.{Outcome}
-use Rattle.q_round.specs.declared.frame.Outcome.TheVariants.{Silence, Whole}
-use Rattle.q_round.specs.declared.round.Next.{Next}
-use Rattle.q_round.specs.declared.round.Next.TheVariants as nexts
-use Rattle.tag_machine.specs.TagValue.{TagValue}
 
 -- the Query of a round
 abbrev pub query_command : SpecValue → LinkValue → Command
@@ -277,14 +260,11 @@ later-slot (commands.QueryAdjust own updn) session q frame next_q next_frame nex
 later-slot command session q frame next_q next_frame next = absurd next
 
 later-begins : (command : Command) → begins_later_slot command ≡ true → begins_slot command ≡ true
-later-begins (commands.QueryRep own) later = refl
-later-begins (commands.QueryAdjust own updn) later = refl
-later-begins command later = absurd (cc)
+later-begins command later = (and_parts (begins_slot command) (not (is_query command)) later).0
 
 later-no-query : (command : Command) → begins_later_slot command ≡ true → is_query command ≡ false
-later-no-query (commands.QueryRep own) later = refl
-later-no-query (commands.QueryAdjust own updn) later = refl
-later-no-query command later = absurd (cc)
+later-no-query (commands.Query dr code trext sel session target q) later = absurd (cc)
+later-no-query command later = refl
 
 no-query-of : (round : ℕ) (sent : Record) → is_query sent.command ≡ false → is_query_of round sent ≡ false
 no-query-of round sent no_query = rw no_query refl

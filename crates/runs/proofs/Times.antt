@@ -1,9 +1,6 @@
 -- How many times a number stands in the list of the tags that are listed.
-use Rattle.std.proofs.Common.{◌≡◌, ℕ, ◌+◌, ◌≤◌, ◌==◌, ◌||◌, Bool, true, false, List, [], ◌∷◌, ◌++◌, length, filter, if◌then◌else◌, refl, ap, ◌∙◌, append-nil, arith}
-use Rattle.std.proofs.lemmas.List.{length-append}
-use Rattle.std.proofs.lemmas.List.Elements.{filter-append}
-use Rattle.air_model.specs.Past.{Record, Item, exchanged}
-use Rattle.runs.specs.Listed.{sender_listed_by, tags_listed_where, times}
+use Rattle.runs.proofs.Names.{◌≡◌, ℕ, ◌+◌, ◌≤◌, ◌==◌, ◌||◌, Bool, true, false, List, [], ◌∷◌, ◌++◌, length, filter, if◌then◌else◌, refl, ap, ◌∙◌, append-nil, arith, length-append, filter-append}
+use Rattle.runs.proofs.Names.{Record, Item, exchanged, sender_listed_by, tags_listed_where, times}
 
 -- a test as a number
 abbrev pub bit : Bool → ℕ

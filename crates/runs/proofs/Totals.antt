@@ -1,15 +1,7 @@
 -- How many tags are listed, from how many times each number is.
-use Rattle.std.proofs.Common.{◌≡◌, ℕ, zero, suc, ◌+◌, ◌<◌, ◌≤◌, ◌==◌, ◌⊎◌, inl, inr, List, [], ◌∷◌, length, Some, slice_get, if◌then◌else◌, refl, ap, sym, ◌∙◌, subst, arith, eq-eqb, ne_eqb}
-use Rattle.std.proofs.lemmas.Bool.{cases_lt}
-use Rattle.std.specs.List.{AllByRecursion}
-use Rattle.air_model.specs.Past.{Start, Item}
-use Rattle.runs.specs.Complete.{HasNumber}
-use Rattle.runs.specs.CountedTags.{is_spoken_to, tags_spoken_to}
-use Rattle.runs.specs.Listed.{times}
-use Rattle.runs.specs.MomentsOfRound.{tag_after_query}
+use Rattle.runs.proofs.Names.{◌≡◌, ℕ, zero, suc, ◌+◌, ◌<◌, ◌≤◌, ◌==◌, ◌⊎◌, inl, inr, List, [], ◌∷◌, length, Some, slice_get, if◌then◌else◌, refl, ap, sym, ◌∙◌, subst, arith, eq-eqb, ne_eqb, cases_lt}
+use Rattle.runs.proofs.Names.{AllByRecursion, Start, Item, HasNumber, is_spoken_to, tags_spoken_to, times, tag_after_query, SpecValue, TagValue}
 use Rattle.runs.proofs.Times.{bit, times-first}
-use Rattle.q_round.specs.SpecValue.{SpecValue}
-use Rattle.tag_machine.specs.TagValue.{TagValue}
 
 -- the sum of a function of so many numbers from the first one on
 sum_from : ℕ → ℕ → (ℕ → ℕ) → ℕ

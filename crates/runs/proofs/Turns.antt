@@ -1,25 +1,12 @@
 -- What holds after each command that a round may send, and from there at both of its ends, holds of the round.
-use Rattle.std.proofs.Common.{◌≡◌, ℕ, ◌+◌, ◌≢◌, ◌⊎◌, inl, inr, Bool, true, false, List, [], ◌∷◌, length, None, if◌then◌else◌, refl, ap, sym, ◌∙◌, subst}
-use Rattle.access_ops.specs.Operations.{Dialogue, done, operations_from_rn16, denials, is_for, dialogue_of}
-use Rattle.access_ops.specs.laws.OperationLaws.{Expects}
-use Rattle.access_ops.specs.declared.Op.{Op}
-use Rattle.access_ops.specs.declared.OpList.{OpList}
-use Rattle.access_ops.specs.declared.op_next.OpResult.{OpResult}
-use Rattle.air_model.specs.Past.{Record, Item, operated, ended, next_record, past_behind_command}
-use Rattle.reply_grammar.specs.Reception.{Reception, no_stream, whole_reply, no_such_reply}
-use Rattle.runs.specs.History.{outcome_of, past_behind_dialogue, dialogue_begun, ack_reception, slot_reception, past_behind_slot}
-use Rattle.runs.specs.NextItem.{rn_of}
+use Rattle.runs.proofs.Names.{◌≡◌, ℕ, ◌+◌, ◌≢◌, ◌⊎◌, inl, inr, Bool, true, false, List, [], ◌∷◌, length, None, if◌then◌else◌, refl, ap, sym, ◌∙◌, subst, Dialogue, done, operations_from_rn16, denials}
+use Rattle.runs.proofs.Names.{is_for, dialogue_of, Expects, Op, OpList, OpResult, Record, Item, operated, ended, next_record, past_behind_command, Reception, no_stream, whole_reply, no_such_reply}
+use Rattle.runs.proofs.Names.{outcome_of, past_behind_dialogue, dialogue_begun, ack_reception, slot_reception, past_behind_slot, rn_of, Command, IsLegalSpec, Outcome, Whole, RoundEnd, Expect}
+use Rattle.command_grammar.specs.declared.commands.Command.TheVariants as commands
+use Rattle.q_round.specs.declared.round.Next.TheVariants as nexts
+use Rattle.reply_grammar.specs.declared.expected.Reply.TheVariants as replies
 use Rattle.runs.proofs.Growth.{RoundsKeepLimit, KeptByOperations, dialogue-keeps, begun-awaits, next_at_end, outcome-cases, round-holds as behind-round}
 use Rattle.runs.proofs.PlayedRounds.{SlotOfRun, PlayedRound, number_of, slot_in, past_behind_played, DoesNext}
-use Rattle.command_grammar.specs.declared.commands.Command.{Command}
-use Rattle.command_grammar.specs.declared.commands.Command.TheVariants as commands
-use Rattle.q_round.specs.SpecValue.{IsLegalSpec}
-use Rattle.q_round.specs.declared.frame.Outcome.{Outcome}
-use Rattle.q_round.specs.declared.frame.Outcome.TheVariants.{Whole}
-use Rattle.q_round.specs.declared.round.Next.TheVariants as nexts
-use Rattle.q_round.specs.declared.round.RoundEnd.{RoundEnd}
-use Rattle.reply_grammar.specs.declared.expected.Expect.{Expect}
-use Rattle.reply_grammar.specs.declared.expected.Reply.TheVariants as replies
 
 -- What holds in a round. `Before` speaks of the outcomes so far, the latest first, and the past, just before a slot command, an
 -- operation or the end; `Sent` of the outcomes so far, the record of the slot command, and the past behind which it was sent; `After`

@@ -1,41 +1,23 @@
 -- A round of which nothing is said, from its Query to its end.
-use Rattle.std.proofs.Common.{◌≡◌, ℕ, ◌+◌, ◌==◌, Bool, true, false, List, [], ◌∷◌, length, if◌then◌else◌, refl, ap, sym, ◌∙◌, subst, append-nil, eq-eqb}
-use Rattle.std.proofs.lemmas.Bool.{and_parts, eqb-true}
-use Rattle.tag_machine.specs.TagsInExchange.{replies_in}
-use Rattle.air_model.specs.Past.{Start, Record, Item, exchanged, ended, tag_behind, tags_behind, next_entry, next_record}
-use Rattle.reply_grammar.specs.Reception.{whole_reply}
-use Rattle.air_events.specs.Entries.{no_entry}
-use Rattle.air_events.specs.declared.Entry.{Entry}
+use Rattle.runs.proofs.Names.{◌≡◌, ℕ, ◌+◌, ◌==◌, Bool, true, false, List, [], ◌∷◌, length, if◌then◌else◌, refl, ap, sym, ◌∙◌, subst, append-nil, eq-eqb, and_parts, eqb-true, replies_in, Start, Record}
+use Rattle.runs.proofs.Names.{Item, exchanged, ended, tag_behind, tags_behind, next_entry, next_record, whole_reply, no_entry, Entry, begins_slot, Command, is_spoken_to, AreApart, sender_listed_by}
+use Rattle.runs.proofs.Names.{is_of_round, is_of_slot, tags_listed_where, times, past_after_query, is_matched, slot_answer_of, StandsAfterSlot, LinkValue, IsNextTurn, RoundFacts, IsSilentFrame}
+use Rattle.runs.proofs.Names.{AreOutcomes, next_command, q_of, frame_of, SpecValue, IsLegalSpec, Outcome, Next, RoundEnd, TagValue}
 use Rattle.air_events.specs.declared.Several.TheVariants as severals
-use Rattle.runs.specs.Headline.{begins_slot}
-use Rattle.command_grammar.specs.declared.commands.Command.{Command}
-use Rattle.runs.specs.CountedTags.{is_spoken_to}
-use Rattle.runs.specs.Honest.{AreApart}
-use Rattle.runs.specs.Listed.{sender_listed_by, is_of_round, is_of_slot, tags_listed_where, times}
-use Rattle.runs.specs.MomentsOfRound.{past_after_query}
-use Rattle.runs.specs.TagInRound.{is_matched, slot_answer_of, StandsAfterSlot}
+use Rattle.q_round.specs.declared.round.Next.TheVariants as nexts
+use Rattle.q_round.specs.declared.round.RoundEnd.TheVariants as round_ends
+use Rattle.reply_grammar.specs.declared.expected.Reply.TheVariants as replies
 use Rattle.runs.proofs.Heard.{slot-heard, heard-one, one-answerer}
 use Rattle.runs.proofs.OtherRounds.{AreOfOthers, IsTestOf, listed-others, records-others}
 use Rattle.runs.proofs.Records.{AllRecords}
 use Rattle.runs.proofs.Population.{tag-steps, replies_behind}
-use Rattle.runs.proofs.TagsInRound.{query_command, past_at_query, StepsFlagsOf, ListsOwnEpc, lists-nobody, StandsSent, StandsNext, slot-no-sender, stands-unacknowledged, stands-acknowledged, stands-sent}
+use Rattle.runs.proofs.TagsInRound.{query_command, past_at_query, StepsFlagsOf, ListsOwnEpc, lists-nobody, StandsSent, StandsNext, slot-no-sender, stands-unacknowledged, stands-acknowledged}
+use Rattle.runs.proofs.TagsInRound.{stands-sent}
 use Rattle.runs.proofs.TagQuery.{query-stands, query-answer, query-spoken}
 use Rattle.runs.proofs.Times.{lists-none}
 use Rattle.runs.proofs.Turns.{round-holds}
 use Rattle.runs.proofs.Growth.{RoundsKeepLimit, next_at_end}
 use Rattle.runs.proofs.PlayedRounds.{PlayedRound, number_of, past_behind_played, DoesNext}
-use Rattle.pie_line.specs.Link.{LinkValue}
-use Rattle.q_round.specs.laws.RoundFacts.{IsNextTurn, RoundFacts}
-use Rattle.q_round.specs.laws.RoundLaws.{IsSilentFrame}
-use Rattle.q_round.specs.Rounds.{AreOutcomes, next_command, q_of, frame_of}
-use Rattle.q_round.specs.SpecValue.{SpecValue, IsLegalSpec}
-use Rattle.q_round.specs.declared.frame.Outcome.{Outcome}
-use Rattle.q_round.specs.declared.round.Next.{Next}
-use Rattle.q_round.specs.declared.round.Next.TheVariants as nexts
-use Rattle.q_round.specs.declared.round.RoundEnd.{RoundEnd}
-use Rattle.q_round.specs.declared.round.RoundEnd.TheVariants as ends
-use Rattle.reply_grammar.specs.declared.expected.Reply.TheVariants as replies
-use Rattle.tag_machine.specs.TagValue.{TagValue}
 
 -- nothing is said of a record, and where the channel captures one of several replies no two tags answered a slot command alike
 pub record IsFair (start : Start) (sent : Record) : Type 0 where
@@ -131,7 +113,7 @@ slots_to last = length (last.outcome ∷ last.earlier)
 
 -- where the round ends quiet, its last frame was silent
 abbrev pub IsSilentWhereQuiet : SpecValue → LastSlot → Type 0
-IsSilentWhereQuiet spec last = last.end ≡ ends.Quiet → IsSilentFrame (q_of spec last.earlier) (last.outcome ∷ frame_of spec last.earlier)
+IsSilentWhereQuiet spec last = last.end ≡ round_ends.Quiet → IsSilentFrame (q_of spec last.earlier) (last.outcome ∷ frame_of spec last.earlier)
 
 -- behind the end
 pub record IsOver (round : PlayedRound) (behind : List Item) : Type 0 where
@@ -161,15 +143,15 @@ slot-sent round facts others (outcome ∷ earlier) now command does holds unsaid
     stands-sent round facts outcome earlier now command does (unsaid.0 refl).unsaid (holds unsaid.1)
 
 no-end-yet : (spec : SpecValue) (link : LinkValue) (end : RoundEnd) → RoundFacts spec link → next_command spec link [] ≡ next_at_end end → ⊥
-no-end-yet spec link ends.Quiet facts is = let both : nexts.Send (query_command spec link) ≡ nexts.Quiet = sym facts.begins ∙ is in cc
-no-end-yet spec link ends.Limit facts is = let both : nexts.Send (query_command spec link) ≡ nexts.Limit = sym facts.begins ∙ is in cc
+no-end-yet spec link round_ends.Quiet facts is = let both : nexts.Send (query_command spec link) ≡ nexts.Quiet = sym facts.begins ∙ is in cc
+no-end-yet spec link round_ends.Limit facts is = let both : nexts.Send (query_command spec link) ≡ nexts.Limit = sym facts.begins ∙ is in cc
 
 silent-end : (spec : SpecValue) (link : LinkValue) (outcome : Outcome) (earlier : List Outcome) (end : RoundEnd) → RoundFacts spec link → AreOutcomes spec (outcome ∷ earlier)
-    → next_command spec link (outcome ∷ earlier) ≡ next_at_end end → end ≡ ends.Quiet → IsSilentFrame (q_of spec earlier) (outcome ∷ frame_of spec earlier)
-silent-end spec link outcome earlier ends.Quiet facts are is quiet =
+    → next_command spec link (outcome ∷ earlier) ≡ next_at_end end → end ≡ round_ends.Quiet → IsSilentFrame (q_of spec earlier) (outcome ∷ frame_of spec earlier)
+silent-end spec link outcome earlier round_ends.Quiet facts are is quiet =
     subst (λ (next : Next). IsNextTurn next spec.session (q_of spec earlier) (outcome ∷ frame_of spec earlier) (q_of spec (outcome ∷ earlier)) (frame_of spec (outcome ∷ earlier))) is
     (facts.turn outcome earlier are)
-silent-end spec link outcome earlier ends.Limit facts are is quiet = absurd (cc)
+silent-end spec link outcome earlier round_ends.Limit facts are is quiet = absurd (cc)
 
 round-over : (round : PlayedRound) → RoundFacts round.spec round.start.link
     → (outcomes : List Outcome) (now : List Item) (end : RoundEnd) → DoesNext round outcomes (next_at_end end)

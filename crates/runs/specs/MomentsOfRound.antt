@@ -1,10 +1,11 @@
 -- Profile: the moments of a round of a history, each as what was past then.
-use Rattle.std.specs.Prelude.{ℕ, ◌==◌, ◌&&◌, Bool, true, false, List, [], ◌∷◌, Option, Some, None, if◌then◌else◌}
+use Rattle.std.specs.Prelude.{ℕ, ◌==◌, ◌&&◌, not, Bool, true, false, List, [], ◌∷◌, Option, Some, None, if◌then◌else◌}
 use Rattle.air_model.specs.Past.{Record, Item, befell, exchanged, operated, ended, tag_behind}
 use Rattle.command_grammar.specs.declared.commands.Command.{Command}
 use Rattle.command_grammar.specs.declared.commands.Command.TheVariants as commands
 use Rattle.q_round.specs.declared.round.RoundEnd.{RoundEnd}
 use Rattle.session_flags.specs.declared.flags.Flags.{Flags}
+use Rattle.runs.specs.Headline.{begins_slot}
 use Rattle.runs.specs.TagInRound.{is_matched}
 use Rattle.tag_machine.specs.TagValue.{TagValue}
 
@@ -13,11 +14,9 @@ abbrev pub is_query : Command → Bool
 is_query (commands.Query dr code trext sel session target q) = true
 is_query command = false
 
--- 6.3.2.11.2 Inventory commands: the command begins a slot of a round behind its first one
+-- 6.3.2.11.2 Inventory commands: the command begins a slot of a round behind its first one, which a Query begins
 abbrev pub begins_later_slot : Command → Bool
-begins_later_slot (commands.QueryAdjust session updn) = true
-begins_later_slot (commands.QueryRep session) = true
-begins_later_slot command = false
+begins_later_slot command = begins_slot command && not (is_query command)
 
 -- the record is that of the Query of a round
 abbrev pub is_query_of : ℕ → Record → Bool

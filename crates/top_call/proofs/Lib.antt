@@ -12,5 +12,6 @@ pub mod ToldForms
 pub mod SummaryLines
 pub mod AuditTexts
 pub mod ObjectEnds
+pub mod PortalNames
 pub mod PortalsRefused
 pub mod PortalStepPlaces

@@ -1,12 +1,6 @@
 -- The lines of the steps, from a place on.
-use Rattle.std.proofs.Common.{◌≡◌, ℕ, ◌+◌, ◌<◌, List, [], ◌∷◌, ◌++◌, length, get_or, take, drop, refl, sym, ap, ◌∙◌, add-one, drop-cons}
-use Rattle.std.proofs.lemmas.List.{take_more}
-use Rattle.q_round.specs.SpecValue.{SpecValue}
-use Rattle.runs.specs.Portals.{specs_of}
-use Rattle.scenario.specs.declared.values.Step.{Step}
+use Rattle.top_call.proofs.PortalNames.{◌≡◌, ℕ, ◌+◌, ◌<◌, List, [], ◌∷◌, ◌++◌, length, get_or, take, drop, refl, sym, ap, ◌∙◌, add-one, drop-cons, take_more, SpecValue, specs_of, Step, Version, first_refused, lines_of_steps}
 use Rattle.scenario.specs.declared.values.Step.TheVariants as steps
-use Rattle.scenario_lines.specs.declared.version.Version.{Version}
-use Rattle.top_call.specs.PortalFault.{first_refused, lines_of_steps}
 
 -- the step at a place
 pub record IsStepAt (all : List Step) (place : ℕ) (step : Step) : Type 0 where

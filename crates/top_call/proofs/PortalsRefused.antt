@@ -1,36 +1,9 @@
 -- The first line of a scenario for which it is none of two portals, part by part.
-use Rattle.std.proofs.Common.{◌≡◌, ◌⊎◌, inl, inr, ℕ, ◌+◌, ◌≤◌, Bool, true, false, List, [], ◌∷◌, ◌++◌, length, map, Option, Some, None, refl, ap, sym, ◌∙◌, subst, append_assoc, arith}
-use Rattle.std.specs.Prelude.{◌==◌, ◌≢◌, All, if◌then◌else◌}
-use Rattle.std.specs.List.{flat_map}
-use Rattle.std.proofs.lemmas.Bool.{eqb-true}
-use Rattle.std.proofs.lemmas.List.{length-append}
-use Rattle.std.proofs.lemmas.List.Elements.{All-head, All-tail}
-use Rattle.access_ops.specs.declared.Op.{Op}
-use Rattle.access_ops.specs.declared.OpList.{OpList}
-use Rattle.air_events.specs.declared.Choice.{Choice}
-use Rattle.air_events.specs.declared.Entry.{Entry}
-use Rattle.air_events.specs.declared.Several.{Several}
+use Rattle.top_call.proofs.PortalNames.{◌≡◌, ◌⊎◌, inl, inr, ℕ, ◌+◌, ◌≤◌, Bool, true, false, List, [], ◌∷◌, ◌++◌, length, map, Option, Some, None, refl, ap, sym, ◌∙◌, subst, append_assoc, arith, ◌==◌, ◌≢◌, All, IsTrue, if◌then◌else◌, flat_map, eqb-true, length-append, All-head, All-tail, Op, OpList, Choice, Entry, Several, Command, LinkValue, SpecValue, AreTurns, IsOfPortals, other_portal, Event, count_copies, copies_of, tags_of, air_lines, entry_lines, IsCount, IsDefault, IsEntry, IsGroup, IsScenario, most_tags_of, group_line, head_lines, scenario_lines, step_lines, Scenario, Step, TagGroup, Line, Version, One, Two, captures, first_refused, head_length, lines_of_steps, portal_fault}
 use Rattle.air_events.specs.declared.Several.TheVariants as severals
-use Rattle.command_grammar.specs.declared.commands.Command.{Command}
 use Rattle.command_grammar.specs.declared.commands.Command.TheVariants as commands
-use Rattle.pie_line.specs.Link.{LinkValue}
-use Rattle.q_round.specs.SpecValue.{SpecValue}
-use Rattle.runs.specs.Portals.{AreTurns, IsOfPortals, other_portal}
-use Rattle.air_events.specs.declared.Event.{Event}
-use Rattle.scenario.proofs.Groups.{count_copies}
-use Rattle.scenario.specs.Groups.{copies_of, tags_of}
-use Rattle.scenario.specs.EntryLines.{air_lines, entry_lines}
-use Rattle.scenario.specs.Limits.{IsCount, IsDefault, IsEntry, IsGroup, IsScenario, most_tags_of}
-use Rattle.scenario.specs.ScenarioText.{group_line, head_lines, scenario_lines, step_lines}
-use Rattle.scenario.specs.declared.values.Scenario.{Scenario}
-use Rattle.scenario.specs.declared.values.Step.{Step}
 use Rattle.scenario.specs.declared.values.Step.TheVariants as steps
-use Rattle.scenario.specs.declared.values.TagGroup.{TagGroup}
-use Rattle.scenario_lines.specs.declared.line.Line.{Line}
 use Rattle.scenario_lines.specs.declared.line.Line.TheVariants as lines
-use Rattle.scenario_lines.specs.declared.version.Version.{Version}
-use Rattle.scenario_lines.specs.declared.version.Version.TheVariants.{One, Two}
-use Rattle.top_call.specs.PortalFault.{captures, first_refused, head_length, lines_of_steps, portal_fault}
 
 -- lines of tags are passed over
 group-passes : (number next : ℕ) (group : TagGroup) (later : List Line) → first_refused number next (group_line group ∷ later) ≡ first_refused (number + 1) next later
@@ -268,3 +241,8 @@ no-round next (steps.Select command) other = selects command
 no-round next steps.Nak other = naks
 no-round next (steps.Event event number) other = befalls event number
 no-round next (steps.Round spec operations) other = absurd (other spec operations refl)
+
+-- a test does not both fail and hold
+pub not-both : (test : Bool) → test ≡ false → IsTrue test → ⊥
+not-both true is holds = absurd (cc)
+not-both false is holds = absurd (cc)

@@ -1,7 +1,7 @@
-use Rattle.std.proofs.Common.{◌∷◌, []}
+use Rattle.runs.proofs.Names.{◌∷◌, []}
+use Rattle.scenario.specs.declared.values.Step.TheVariants as steps
 use Rattle.runs.proofs.EveryTag.{every-tag}
 use Rattle.runs.proofs.inventory.quiet_runs_list_every_tag.Goals as goal
-use Rattle.scenario.specs.declared.values.Step.TheVariants as steps
 
 pub returns : goal.returns
 returns c = λ start spec operations slots past legal part own silent none apart quiet.

@@ -1,7 +1,4 @@
-use Rattle.std.proofs.Common.{subst, List}
-use Rattle.air_model.specs.Past.{Item}
-use Rattle.runs.specs.History.{history_of}
-use Rattle.runs.specs.NextItem.{GrowsByNext}
+use Rattle.runs.proofs.Names.{subst, List, Item, history_of, GrowsByNext}
 use Rattle.runs.proofs.HeadlineNext.{history-grows, history-stops, one-growth, growth-at}
 use Rattle.runs.proofs.laws.histories_grow_by_the_next_item.Goals as goal
 

@@ -1,7 +1,5 @@
-use Rattle.std.proofs.Common.{◌∷◌, ◌++◌, []}
-use Rattle.air_model.specs.Past.{exchanged}
+use Rattle.runs.proofs.Names.{◌∷◌, ◌++◌, [], exchanged, start_of, history}
 use Rattle.runs.proofs.MadeRecords.{behind-record, recorded-expected, recorded-unmistakable, made-read}
-use Rattle.runs.specs.ScenarioStart.{start_of, history}
 use Rattle.runs.proofs.laws.histories_hear_what_is_received.Goals as goal
 
 pub returns-clause-inventory : goal.returns-clause-inventory

@@ -1,5 +1,4 @@
-use Rattle.std.proofs.Common.{subst, ◌∙◌}
-use Rattle.runs.specs.Headline.{AreLegalSteps}
+use Rattle.runs.proofs.Names.{subst, ◌∙◌, AreLegalSteps}
 use Rattle.runs.proofs.Recounting.{listed-from-any, listed-from-fresh}
 use Rattle.runs.proofs.recounts.recounts_list_every_tag.Goals as goal
 

@@ -1,19 +1,10 @@
-use Rattle.std.proofs.Common.{◌≡◌, ◌+◌, ◌≤◌, Bool, true, false, List, length, Some, sym, ap, ◌∙◌, arith}
-use Rattle.std.specs.Prelude.{IsTrue}
-use Rattle.scenario.specs.declared.values.Step.{Step}
-use Rattle.scenario_lines.specs.declared.version.Version.{Version}
-use Rattle.scenario_lines.specs.declared.version.Version.TheVariants.{One, Two}
-use Rattle.top_call.specs.PortalFault.{first_refused, head_length, lines_of_steps}
-use Rattle.top_call.proofs.PortalsRefused.{few-groups, said, unsaid}
+use Rattle.top_call.proofs.PortalNames.{◌≡◌, ◌+◌, ◌≤◌, List, length, Some, sym, ap, ◌∙◌, arith, IsTrue, Step, Version, One, Two, first_refused, head_length, lines_of_steps}
+use Rattle.top_call.proofs.PortalsRefused.{few-groups, not-both, said, unsaid}
 use Rattle.top_call.proofs.portal_faults.fault_behind_head.Goals as goal
 
 short : (version : Version) → head_length version ≤ 3
 short One = omega arith
 short Two = omega arith
-
-not-both : (test : Bool) → test ≡ false → IsTrue test → ⊥
-not-both true is holds = absurd (cc)
-not-both false is holds = absurd (cc)
 
 pub overflow_add-behind_tags : goal.overflow_add-behind_tags
 overflow_add-behind_tags c =

@@ -1,12 +1,6 @@
-use Rattle.std.proofs.Common.{◌≡◌, ◌≢◌, inl, inr, ℕ, ◌+◌, ◌≤◌, Bool, true, false, List, [], drop, length, Option, Some, None, refl, sym, ap, ◌∙◌, subst, arith, eq-eqb}
-use Rattle.std.specs.Prelude.{◌==◌, IsTrue}
-use Rattle.std.specs.Option.{is_some}
-use Rattle.std.proofs.lemmas.List.{drop_all}
-use Rattle.std.proofs.lemmas.Bool.{eqb-true}
-use Rattle.scenario.specs.declared.values.Step.{Step}
+use Rattle.top_call.proofs.PortalNames.{◌≡◌, ◌≢◌, inl, inr, ℕ, ◌+◌, ◌≤◌, Bool, true, false, List, [], drop, length, Option, Some, None, refl, sym, ap, ◌∙◌, subst, arith, eq-eqb, ◌==◌, IsTrue, is_some, drop_all, eqb-true, Step, first_refused, lines_of_steps}
 use Rattle.scenario.specs.declared.values.Step.TheVariants as steps
-use Rattle.top_call.specs.PortalFault.{first_refused, lines_of_steps}
-use Rattle.top_call.proofs.PortalsRefused.{no-round, no-turn, operates, others, turn}
+use Rattle.top_call.proofs.PortalsRefused.{no-round, no-turn, not-both, operates, others, turn}
 use Rattle.top_call.proofs.PortalStepPlaces.{IsStepAt, from-place}
 use Rattle.top_call.proofs.portal_faults.step_fault.Goals as goal
 use Rattle.top_call.proofs.portal_faults.step_fault.Goals.{then-is_some-via-then-is_some, then-is_some-via-else-is_some+then-not-is_empty}
@@ -26,10 +20,6 @@ named (Some epc) some = λ none. cc
 unnamed : (only : Option (List ℕ)) → is_some only ≡ false → only ≡ None
 unnamed None some = refl
 unnamed (Some epc) some = absurd (cc)
-
-not-both : (test : Bool) → test ≡ false → IsTrue test → ⊥
-not-both true is holds = absurd (cc)
-not-both false is holds = absurd (cc)
 
 pub returns-in_default : goal.returns-in_default
 returns-in_default c = λ version.

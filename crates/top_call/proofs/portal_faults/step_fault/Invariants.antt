@@ -1,6 +1,4 @@
-use Rattle.std.proofs.Common.{◌≡◌, ◌+◌, drop}
-use Rattle.top_call.specs.PortalFault.{first_refused, lines_of_steps}
-use Rattle.scenario_lines.specs.declared.version.Version.{Version}
+use Rattle.top_call.proofs.PortalNames.{◌≡◌, ◌+◌, drop, first_refused, lines_of_steps, Version}
 use Rattle.top_call.proofs.portal_faults.step_fault.Given as goal
 
 abbrev pub invariant-loop-step : goal.invariant-loop-step

@@ -1,8 +1,4 @@
-use Rattle.std.proofs.Common.{◌≡◌, ◌++◌, List, [], ◌∷◌, refl, sym, ap, ◌∙◌, append-nil, take, arith}
-use Rattle.access_ops.specs.declared.OpList.{OpList}
-use Rattle.q_round.specs.SpecValue.{SpecValue}
-use Rattle.runs.specs.Portals.{specs_of}
-use Rattle.scenario.specs.declared.values.Step.{Step}
+use Rattle.top_call.proofs.PortalNames.{◌≡◌, ◌++◌, List, [], ◌∷◌, refl, sym, ap, ◌∙◌, append-nil, take, arith, OpList, SpecValue, specs_of, Step}
 use Rattle.scenario.specs.declared.values.Step.TheVariants as steps
 use Rattle.top_call.proofs.PortalStepPlaces.{IsStepAt, specs-more}
 use Rattle.top_call.proofs.portal_rounds.round_specs.Goals as goal

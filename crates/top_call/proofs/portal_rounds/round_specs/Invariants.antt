@@ -1,5 +1,4 @@
-use Rattle.std.proofs.Common.{◌≡◌, take}
-use Rattle.runs.specs.Portals.{specs_of}
+use Rattle.top_call.proofs.PortalNames.{◌≡◌, take, specs_of}
 use Rattle.top_call.proofs.portal_rounds.round_specs.Given as goal
 
 abbrev pub invariant-loop-step : goal.invariant-loop-step

@@ -1,7 +1,4 @@
-use Rattle.std.proofs.Common.{◌≡◌, take}
-use Rattle.std.specs.List.{flat_map}
-use Rattle.std.specs.String.{string_bytes}
-use Rattle.top_call.specs.PortalText.{portal_line_text}
+use Rattle.top_call.proofs.PortalNames.{◌≡◌, take, flat_map, string_bytes, portal_line_text}
 use Rattle.top_call.proofs.portal_text.portals_text.Given as goal
 
 abbrev pub invariant-loop-line : goal.invariant-loop-line
