@@ -98,10 +98,7 @@ pub fn crc5(bits: &[bool]) -> u32 {
     let register = fours.iter().fold(0b01001, |register, four| {
         CRC_5[(register >> 1 ^ value_of(four)) as usize] ^ (register << 4 & 0b10000)
     });
-    rest.iter().fold(register, |register, &bit| {
-        let feedback = (register >> 4 & 1 == 1) != bit;
-        (register << 1 & 0b11111) ^ if feedback { 0b01001 } else { 0 }
-    })
+    crc5_behind(register, value_of(rest), rest.len() as u32)
 }
 
 /// A CRC-16 register behind sixteen more bits.
@@ -142,10 +139,7 @@ pub fn crc16(bits: &[bool]) -> u16 {
     let register = octets.iter().fold(register, |register, octet| {
         CRC_16[0][usize::from(register >> 8) ^ octet_of(octet) as usize] ^ register << 8
     });
-    !rest.iter().fold(register, |register, &bit| {
-        let feedback = (register >> 15 == 1) != bit;
-        (register << 1) ^ if feedback { 0x1021 } else { 0 }
-    })
+    !crc16_behind(register, value_of(rest), rest.len() as u32)
 }
 
 /// Appends the CRC-16 of all bits before it, from this place on.
