@@ -1,6 +1,7 @@
 //! Lists of bits with a capacity that is fixed when they are made, numbers in them, and what several
 //! subjects share: the place at which a list stops being the front of some member of a family,
-//! lists of items, also with a fixed capacity, small checked numbers and the line codes.
+//! lists of items, also with a fixed capacity, the small numbers of commands, as sessions and Q, each
+//! within its range, and the names of the line codes.
 #![tactic(auto)]
 
 mod bits;

@@ -5,8 +5,7 @@ use Rattle.pie_line.specs.declared.frame.FrameKind.{FrameKind}
 use Rattle.pie_line.specs.declared.frame_state.FrameState.TheVariants.{High, Low}
 use Rattle.pie_line.specs.Pie.{bit_of_symbol}
 use Rattle.pie_line.specs.FrameState.{IsHeader, rtcal_of, Moves}
-use Rattle.pie_line.specs.Edges.{EdgesValue, LeadsToState, EdgesStandFor}
-use Rattle.pie_line.specs.DataSymbols.{IsDataSymbol}
+use Rattle.pie_line.specs.Edges.{EdgesValue, EdgesStandFor, IsDataSymbol, LeadsToState}
 use Rattle.pie_line.proofs.Leads.{leads-moves}
 use Rattle.pie_line.proofs.Symbols.{symbol-moves}
 use Rattle.pie_line.proofs.DecoderStandsFor.{stands-at, standing-so}

@@ -1,12 +1,13 @@
 -- What a decoder that takes one interval at a time knows of the intervals it was given (profile).
-use Rattle.std.specs.Prelude.{◌≡◌, ◌≤◌, ℕ, Bool, Result, Err, List, [], ◌∷◌, ◌++◌, length, take, IsOk, MatchResult}
+use Rattle.std.specs.Prelude.{◌≡◌, ◌≤◌, ◌+◌, ◌*◌, ℕ, Bool, Result, Ok, Err, List, [], ◌∷◌, ◌++◌, length, take, IsOk, MatchResult}
 use Rattle.pie_line.specs.declared.frame.FrameKind.{FrameKind}
 use Rattle.pie_line.specs.declared.frame.PieRefusal.{PieRefusal}
 use Rattle.pie_line.specs.declared.frame_state.FrameState.{FrameState}
+use Rattle.pie_line.specs.declared.frame_state.FrameState.TheVariants.{High}
 use Rattle.pie_line.specs.declared.edges.Edge.{Edge}
 use Rattle.pie_line.specs.declared.edges.Edge.TheVariants.{More, Bit, Refused}
 use Rattle.pie_line.specs.Pie.{IsFrame}
-use Rattle.pie_line.specs.FrameState.{IsSoundState, Completes}
+use Rattle.pie_line.specs.FrameState.{IsSoundState, Completes, rtcal_of}
 use Rattle.pie_line.specs.Refusal.{IsFrameRefusedAt}
 
 -- where a decoder stands, or what it has refused, and how many intervals it took before
@@ -41,3 +42,15 @@ abbrev pub IsEdgesAnswer : Edge → EdgesValue → List Bool → List ℕ → Ty
 IsEdgesAnswer More edges bits intervals = IsOk edges.standing × EdgesStandFor edges bits intervals
 IsEdgesAnswer (Bit bit) edges bits intervals = IsOk edges.standing × EdgesStandFor edges (bits ++ bit ∷ []) intervals
 IsEdgesAnswer (Refused refusal) edges bits intervals = (edges.standing ≡ Err refusal) × EdgesStandFor edges bits intervals
+
+-- a high and a low that make a data symbol (6.3.1.2.3, 6.3.1.2.8)
+pub record IsDataSymbol (rtcal high low : ℕ) : Type 0 where
+  pub lasts_high : 1 ≤ high
+  pub lasts_low : 1 ≤ low
+  pub within : high + low ≤ 4 * rtcal
+
+-- a decoder stands before a data symbol, and the next two intervals make one
+pub record IsBeforeSymbol (edges : EdgesValue) (high low : ℕ) : Type 0 where
+  pub kind : FrameKind
+  pub standing : edges.standing ≡ Ok (High kind)
+  pub symbol : IsDataSymbol (rtcal_of kind) high low

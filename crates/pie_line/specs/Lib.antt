@@ -1,4 +1,3 @@
-pub mod DataSymbols
 pub mod Edges
 pub mod FrameAnswer
 pub mod IntervalList

@@ -65,8 +65,7 @@ impl Edges {
     ghost use Rattle.pie_line.specs.declared.frame.FrameKind.{FrameKind};
     ghost use Rattle.pie_line.specs.declared.frame.PieRefusal.{PieRefusal};
     ghost use Rattle.pie_line.specs.declared.edges.Edge.TheVariants.{Refused};
-    ghost use Rattle.pie_line.specs.Edges.{EdgesValue, EdgesStandFor, IsEdgesAnswer};
-    ghost use Rattle.pie_line.specs.DataSymbols.{IsBeforeSymbol};
+    ghost use Rattle.pie_line.specs.Edges.{EdgesValue, EdgesStandFor, IsBeforeSymbol, IsEdgesAnswer};
 
     /// A decoder that was given no interval.
     pub fn new() -> Edges

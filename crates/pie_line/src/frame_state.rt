@@ -8,8 +8,8 @@ use crate::ranges::{TARI_MOST, bit_of_sum, is_delimiter, is_rtcal, is_tari, is_t
 
 /// What a decoder has read of a frame, as far as that decides what may follow. Durations are in
 /// nanoseconds; `high` is that of the high of a pair whose low is still to come.
-#[derive(Clone, Copy, Debug, PartialEq, Eq)]
-pub enum FrameState {
+#[derive(Clone, Copy)]
+pub(crate) enum FrameState {
     /// Before the delimiter.
     Delimiter,
     /// Before the first data-0, which sets Tari.

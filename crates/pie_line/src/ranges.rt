@@ -2,7 +2,7 @@
 ghost use Rattle.std.specs.Prelude.{◌≡◌, ◌↔◌, ◌+◌, ◌*◌, ◌≤◌, IsTrue, IfSome, IfNone};
 ghost use Rattle.pie_line.specs.Link.{IsTari, IsRtCal, IsTrCal, IsPw};
 ghost use Rattle.pie_line.specs.Pie.{IsDelimiter, bit_of_symbol, longest_interval};
-ghost use Rattle.pie_line.specs.DataSymbols.{IsDataSymbol};
+ghost use Rattle.pie_line.specs.Edges.{IsDataSymbol};
 
 /// The longest Tari that a link may have, in nanoseconds (6.3.1.2.4).
 pub const TARI_MOST: u32 = 25_000;

@@ -1,4 +1,4 @@
--- Profile: the same of an honest round, as a user sees it: which tags are listed, and what each flag of each tag is afterwards.
+-- Profile: what an honest round lists and leaves of each tag, as a user sees it: which tags are listed, and what each flag of each is afterwards.
 use Rattle.std.specs.Prelude.{◌≡◌, ℕ, ◌+◌, ◌≤◌, ◌==◌, ◌&&◌, not, Bool, true, List, [], ◌∷◌, length, Some, if◌then◌else◌}
 use Rattle.air_model.specs.Past.{Start, Record, Item, tag_behind}
 use Rattle.runs.specs.Headline.{IsRecordOf}

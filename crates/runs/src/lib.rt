@@ -1,5 +1,5 @@
-//! Runs of scenarios, as definitions and their laws: the one history of a run, its listing, its report and its summary, and which tags
-//! an honest round of it counts (6.3.2.8 Inventorying Tag populations of the EPCglobal Class-1 Generation-2 standard, version
+//! Runs of scenarios, as definitions and their laws: the one history of a run, its listing, its report and its summary, what two portals
+//! list, and which tags an honest round counts (6.3.2.8 Inventorying Tag populations of the EPCglobal Class-1 Generation-2 standard, version
 //! 1.2.0).
 #![tactic(auto)]
 

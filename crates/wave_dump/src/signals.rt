@@ -111,7 +111,8 @@ fn push_number_value(text: &mut String, old: u64, new: u64, signal: &str) -> Res
 /// Writes a text, where it changes, with a space and the sign of its signal behind it.
 fn push_text_value(text: &mut String, old: &str, new: &str, signal: &str) -> Result<(), OutOfMemory>
     ensures { OnOk result (string_bytes text.new ≡ string_bytes text.old
-        ++ text_with (change_line (same_text old.now new.now) (codes "s" ++ new.now ++ signal.now))) }
+        ++ text_with
+        (change_line (same_text old.now new.now) (codes "s" ++ new.now ++ signal.now))) }
 {
     if same_text(old, new) {
         return Ok(());

@@ -23,7 +23,8 @@ fn push_field(text: &mut String, field: &str, first: bool) -> Result<(), OutOfMe
 
 /// Adds a line, with `_` in place of each space.
 fn push_with_underscores(text: &mut String, line: &str) -> Result<(), OutOfMemory>
-    ensures { OnOk result (string_bytes text.new ≡ string_bytes text.old ++ with_underscores line.now) }
+    ensures { OnOk result
+        (string_bytes text.new ≡ string_bytes text.old ++ with_underscores line.now) }
 {
     let mut first = true;
     for field in line.split(' ') {
