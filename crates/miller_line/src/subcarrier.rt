@@ -3,7 +3,7 @@
 ghost use Rattle.std.specs.Prelude.{◌≡◌, ℕ, ◌≤◌, false, true, length};
 ghost use Rattle.bit_strings.specs.NumbersInBits.{field_of};
 ghost use Rattle.line_code.specs.TableFacts.{longest_lead};
-ghost use Rattle.miller_line.specs.Miller.{miller, IsOneOfThree, symbol, start_phase, middle_phase, miller_lead, miller_block, miller_next};
+ghost use Rattle.miller_line.specs.Miller.{miller, IsOneOfThree, start_phase, middle_phase, miller_lead, miller_block, miller_next};
 ghost use Rattle.miller_line.specs.FourSymbols.{symbols};
 ghost use Rattle.line_code.specs.Stream.{blocks};
 ghost use Rattle.line_code.specs.States.{context_after};
@@ -17,35 +17,10 @@ pub struct SymbolBefore {
     pub(crate) phase: bool,
 }
 
-/// The levels of each symbol by its halves, by the phase at its start and by its bit. A half in phase 0 is `$high`, and one in phase 1 `$low`.
-macro_rules! symbols {
-    ($high:expr, $low:expr) => {
-        [
-            [[$high, $high], [$high, $low]],
-            [[$low, $low], [$low, $high]],
-        ]
-    };
-}
-
-/// The levels of each symbol with M = 2.
-const SYMBOLS_2: [[[[bool; 2]; 2]; 2]; 2] = symbols!([true, false], [false, true]);
-
-/// The levels of each symbol with M = 4.
-const SYMBOLS_4: [[[[bool; 4]; 2]; 2]; 2] = symbols!(
-    [true, false, true, false],
-    [false, true, false, true]
-);
-
-/// The levels of each symbol with M = 8.
-const SYMBOLS_8: [[[[bool; 8]; 2]; 2]; 2] = symbols!(
-    [true, false, true, false, true, false, true, false],
-    [false, true, false, true, false, true, false, true]
-);
-
 /// The levels of four symbols, one behind the other: those of their halves, of which one in phase 0 is `$high` and one in phase 1 `$low`. The
 /// phase at the start of the first symbol and their bits are the digits of the row's number.
 macro_rules! four_symbols {
-    ($high:expr, $low:expr) => {
+    (phase $high:expr, $low:expr) => {
         [
             [$high, $high, $low, $low, $high, $high, $low, $low],
             [$high, $high, $low, $low, $high, $high, $high, $low],
@@ -63,37 +38,24 @@ macro_rules! four_symbols {
             [$high, $low, $low, $high, $high, $high, $high, $low],
             [$high, $low, $low, $high, $high, $low, $low, $low],
             [$high, $low, $low, $high, $high, $low, $low, $high],
-            [$low, $low, $high, $high, $low, $low, $high, $high],
-            [$low, $low, $high, $high, $low, $low, $low, $high],
-            [$low, $low, $high, $high, $high, $low, $low, $low],
-            [$low, $low, $high, $high, $high, $low, $low, $high],
-            [$low, $low, $low, $high, $high, $high, $low, $low],
-            [$low, $low, $low, $high, $high, $high, $high, $low],
-            [$low, $low, $low, $high, $high, $low, $low, $low],
-            [$low, $low, $low, $high, $high, $low, $low, $high],
-            [$low, $high, $high, $high, $low, $low, $high, $high],
-            [$low, $high, $high, $high, $low, $low, $low, $high],
-            [$low, $high, $high, $high, $high, $low, $low, $low],
-            [$low, $high, $high, $high, $high, $low, $low, $high],
-            [$low, $high, $high, $low, $low, $low, $high, $high],
-            [$low, $high, $high, $low, $low, $low, $low, $high],
-            [$low, $high, $high, $low, $low, $high, $high, $high],
-            [$low, $high, $high, $low, $low, $high, $high, $low],
         ]
+    };
+    ($high:expr, $low:expr) => {
+        [four_symbols!(phase $high, $low), four_symbols!(phase $low, $high)]
     };
 }
 
 /// The levels of four symbols with M = 2.
-const FOUR_SYMBOLS_2: [[[bool; 2]; 8]; 32] = four_symbols!([true, false], [false, true]);
+const FOUR_SYMBOLS_2: [[[[bool; 2]; 8]; 16]; 2] = four_symbols!([true, false], [false, true]);
 
 /// The levels of four symbols with M = 4.
-const FOUR_SYMBOLS_4: [[[bool; 4]; 8]; 32] = four_symbols!(
+const FOUR_SYMBOLS_4: [[[[bool; 4]; 8]; 16]; 2] = four_symbols!(
     [true, false, true, false],
     [false, true, false, true]
 );
 
 /// The levels of four symbols with M = 8.
-const FOUR_SYMBOLS_8: [[[bool; 8]; 8]; 32] = four_symbols!(
+const FOUR_SYMBOLS_8: [[[[bool; 8]; 8]; 16]; 2] = four_symbols!(
     [true, false, true, false, true, false, true, false],
     [false, true, false, true, false, true, false, true]
 );
@@ -177,26 +139,6 @@ pub fn after_lead() -> SymbolBefore
     }
 }
 
-/// The levels of a symbol, by the phase at its start and by its bit.
-fn symbol_of(m: u32, start: bool, bit: bool) -> &'static [bool]
-    requires { IsOneOfThree m }
-    ensures { result.now ≡ symbol m start (middle_phase start bit) }
-{
-    match m {
-        2 => SYMBOLS_2[start as usize][bit as usize].as_flattened(),
-        4 => SYMBOLS_4[start as usize][bit as usize].as_flattened(),
-        _ => SYMBOLS_8[start as usize][bit as usize].as_flattened(),
-    }
-}
-
-/// The levels of the block of a bit, by M and by the Miller symbol before it.
-pub fn block(m: u32, before: SymbolBefore, bit: bool) -> &'static [bool]
-    requires { IsOneOfThree m }
-    ensures { result.now ≡ miller_block m (context before) bit }
-{
-    symbol_of(m, phase_at_start(before, bit), bit)
-}
-
 /// The levels of four symbols, one behind the other, by the phase at the start of the first and by their bits, which are the last four of a
 /// number.
 fn four_symbols(m: u32, start: bool, number: u16) -> &'static [bool]
@@ -205,10 +147,21 @@ fn four_symbols(m: u32, start: bool, number: u16) -> &'static [bool]
 {
     let row = 16 * (start as usize) + (number % 16) as usize;
     match m {
-        2 => FOUR_SYMBOLS_2[row].as_flattened(),
-        4 => FOUR_SYMBOLS_4[row].as_flattened(),
-        _ => FOUR_SYMBOLS_8[row].as_flattened(),
+        2 => FOUR_SYMBOLS_2.as_flattened()[row].as_flattened(),
+        4 => FOUR_SYMBOLS_4.as_flattened()[row].as_flattened(),
+        _ => FOUR_SYMBOLS_8.as_flattened()[row].as_flattened(),
     }
+}
+
+/// The levels of the block of a bit, by M and by the Miller symbol before it.
+#[tactic(auto, using(crate::proofs::FourSymbols::first_symbol))]
+pub fn block(m: u32, before: SymbolBefore, bit: bool) -> &'static [bool]
+    requires { IsOneOfThree m }
+    ensures { result.now ≡ miller_block m (context before) bit }
+{
+    // The first of four symbols.
+    let symbols = four_symbols(m, phase_at_start(before, bit), 8 * u16::from(bit));
+    &symbols[..(2 * m) as usize]
 }
 
 /// The phase at the start of the first of four symbols, whose bits are the last four of a number.
