@@ -56,13 +56,13 @@ fn read<C: LineCode>(trext: bool, levels: &[bool], out: &mut Bits) -> Result<(),
     let mut behind = &levels[lead..];
     while let Some(sixteen) = next_sixteen::<C>(mark, behind) {
         let bits = sixteen.0;
-        put_bits(&bits, out);
+        out.put_all_reserved(&bits);
         mark = sixteen.1;
         behind = &behind[16 * C::CHIPS as usize..];
     }
     // The levels that are left, one by one: at most fifteen blocks, or those from the sixteen on that break the code.
     let at = levels.len() - behind.len();
-    let mut inside = Inside::<C>::between_blocks(mark, at as u32, out);
+    let mut inside = Inside::<C>::between_blocks(mark, at as u32, out.len(), out.last());
     for place in at..levels.len() {
         match inside.push(levels[place], out) {
             Within::Inside(next) => inside = next,
@@ -138,14 +138,4 @@ fn next_sixteen<C: LineCode>(mark: C::Mark, levels: &[bool]) -> Option<([bool; 1
         return None;
     }
     C::sixteen_bits(mark, &levels[..chips])
-}
-
-/// Puts the bits to the end of `out`.
-fn put_bits(bits: &[bool], out: &mut Bits)
-    requires { length out.old.items + length bits.now ≤ out.old.capacity }
-    ensures { out.new ≡ record out.old { items = out.old.items ++ bits.now } }
-{
-    for bit in bits {
-        out.push_reserved(*bit);
-    }
 }

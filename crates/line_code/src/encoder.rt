@@ -1,8 +1,7 @@
 //! The encoder.
-ghost use Rattle.std.specs.Prelude.{◌≡◌, ◌≤◌, ◌+◌, ◌*◌, ◌++◌, length};
-ghost use Rattle.bit_strings.specs.NumbersInBits.{field_of, value_of};
-ghost use Rattle.line_code.specs.Stream.{IsStream, blocks};
-ghost use Rattle.line_code.specs.States.{context_after};
+ghost use Rattle.std.specs.Prelude.{◌≡◌, ◌≤◌, ◌+◌, ◌*◌, length};
+ghost use Rattle.bit_strings.specs.NumbersInBits.{value_of};
+ghost use Rattle.line_code.specs.Stream.{IsStream};
 
 use crate::code::LineCode;
 use bit_strings::{Bits, Levels};
@@ -21,7 +20,9 @@ pub fn encode<C: LineCode>(trext: bool, bits: &Bits, out: &mut Levels)
     let bits = bits.as_slice();
     let mut next = 0;
     while let Some(four) = bits[next..].first_chunk::<4>() {
-        mark = put_four::<C>(mark, number_of(four), out);
+        let (levels, behind) = C::four_blocks(mark, number_of(four));
+        out.put_all_reserved(levels);
+        mark = behind;
         next += 4;
     }
     while next < bits.len() {
@@ -38,22 +39,4 @@ fn number_of(bits: &[bool; 4]) -> u16
     ensures { result ≡ value_of bits.now }
 {
     8 * u16::from(bits[0]) + 4 * u16::from(bits[1]) + 2 * u16::from(bits[2]) + u16::from(bits[3])
-}
-
-/// Adds the blocks of the last four bits of a number to levels that have room for them, and answers the mark of the bit that
-/// follows them.
-#[inline(always)]
-fn put_four<C: LineCode>(mark: C::Mark, number: u16, out: &mut Levels) -> C::Mark
-    requires { length out.old.items + C.CHIPS * 4 ≤ out.old.capacity }
-    ensures levels { out.new
-        ≡ record out.old {
-          items = out.old.items
-              ++ blocks C.table (C.context_of mark) (field_of number 4);
-        } }
-    ensures mark { C.context_of result
-        ≡ context_after C.table (C.context_of mark) (field_of number 4) }
-{
-    let (levels, behind) = C::four_blocks(mark, number);
-    out.put_all_reserved(levels);
-    behind
 }

@@ -1,7 +1,8 @@
 //! The decoder as three typed states, which take one level at a time: [`Seeking`] before the
 //! data, [`Inside`] in the data, and [`Ended`] behind a whole stream. None of them keeps the levels.
 ghost use Rattle.std.specs.Prelude.{◌≡◌, ◌<◌, ◌≤◌, List, Bool, true, [], ◌∷◌, ◌++◌, length, take, IfErr, OnErr, IsSome, IsTrue, ◌↔◌, slice_get};
-ghost use Rattle.line_code.specs.States.{Seeks, Reads, HasBlocks, Ends};
+ghost use Rattle.line_code.specs.States.{Seeks, Reads, Ends};
+ghost use Rattle.line_code.specs.laws.Reading.{between};
 ghost use Rattle.line_code.specs.Stream.{Streams};
 ghost use Rattle.line_code.specs.Refusal.{RefusesStream};
 ghost use Rattle.line_code.specs.AfterSeeking.{AfterSeeking};
@@ -131,7 +132,7 @@ impl<C: LineCode> Seeking<C> {
         if taken < lead_len {
             Sought::Seeking(Seeking { trext, taken, code })
         } else {
-            Sought::Inside(Inside::behind_lead(taken))
+            Sought::Inside(Inside::between_blocks(C::after_lead(), taken, 0, None))
         }
     }
 
@@ -142,32 +143,11 @@ impl<C: LineCode> Seeking<C> {
         ensures refused { (trext : Bool) (levels : List Bool) → Seeks C.table trext self levels
             → RefusesStream (Streams C.table trext) levels result }
     {
-        let Seeking {
-            trext: _,
-            taken,
-            code: _,
-        } = self;
-        LineRefusal::Unfinished(taken)
+        LineRefusal::Unfinished(self.taken)
     }
 }
 
 impl<C: LineCode> Inside<C> {
-    /// The decoder behind the lead, which has this many levels.
-    pub(crate) fn behind_lead(taken: u32) -> Inside<C>
-        ensures { (trext : Bool) → taken ≡ length (C.table.lead trext)
-            → Reads C.table trext result (C.table.lead trext) [] }
-    {
-        Inside {
-            mark: C::after_lead(),
-            place: 0,
-            zero_fits: true,
-            one_fits: true,
-            taken,
-            put: 0,
-            last: None,
-        }
-    }
-
     /// Takes one more level. A level is refused exactly where no stream begins with the levels before
     /// it and this one, and nothing is put then. With the last level of a block its bit goes to the
     /// end of `out`, which is not cleared, and which is to be the buffer of the pushes before.
@@ -180,51 +160,38 @@ impl<C: LineCode> Inside<C> {
             (record { stood = stood; old = out.old.items; new = out.new.items }) result }
         ensures capacity { out.new.capacity ≡ out.old.capacity }
     {
-        let Inside {
-            mark,
-            place,
-            zero_fits,
-            one_fits,
-            taken,
-            put,
-            last,
-        } = self;
-        let zero_fits = still_fits::<C>(mark, false, place, zero_fits, level);
-        let one_fits = still_fits::<C>(mark, true, place, one_fits, level);
+        let zero_fits = still_fits::<C>(self.mark, false, self.place, self.zero_fits, level);
+        let one_fits = still_fits::<C>(self.mark, true, self.place, self.one_fits, level);
         if !zero_fits && !one_fits {
-            return Within::Refused(taken);
+            return Within::Refused(self.taken);
         }
-        let taken = taken + 1;
-        let place = place + 1;
+        let taken = self.taken + 1;
+        let place = self.place + 1;
         if place < C::CHIPS {
             return Within::Inside(Inside {
-                mark,
                 place,
                 zero_fits,
                 one_fits,
                 taken,
-                put,
-                last,
+                ..self
             });
         }
         out.push_reserved(one_fits);
-        Within::Inside(Inside {
-            mark: C::after(mark, one_fits),
-            place: 0,
-            zero_fits: true,
-            one_fits: true,
-            taken,
-            put: put + 1,
-            last: Some(one_fits),
-        })
+        let mark = C::after(self.mark, one_fits);
+        Within::Inside(Inside::between_blocks(mark, taken, self.put + 1, Some(one_fits)))
     }
 
-    /// The decoder between two blocks, or between the lead and the first block, where this many levels were taken and `out` has their bits.
-    pub(crate) fn between_blocks(mark: C::Mark, taken: u32, out: &Bits) -> Inside<C>
-        requires { length out.now.items ≤ taken }
-        ensures { (trext : Bool) (levels : List Bool) → taken ≡ length levels
-            → HasBlocks C.table trext (C.context_of mark) levels out.now.items
-            → Reads C.table trext result levels out.now.items }
+    /// The decoder between two blocks, or between the lead and the first block, where this many levels were taken and this many bits put, of which
+    /// this is the last.
+    pub(crate) fn between_blocks(
+        mark: C::Mark,
+        taken: u32,
+        put: u32,
+        last: Option<bool>,
+    ) -> Inside<C>
+        requires few { put ≤ taken }
+        requires some { IsSome last → 0 < put }
+        ensures { result ≡ between (C.context_of mark) taken put last }
     {
         Inside {
             mark,
@@ -232,8 +199,8 @@ impl<C: LineCode> Inside<C> {
             zero_fits: true,
             one_fits: true,
             taken,
-            put: out.len(),
-            last: out.last(),
+            put,
+            last,
         }
     }
 
@@ -249,21 +216,12 @@ impl<C: LineCode> Inside<C> {
         ensures err { OnErr result (out.new ≡ out.old) }
         ensures capacity { out.new.capacity ≡ out.old.capacity }
     {
-        let Inside {
-            mark: _,
-            place,
-            zero_fits: _,
-            one_fits: _,
-            taken,
-            put,
-            last,
-        } = self;
-        if !is_whole(place, last) {
-            return Err(LineRefusal::Unfinished(taken));
+        if !is_whole(self.place, self.last) {
+            return Err(LineRefusal::Unfinished(self.taken));
         }
         let _dummy = out.pop();
         Ok(Ended {
-            bits: put - 1,
+            bits: self.put - 1,
             code: PhantomData,
         })
     }

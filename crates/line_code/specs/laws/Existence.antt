@@ -41,7 +41,7 @@ starts code trext levels =
       | inr none ↦
           let empty : t.lead trext ≡ [] = nil_from_length (t.lead trext) (omega arith) in
           let P : List Bool → Type 0 = λ ls. Reads t trext (behind_lead t 0) ls [] in
-          inside (behind_lead t 0) [] (subst P empty (reads_none t code.chips code.even trext 0 (sym (ap length empty))))
+          inside (behind_lead t 0) [] (subst P empty (reads_none code trext 0 (sym (ap length empty))))
     ]
 
 -- the list of levels begins with so many, which are the front and one more
@@ -68,7 +68,7 @@ seeks_on code trext levels front level more state s =
             let all = lead_all t trext state front level s at end in
             let next = behind_lead t (state.taken + 1) in
             let P : List Bool → Type 0 = λ ls. Reads t trext next ls [] in
-            inside next [] (subst P (sym all) (reads_none t code.chips code.even trext (state.taken + 1) end))
+            inside next [] (subst P (sym all) (reads_none code trext (state.taken + 1) end))
       ]
     ]
 

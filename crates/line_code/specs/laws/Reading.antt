@@ -5,7 +5,7 @@ use Rattle.bit_strings.specs.Family.{Begins, IsBadAt, IsShortAt}
 use Rattle.line_code.specs.Table.{Context, Table}
 use Rattle.line_code.specs.Stream.{blocks, IsStream, Streams}
 use Rattle.line_code.specs.States.{InsideValue, context_after, fits_of, LastIs, Reads, HasBlocks}
-use Rattle.line_code.specs.TableFacts.{IsEven, CodeTable}
+use Rattle.line_code.specs.TableFacts.{CodeTable}
 use Rattle.line_code.specs.laws.Streams.{blocks_split}
 use Rattle.line_code.specs.laws.Splits.{blocks-append, context_after-append, context_after-push, front_of, front_more}
 
@@ -178,9 +178,9 @@ has_more t trext context levels bits more h = record {
 abbrev pub between : Context → ℕ → ℕ → Option Bool → InsideValue
 between context taken put last = record { context = context; place = 0; zero_fits = true; one_fits = true; taken = taken; put = put; last = last }
 
-pub reads_between : (code : CodeTable) (trext : Bool) (context : Context) (levels bits : List Bool) (last : Option Bool)
-    → HasBlocks code.table trext context levels bits → LastIs bits last → Reads code.table trext (between context (length levels) (length bits) last) levels bits
-reads_between code trext context levels bits last h is =
+pub reads_between : (code : CodeTable) (trext : Bool) (context : Context) (taken put : ℕ) (levels bits : List Bool) (last : Option Bool) → taken ≡ length levels → put ≡ length bits
+    → HasBlocks code.table trext context levels bits → LastIs bits last → Reads code.table trext (between context taken put last) levels bits
+reads_between code trext context taken put levels bits last taken_is put_is h is =
     let t = code.table in
     record {
       part = [];
@@ -188,34 +188,24 @@ reads_between code trext context levels bits last h is =
       context_is = h.context_is;
       place_is = refl;
       begun = λ b. let least = code.even.least in let long = code.even.blocks_even context b in omega arith;
-      fits_is = all_fit t (between context (length levels) (length bits) last) refl refl refl;
+      fits_is = all_fit t (between context taken put last) refl refl refl;
       some_bit = true;
       some_fits = refl;
-      taken_is = refl;
-      put_is = refl;
+      taken_is = taken_is;
+      put_is = put_is;
       last_is = is;
     }
 
 -- the state behind the lead
 abbrev pub behind_lead : Table → ℕ → InsideValue
-behind_lead t taken = record { context = t.start; place = 0; zero_fits = true; one_fits = true; taken = taken; put = 0; last = None }
+behind_lead t taken = between t.start taken 0 None
 
-pub reads_none : (t : Table) (chips : ℕ) → IsEven t chips → (trext : Bool) (taken : ℕ) → taken ≡ length (t.lead trext)
-    → Reads t trext (behind_lead t taken) (t.lead trext) []
-reads_none t chips even trext taken whole =
-    record {
-      part = [];
-      levels_are = sym (append-nil (t.lead trext));
-      context_is = refl;
-      place_is = refl;
-      begun = λ b. let least = even.least in let long = even.blocks_even t.start b in omega arith;
-      fits_is = all_fit t (behind_lead t taken) refl refl refl;
-      some_bit = true;
-      some_fits = refl;
-      taken_is = whole;
-      put_is = refl;
-      last_is = refl;
-    }
+pub reads_none : (code : CodeTable) (trext : Bool) (taken : ℕ) → taken ≡ length (code.table.lead trext)
+    → Reads code.table trext (behind_lead code.table taken) (code.table.lead trext) []
+reads_none code trext taken whole =
+    let t = code.table in
+    let has : HasBlocks t trext t.start (t.lead trext) [] = record { levels_are = sym (append-nil (t.lead trext)); context_is = refl } in
+    reads_between code trext t.start taken 0 (t.lead trext) [] None whole refl has refl
 
 -- what the levels are where they are a stream: whole blocks, the last of them the dummy's
 pub record Finished (t : Table) (trext : Bool) (levels bits : List Bool) : Type 0 where

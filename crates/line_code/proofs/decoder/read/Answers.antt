@@ -1,11 +1,11 @@
 -- The levels in the data: whole blocks, then what is left, level by level.
-use Rattle.std.proofs.Common.{◌≡◌, ◌∙◌, ◌+◌, ◌*◌, ◌-◌, ◌++◌, ℕ, [], ◌≤◌, List, Bool, length, mul-le-mul_right, take, drop, arith, ap, refl, sym, subst}
+use Rattle.std.proofs.Common.{◌≡◌, ◌∙◌, ◌+◌, ◌*◌, ◌-◌, ◌++◌, ◌∷◌, ◌↔◌, ℕ, [], ◌≤◌, List, Bool, Option, Some, None, IfSome, IsNone, length, mul-le-mul_right, take, drop, arith, ap, refl, sym, subst}
 use Rattle.std.proofs.lemmas.Result.{err_from_is_err_and}
 use Rattle.std.proofs.lemmas.List.{length-take-le, length-drop, take_all, append-nil, drop-drop}
-use Rattle.line_code.specs.States.{Reads, HasBlocks, context_after}
+use Rattle.line_code.specs.States.{Reads, HasBlocks, LastIs, context_after}
 use Rattle.line_code.specs.Stream.{Streams, stream_of, blocks}
 use Rattle.line_code.specs.Table.{Context, Table}
-use Rattle.line_code.specs.laws.Reading.{has_more}
+use Rattle.line_code.specs.laws.Reading.{has_more, reads_between}
 use Rattle.line_code.proofs.Writing.{capacity_of}
 use Rattle.line_code.proofs.Steps.{one_more, block_more}
 use Rattle.bit_strings.specs.laws.Family.{bad-in_front}
@@ -75,8 +75,8 @@ loop-sixteen-init g c =
     } in
     begins_at t c.args.trext levels _ _ c.args.out.now c.args.out.now at read (behind levels at)
 
-pub put_bits-requires : goal.put_bits-requires
-put_bits-requires g c =
+pub put_all_reserved-requires : goal.put_all_reserved-requires
+put_all_reserved-requires g c =
     let code : CodeTable = record { table = g.C.LineCode.table; chips = g.C.LineCode.CHIPS; even = g.met.C.LineCode.even; tells = g.met.C.LineCode.tells_bits } in
     let levels = c.args.levels.now in
     let loop = c.loop-sixteen.invariant in
@@ -96,25 +96,34 @@ loop-sixteen-preserved g c =
     let count = 16 * g.C.LineCode.CHIPS in
     let within : at + count ≤ length levels = let place = loop.place in let next = some.1 in omega arith in
     let next : BlocksAt t (g.C.LineCode.context_of c.loop-sixteen.mark) levels at = record { count = count; more = c.in-Some.sixteen.0; levels_are = ap (take count) (sym loop.are) ∙ some.2 } in
-    let read = taken t c.args.trext levels _ c.args.out.now c.loop-sixteen.out _ at next loop.read within c.put_bits.ensures in
+    let read = taken t c.args.trext levels _ c.args.out.now c.loop-sixteen.out _ at next loop.read within c.put_all_reserved.ensures in
     let further : drop count rest ≡ drop (at + count) levels = ap (drop count) loop.are ∙ drop-drop count at levels ∙ ap (λ (n : ℕ). drop n levels) (omega arith) in
     rw (c.CHIPS.ensures, some.3) (begins_at t c.args.trext levels _ _ c.args.out.now _ (at + count) read (behind rest count ∙ further))
 
-pub between_blocks-inside-requires : goal.between_blocks-inside-requires
-between_blocks-inside-requires g c =
+pub between_blocks-inside-requires-clause-few : goal.between_blocks-inside-requires-clause-few
+between_blocks-inside-requires-clause-few g c =
     let read = c.loop-sixteen.invariant.read in
+    let count = c.len.ensures.count in
     let at = length c.args.levels.now - length c.loop-sixteen.behind.now in
     let put = has_within g.C.LineCode.table g.C.LineCode.CHIPS g.met.C.LineCode.even c.args.trext _ (take at c.args.levels.now) c.loop-sixteen.out.items read.has in
     let size = length-take-le at c.args.levels.now read.within in
     omega arith
 
+-- the last of the bits, as the buffer answers it
+last_is : (last : Option Bool) (bits : List Bool) → IfSome last (λ bit. (front : List Bool) × (bits ≡ front ++ bit ∷ [])) → (IsNone last ↔ (bits ≡ [])) → LastIs bits last
+last_is (Some bit) bits some none = some
+last_is None bits some none = none.0 refl
+
 pub loop-place-init : goal.loop-place-init
 loop-place-init g c =
+    let code : CodeTable = record { table = g.C.LineCode.table; chips = g.C.LineCode.CHIPS; even = g.met.C.LineCode.even; tells = g.met.C.LineCode.tells_bits } in
     let read = c.loop-sixteen.invariant.read in
     let at = length c.args.levels.now - length c.loop-sixteen.behind.now in
     let size = length-take-le at c.args.levels.now read.within in
+    let last = last_is c.last.result c.loop-sixteen.out.items c.last.ensures.value c.last.ensures.none in
     record {
-      reads = c.between_blocks-inside.ensures c.args.trext (take at c.args.levels.now) (sym size) read.has;
+      reads = rw c.between_blocks-inside.ensures (reads_between code c.args.trext _ at c.len.result (take at c.args.levels.now) c.loop-sixteen.out.items c.last.result
+          (sym size) c.len.ensures.count read.has last);
       same = refl;
     }
 

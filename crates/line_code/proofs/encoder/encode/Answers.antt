@@ -5,9 +5,10 @@ use Rattle.line_code.specs.Stream.{blocks}
 use Rattle.line_code.specs.States.{context_after}
 use Rattle.line_code.specs.TableFacts.{CodeTable}
 use Rattle.line_code.specs.laws.Reading.{has_more}
+use Rattle.line_code.specs.laws.Streams.{length-blocks}
 use Rattle.bit_strings.specs.BitString.{BitString}
 use Rattle.bit_strings.specs.NumbersInBits.{value_of, field_of}
-use Rattle.bit_strings.specs.laws.NumbersInBits.{field_of-value_of}
+use Rattle.bit_strings.specs.laws.NumbersInBits.{field_of-value_of, length-field_of}
 use Rattle.line_code.proofs.Writing.{capacity_of, one_block, written_size, writes_more}
 use Rattle.line_code.proofs.encoder.encode.Goals as goal
 
@@ -37,17 +38,21 @@ room_for chips n count bits within = omega (arith, mul-le-mul_left chips within,
 bits_of_number : (number : ℕ) (items : List Bool) → number ≡ value_of items → length items ≡ 4 → field_of number 4 ≡ items
 bits_of_number number items is size = ap (λ n. field_of n 4) is ∙ ap (field_of (value_of items)) (sym size) ∙ field_of-value_of items
 
-pub put_four-mark-requires : goal.put_four-mark-requires
-put_four-mark-requires g c =
+-- four blocks have room
+pub put_all_reserved-requires-in-Some : goal.put_all_reserved-requires-in-Some
+put_all_reserved-requires-in-Some g c =
     let code : CodeTable = record { table = g.C.LineCode.table; chips = g.C.LineCode.CHIPS; even = g.met.C.LineCode.even; tells = g.met.C.LineCode.tells_bits } in
     let bits = c.as_slice-bits.result.now in
     let n = c.loop-four.next in
     let is = c.loop-four.invariant in
     let next = next_four bits c.in-Some.four.now n c.in-Some.ensures.cases.enough c.in-Some.ensures.cases.same in
     let size = written_size code c.args.trext bits n _ _ c.loop-four.out is in
+    let four = field_of c.number_of.result 4 in
+    let blocks = ap length c.four_blocks-behind.ensures.levels ∙ length-blocks code.table code.chips code.even four (g.C.LineCode.context_of c.loop-four.mark)
+    ∙ ap (λ (n : ℕ). code.chips * n) (length-field_of c.number_of.result 4) in
     let same = capacity_of c.put_all_reserved.new.self c.clear.new.self _ c.put_all_reserved.ensures ∙ capacity_of c.clear.new.self c.args.out.now _ c.clear.ensures in
     let all = ap (λ (bs : List Bool). code.chips * (length bs + 1)) c.as_slice-bits.ensures.value in
-    omega (arith, size, is.same, same, all, room_for code.chips n 4 (length bits) next.enough, c.requires)
+    omega (arith, size, blocks, is.same, same, all, room_for code.chips n 4 (length bits) next.enough, c.requires)
 
 pub loop-four-preserved : goal.loop-four-preserved
 loop-four-preserved g c =
@@ -58,9 +63,9 @@ loop-four-preserved g c =
     let context = g.C.LineCode.context_of c.loop-four.mark in
     let chunk = next_four bits c.in-Some.four.now n c.in-Some.ensures.cases.enough c.in-Some.ensures.cases.same in
     let more = bits_of_number c.number_of.result c.in-Some.four.now c.number_of.ensures chunk.size ∙ chunk.items_are in
-    let put = c.put_four-mark.ensures.levels ∙ ap (λ (bs : List Bool). record out { items = out.items ++ blocks t context bs }) more in
-    let mark = c.put_four-mark.ensures.mark ∙ ap (context_after t context) more in
-    rw mark (writes_more t c.args.trext bits n 4 context _ out c.put_four-mark.new.out c.loop-four.invariant chunk.enough put)
+    let put = c.put_all_reserved-in-Some.ensures ∙ ap (λ (ls : List Bool). record out { items = out.items ++ ls }) (c.four_blocks-behind.ensures.levels ∙ ap (blocks t context) more) in
+    let mark = c.four_blocks-behind.ensures.mark ∙ ap (context_after t context) more in
+    rw mark (writes_more t c.args.trext bits n 4 context _ out c.put_all_reserved-in-Some.new.self c.loop-four.invariant chunk.enough put)
 
 -- a block has room
 pub put_all_reserved-requires-in-loop-next : goal.put_all_reserved-requires-in-loop-next

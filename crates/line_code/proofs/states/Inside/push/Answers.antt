@@ -67,6 +67,6 @@ returns-clause-answer g c =
     let ends : EndsBlock t state o c.args.level = record { fits = agrees.0; level_is = agrees.1; last = size } in
     let read = reads_bit code trext state levels bits o c.args.level r ends in (
       bits ++ o ∷ [],
-      rw c.after.ensures read,
+      rw (c.between_blocks.ensures, c.after-mark.ensures) read,
       ap (λ (s : BitString). s.items) c.push_reserved.ensures ∙ ap (λ ls. ls ++ o ∷ []) e ∙ append_assoc stood bits (o ∷ []),
     ))

@@ -1,5 +1,7 @@
 use Rattle.std.proofs.Common.{◌≡◌, ◌+◌, Bool, List, [], length, arith, sym, subst}
 use Rattle.line_code.specs.States.{Reads}
+use Rattle.line_code.specs.TableFacts.{CodeTable}
+use Rattle.line_code.specs.laws.Reading.{reads_none}
 use Rattle.line_code.specs.laws.Lead.{seeks_bad, seeks_more, seeks_size, lead_all, lead_level, lead_other, lead_size}
 use Rattle.line_code.specs.laws.LevelTests.{differs, agrees}
 use Rattle.line_code.proofs.states.Seeking.push.Goals as goal
@@ -26,6 +28,7 @@ returns-then-taken-lead_len g c =
 
 pub returns-else-taken-lead_len : goal.returns-else-taken-lead_len
 returns-else-taken-lead_len g c =
+    let code : CodeTable = record { table = g.C.LineCode.table; chips = g.C.LineCode.CHIPS; even = g.met.C.LineCode.even; tells = g.met.C.LineCode.tells_bits } in
     rw (← c.self.view_is) (λ trext levels s.
     let t = g.C.LineCode.table in
     let at = lead_level t trext _ levels c.lead.result c.args.level s c.lead.ensures (agrees c.lead.result c.args.level c.if-lead-level.false) in
@@ -34,4 +37,5 @@ returns-else-taken-lead_len g c =
     let inside = s.inside in
     let last : c.self.inside.taken + 1 ≡ length (t.lead trext) = omega arith in
     let all = lead_all t trext _ levels c.args.level s at last in
-    (all, let P : List Bool → Type 0 = λ ls. Reads t trext c.behind_lead.result ls [] in subst P (sym all) (c.behind_lead.ensures trext last)))
+    let read : Reads t trext c.between_blocks.result (t.lead trext) [] = rw (c.between_blocks.ensures, c.after_lead.ensures) (reads_none code trext _ last) in
+    (all, let P : List Bool → Type 0 = λ ls. Reads t trext c.between_blocks.result ls [] in subst P (sym all) read))
