@@ -1,5 +1,5 @@
 -- Reading goes on from each state for the bits that are still to come.
-use Rattle.std.proofs.Common.{◌≡◌, ℕ, ◌+◌, ◌-◌, ◌*◌, ◌<◌, ◌≤◌, ◌^◌, Bool, true, false, List, [], ◌∷◌, ◌++◌, length, Result, Ok, Err, refl, sym, ap, subst, ◌∙◌, append_assoc, append-nil, length-append, take, drop, slice_index_or, inl, inr, arith}
+use Rattle.std.proofs.Common.{◌≡◌, ℕ, ◌+◌, ◌-◌, ◌*◌, ◌<◌, ◌≤◌, ◌^◌, Bool, true, List, [], ◌∷◌, ◌++◌, length, Result, Ok, Err, refl, sym, ap, subst, ◌∙◌, append_assoc, append-nil, length-append, take, drop, slice_index_or, inl, inr, arith}
 use Rattle.std.specs.Prelude.{◌⊎◌, Option, Some, None}
 use Rattle.std.proofs.lemmas.Bool.{cases_lt}
 use Rattle.std.proofs.lemmas.List.{take_all}
@@ -74,14 +74,6 @@ fields_run kind v whole bits = ap (λ (r : Reading Command). r >>= whole_of) (fr
 
 pub code-forks : (front : CodeFront) → is_fork (behind_code front) ≡ true
 code-forks fronts.Nothing = refl
-code-forks (fronts.Third true) = refl
-code-forks (fronts.Third false) = refl
-code-forks (fronts.Sixth true) = refl
-code-forks (fronts.Sixth false) = refl
-code-forks (fronts.Seventh true true) = refl
-code-forks (fronts.Seventh true false) = refl
-code-forks (fronts.Seventh false true) = refl
-code-forks (fronts.Seventh false false) = refl
 code-forks front = refl
 
 pub code-more : (front more : CodeFront) (bit : Bool) (rest : List Bool) → child (behind_code front) bit ≡ behind_code more → next_at (behind_code front) reasons.Code (bit ∷ rest) ≡ next_at (behind_code more) reasons.Code rest
@@ -257,6 +249,12 @@ no_number s read none digits = omega (arith, digits.wide, none, ap length (digit
 pub no_value : (s : State) (read : List Bool) → s.left ≡ 0 → HasDigits s read → s.value ≡ 0
 no_value s read none digits = digits.value ∙ ap value_of (digits.nothing none)
 
+-- no number is being read in the code, nor in a field of another kind
+pub none_left : (s : State) (read : List Bool) (position : Position) → s.position ≡ position → bits_of_number position ≡ 0 → HasDigits s read → (s.left ≡ 0) × (s.value ≡ 0)
+none_left s read position is other digits =
+    let none : s.left ≡ 0 = omega (arith, digits.wide, ap bits_of_number is, other) in
+    (none, no_value s read none digits)
+
 -- no bit of a number was read
 pub no_digits : (s : State) → s.left ≡ bits_of_number s.position → s.value ≡ 0 → HasDigits s []
 no_digits s wide value = record { wide = omega (arith, wide); value = value; nothing = λ none. refl }
@@ -302,6 +300,10 @@ open_small s pushed (Some refusal) is some = absurd (omega (arith, is, some))
 pub open_few : (s : State) (pushed : ℕ) (refused : Option (ℕ × Reason)) → IsOpen s pushed refused → 2 ≤ s.left → pushed ≤ 4162
 open_few s pushed None is some = few_read s pushed is.1 is.2
 open_few s pushed (Some refusal) is some = absurd (omega (arith, is, some))
+
+pub few_open : (s : State) (pushed : ℕ) (refused : Option (ℕ × Reason)) → refused ≡ None → IsOpen s pushed refused → pushed ≤ 4162
+few_open s pushed None none is = few_read s pushed is.1 is.2
+few_open s pushed (Some refusal) none is = absurd cc
 
 pub open_more : (s more : State) (pushed : ℕ) (refused : Option (ℕ × Reason)) (bit : Bool) → more ≡ record s { left = s.left - 1; value = 2 * s.value + digit_of bit } → 2 ≤ s.left → IsOpen s pushed refused → IsOpen more (pushed + 1) refused
 open_more s more pushed None bit same some is =

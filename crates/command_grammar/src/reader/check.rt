@@ -12,10 +12,10 @@ use gen2_crc::{Crc5, Crc16};
 pub(crate) enum Check {
     /// That of a Select or of an access command.
     Long(Crc16),
-    /// None is to come.
-    Over,
     /// That of a Query.
     Short(Crc5),
+    /// None is to come.
+    Over,
 }
 
 impl Check {

@@ -63,11 +63,12 @@ impl Framer {
         match self.refused {
             Some((place, reason)) => Pushed::Bad(place, reason),
             None => {
-                let place = self.pushed;
-                self.pushed += 1;
                 if self.state.take_inside(bit) {
+                    self.pushed += 1;
                     return self.state.judge();
                 }
+                let place = self.pushed;
+                self.pushed += 1;
                 match self.state.take_edge(bit) {
                     None => self.state.judge(),
                     Some(reason) => {

@@ -169,7 +169,7 @@ pub(crate) enum Next {
 }
 
 impl Stage {
-    /// How many bits the number has that is read next, or 0.
+    /// How many bits the number has that is read, or 0 where a field of another kind is.
     pub(crate) fn number_bits(&self) -> u32
         ensures { result ≡ number_bits self.now }
     {
@@ -232,16 +232,16 @@ impl Stage {
     }
 
     /// Takes a bit inside a mask or bits that are known, or the first one of two or three, and gives whether it did. The last
-    /// bit of these isn't taken, nor one that differs from the known one, nor one elsewhere.
+    /// bit of these isn't taken, nor one that differs from the known one, nor one elsewhere, as in a number.
     #[inline(always)]
     pub(crate) fn take_inside(&mut self, bit: bool, fields: &mut Fields) -> bool
         requires sound { AreFieldsInRange self.old fields.old }
-        requires none { number_bits self.old ≡ 0 }
         ensures reads { IsTrue result → (rest : List Bool)
             → stage_from self.old fields.old (bit ∷ rest) ≡ stage_from self.new fields.new rest }
         ensures sound { IsTrue result → AreFieldsInRange self.new fields.new }
+        ensures other { IsTrue result → number_bits self.old ≡ 0 }
         ensures none { IsTrue result → number_bits self.new ≡ 0 }
-        ensures edge { IsFalse result → IsEdge self.old bit }
+        ensures edge { IsFalse result → number_bits self.old ≡ 0 → IsEdge self.old bit }
         ensures same { IsFalse result → self.new ≡ self.old }
         ensures fields { IsFalse result → fields.new ≡ fields.old }
     {
@@ -256,8 +256,11 @@ impl Stage {
                 *front = TripleFront::One(bit);
                 true
             }
-            Stage::Ebv(_) | Stage::Bit(_) | Stage::Pair(..) | Stage::Triple(..) => false,
-            Stage::Number(_) => unreachable!(),
+            Stage::Bit(_)
+            | Stage::Pair(..)
+            | Stage::Triple(..)
+            | Stage::Number(_)
+            | Stage::Ebv(_) => false,
         }
     }
 

@@ -21,12 +21,12 @@ use crate::refusal::{CommandRefusal, Pushed, Reason};
 /// Where the next bit stands.
 #[derive(Clone, Copy)]
 pub(crate) enum Position {
-    /// In a field.
-    Within(Stage),
     /// In the command code.
     Code(CodeFront),
     /// Behind the command.
     Whole,
+    /// In a field.
+    Within(Stage),
 }
 
 /// What was read of a command, where no bit was refused. It keeps no bits but those of a mask and of
@@ -78,8 +78,8 @@ impl State {
         if self.left <= 1 {
             return false;
         }
+        self.value = self.with(bit);
         self.left -= 1;
-        self.value = 2 * self.value + u32::from(bit);
         true
     }
 
@@ -96,9 +96,6 @@ impl State {
         ensures edge { IsFalse result → self.old.left ≡ 0 → IsAtEdge self.old.position bit }
         ensures same { IsFalse result → self.new ≡ self.old }
     {
-        if self.left > 0 {
-            return false;
-        }
         match &mut self.position {
             Position::Within(stage) => {
                 if !stage.take_inside(bit, &mut self.fields) {

@@ -4,7 +4,7 @@ use Rattle.command_grammar.specs.declared.reader.state.State.{State}
 use Rattle.command_grammar.specs.declared.refusal.Reason.{Reason}
 use Rattle.command_grammar.specs.reading.Framing.{Keeps, IsOpen, HasRead, HasDigits, StateStandsFor, TakesBit}
 use Rattle.command_grammar.proofs.SpellingLaws.{stands_refused, judges_refused}
-use Rattle.command_grammar.proofs.reading.Resuming.{open_small, open_few, open_more, keeps_more, few_read, edge_stands, edge_refused}
+use Rattle.command_grammar.proofs.reading.Resuming.{open_small, open_few, few_open, open_more, keeps_more, edge_stands, edge_refused}
 use Rattle.command_grammar.proofs.reader.framer.Framer.push.Goals as goal
 
 pub take_digit-requires : goal.take_digit-requires
@@ -30,10 +30,11 @@ returns-in-Some-clause-stands c = rw (← c.self.view_is) (stands_refused c.self
 pub returns-in-Some-clause-judges : goal.returns-in-Some-clause-judges
 returns-in-Some-clause-judges c = rw (← c.self.view_is) (judges_refused c.self.inside.state c.self.inside.pushed c.self.inside.refused c.args.bit c.in-Some.place c.in-Some.reason c.in-Some.is)
 
+pub overflow_add-self-then-take_inside : goal.overflow_add-self-then-take_inside
+overflow_add-self-then-take_inside c = omega (arith, few_open c.self.inside.state c.self.inside.pushed c.self.inside.refused c.in-None.is c.self.invariant)
+
 pub overflow_add-self-in-None : goal.overflow_add-self-in-None
-overflow_add-self-in-None c =
-    let is : IsOpen c.self.inside.state c.self.inside.pushed None = subst (λ (r : Option (ℕ × Reason)). IsOpen c.self.inside.state c.self.inside.pushed r) c.in-None.is c.self.invariant in
-    omega (arith, few_read c.self.inside.state c.self.inside.pushed is.1 is.2)
+overflow_add-self-in-None c = omega (arith, few_open c.self.inside.state c.self.inside.pushed c.self.inside.refused c.in-None.is c.self.invariant)
 
 pub returns-in-None-take_edge-clause-stands : goal.returns-in-None-take_edge-clause-stands
 returns-in-None-take_edge-clause-stands c = rw (← c.self.view_is) (λ bits keeps.

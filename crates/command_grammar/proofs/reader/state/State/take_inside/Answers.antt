@@ -1,13 +1,23 @@
-use Rattle.std.proofs.Common.{◌≡◌, ◌∷◌, ◌++◌, ◌∙◌, [], Bool, List, ap, arith, subst}
+use Rattle.std.proofs.Common.{◌≡◌, ◌∷◌, ◌++◌, ◌∙◌, [], Bool, List, ap, arith, refl, subst}
 use Rattle.command_grammar.specs.declared.reader.state.Position.{Position}
+use Rattle.command_grammar.specs.declared.reader.state.Position.TheVariants as positions
 use Rattle.command_grammar.specs.reading.Framing.{CheckGoesAlong, bits_of_number}
-use Rattle.command_grammar.proofs.reading.Resuming.{code_goes_on, no_number, no_value, no_digits}
+use Rattle.command_grammar.proofs.reading.Resuming.{code_goes_on, no_number, none_left, no_digits}
 use Rattle.command_grammar.proofs.reader.state.State.take_inside.Goals as goal
 
-pub take_inside-requires-clause-none : goal.take_inside-requires-clause-none
-take_inside-requires-clause-none c =
-    subst (λ (position : Position). bits_of_number position ≡ 0) c.in-Within.is
-    (no_number c.args.self.now c.requires.digits.0 (omega (arith, c.if-self-gt0.false)) c.requires.digits.1)
+pub returns-then-not-take_inside-clause-edge : goal.returns-then-not-take_inside-clause-edge
+returns-then-not-take_inside-clause-edge c = λ no none.
+    rw c.in-Within.is (c.take_inside.ensures.edge c.if-not-take_inside.true
+    (subst (λ (position : Position). bits_of_number position ≡ 0) c.in-Within.is (no_number c.args.self.now c.requires.digits.0 none c.requires.digits.1)))
+
+pub returns-else-not-take_inside-clause-none : goal.returns-else-not-take_inside-clause-none
+returns-else-not-take_inside-clause-none c = λ yes.
+    (none_left c.args.self.now c.requires.digits.0 (positions.Within c.in-Within.stage) c.in-Within.is (c.take_inside.ensures.other c.if-not-take_inside.false) c.requires.digits.1).0
+
+pub returns-else-not-take_inside-clause-digits : goal.returns-else-not-take_inside-clause-digits
+returns-else-not-take_inside-clause-digits c = λ yes.
+    let old = none_left c.args.self.now c.requires.digits.0 (positions.Within c.in-Within.stage) c.in-Within.is (c.take_inside.ensures.other c.if-not-take_inside.false) c.requires.digits.1 in
+    no_digits _ (omega (arith, old.0, c.take_inside.ensures.none c.if-not-take_inside.false)) old.1
 
 pub returns-in-More-clause-stands : goal.returns-in-More-clause-stands
 returns-in-More-clause-stands c = λ yes bits stands.
@@ -17,10 +27,15 @@ returns-in-More-clause-stands c = λ yes bits stands.
       reads = code_goes_on c.args.self.now bits c.args.bit c.in-Code.front c.in-More.more c.in-Code.is c.in-More.ensures.says stands;
     }
 
+pub returns-in-More-clause-none : goal.returns-in-More-clause-none
+returns-in-More-clause-none c = λ yes.
+    (none_left c.args.self.now c.requires.digits.0 (positions.Code c.in-Code.front) c.in-Code.is refl c.requires.digits.1).0
+
 pub returns-in-More-clause-digits : goal.returns-in-More-clause-digits
 returns-in-More-clause-digits c = λ yes.
-    no_digits _ (omega (arith, c.if-self-gt0.false)) (no_value c.args.self.now c.requires.digits.0 (omega (arith, c.if-self-gt0.false)) c.requires.digits.1)
+    let old = none_left c.args.self.now c.requires.digits.0 (positions.Code c.in-Code.front) c.in-Code.is refl c.requires.digits.1 in
+    no_digits _ old.0 old.1
 
 pub begin_command-requires : goal.begin_command-requires
 begin_command-requires c =
-    record { none = (omega (arith, c.if-self-gt0.false), no_value c.args.self.now c.requires.digits.0 (omega (arith, c.if-self-gt0.false)) c.requires.digits.1) }
+    record { none = none_left c.args.self.now c.requires.digits.0 (positions.Code c.in-Code.front) c.in-Code.is refl c.requires.digits.1 }
