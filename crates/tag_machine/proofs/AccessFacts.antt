@@ -23,7 +23,7 @@ use Rattle.tag_machine.specs.declared.states.Half.{Half}
 use Rattle.tag_machine.specs.declared.states.Held.{Held}
 use Rattle.tag_machine.specs.declared.states.Password.{Password}
 use Rattle.tag_machine.specs.declared.states.Password.TheVariants as passwords
-use Rattle.tag_machine.specs.TagValue.{StateValue, ReadyState, ArbitrateState, ReplyState, AcknowledgedState, OpenState, SecuredState, KilledState, UnpoweredState, BodyValue, IsWordOrNone, IsLegalHeld, IsLegalState, IsLegalBody}
+use Rattle.tag_machine.specs.TagValue.{StateValue, ReplyState, AcknowledgedState, OpenState, SecuredState, KilledState, BodyValue, IsWordOrNone, IsLegalHeld, IsLegalState, IsLegalBody}
 use Rattle.tag_machine.specs.Answers.{Sent, Outcome, silent, plain_answer, extended_answer, HasFewWords}
 use Rattle.tag_machine.specs.Draws.{draw_of, body_after_draw, back}
 use Rattle.tag_machine.specs.Access.{held_state, in_access, outcome_where_heeded, unless_ended, first_level, new_held, req_rn, is_password, unless_other_half, uncover, refuse, read_answer, read_outcome, memory_outcome, write_outcome, block_write_outcome, block_erase_outcome, has_user, locks_outcome, lock_outcome, whole_of, keep_half, whole_outcome, half_outcome, password_outcome}
@@ -100,8 +100,6 @@ cover_given : (held : Held) (body : BodyValue) → IsLegalHeld held → IsLegalB
 cover_given held body legal of_body = record { session = legal.session; q = legal.q; handle = legal.handle; cover = word_drawn body of_body; half = legal.half }
 
 pub to_req_rn : (rn : ℕ) (state : StateValue) (body : BodyValue) → Facts (commands.ReqRn rn) state body (req_rn rn state body)
-to_req_rn rn ReadyState body = stays refl
-to_req_rn rn (ArbitrateState session q slot) body = stays refl
 to_req_rn rn (ReplyState session q own) body = goes_back refl (λ of_command before. (before.state.0, before.state.1))
 to_req_rn rn (AcknowledgedState session q own) body =
     let held = new_held session q (draw_of body) in
@@ -111,8 +109,7 @@ to_req_rn rn (OpenState held) body =
     numbered held.handle rn (OpenState (record held { cover = Some (draw_of body) })) refl refl (λ before. cover_given held body before.state before.body)
 to_req_rn rn (SecuredState held) body =
     numbered held.handle rn (SecuredState (record held { cover = Some (draw_of body) })) refl refl (λ before. cover_given held body before.state before.body)
-to_req_rn rn KilledState body = stays refl
-to_req_rn rn UnpoweredState body = stays refl
+to_req_rn rn state body = stays refl
 
 -- the rules that stand before each access command in open and secured
 past_other_half : (P : Outcome → Type 0) (password : Password) (half : Option Half) (instead outcome : Outcome) → P instead → P outcome → P (unless_other_half password half instead outcome)
@@ -136,16 +133,13 @@ heeded {command} rn brought_half level held body outcome none given =
 
 -- an access command, at which no tag draws
 accessed : (command : Command) (rn : ℕ) (brought_half : Option Password) (acts : Level → Held → BodyValue → Outcome) (state : StateValue) (body : BodyValue) → ((any : StateValue) → draws_in command any body ≡ 0) → ((level : Level) (held : Held) → Carries rn (held_state level held) body held → Facts command (held_state level held) body (acts level held body)) → Facts command state body (in_access rn brought_half acts state body)
-accessed command rn brought_half acts ReadyState body none given = stays (none _)
-accessed command rn brought_half acts (ArbitrateState session q slot) body none given = stays (none _)
 accessed command rn brought_half acts (ReplyState session q own) body none given = goes_back (none _) (λ of_command before. (before.state.0, before.state.1))
 accessed command rn brought_half acts (AcknowledgedState session q own) body none given = goes_back (none _) (λ of_command before. (before.state.0, before.state.1))
 accessed command rn brought_half acts (OpenState held) body none given =
     heeded rn brought_half levels.Opened held body (acts levels.Opened held body) (none _) (given levels.Opened held)
 accessed command rn brought_half acts (SecuredState held) body none given =
     heeded rn brought_half levels.Secured held body (acts levels.Secured held body) (none _) (given levels.Secured held)
-accessed command rn brought_half acts KilledState body none given = stays (none _)
-accessed command rn brought_half acts UnpoweredState body none given = stays (none _)
+accessed command rn brought_half acts state body none given = stays (none _)
 
 -- a covered number, where the tag has a cover
 uncovered : {command : Command} {body : BodyValue} (level : Level) (held : Held) (covered : ℕ) (cover : Option ℕ) (acts : Held → ℕ → Outcome) → draws_in command (held_state level held) body ≡ 0 → (IsLegalAt (held_state level held) body → IsWordOrNone cover) → (IsLegalCommand command → covered < 2 ^ 16) → ((value : ℕ) → (IsLegalCommand command → IsLegalAt (held_state level held) body → value < 2 ^ 16) → Facts command (held_state level held) body (acts (record held { cover = None }) value)) → Facts command (held_state level held) body (uncover level held body covered cover acts)

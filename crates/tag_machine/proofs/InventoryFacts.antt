@@ -19,7 +19,7 @@ use Rattle.session_flags.specs.Flags.{matches}
 use Rattle.session_flags.specs.laws.FlagLaws.{side_of-flags_after_effect, sl-flags_after_effect}
 use Rattle.tag_memory.specs.Memory.{pc_of, epc_of, length_in}
 use Rattle.tag_machine.specs.declared.states.Held.{Held}
-use Rattle.tag_machine.specs.TagValue.{StateValue, ReadyState, ArbitrateState, ReplyState, AcknowledgedState, OpenState, SecuredState, KilledState, UnpoweredState, BodyValue, IsLegalHeld, IsLegalBody, IsLegalState}
+use Rattle.tag_machine.specs.TagValue.{StateValue, ReadyState, ArbitrateState, ReplyState, AcknowledgedState, OpenState, SecuredState, BodyValue, IsLegalHeld, IsLegalBody, IsLegalState}
 use Rattle.tag_machine.specs.Answers.{IsSent, silent, plain_answer}
 use Rattle.tag_machine.specs.Draws.{draw_of, body_after_draw, begin_reply, enter, body_after_inversion, close, back}
 use Rattle.tag_machine.specs.Inventory.{unless_half, take_part, query, end_turn, slot_below, count_down, query_rep, q_after_adjust, query_adjust, epc_reply, ack, nak, selected_body, selected_ready, select}
@@ -63,8 +63,7 @@ to_query dr line_code trext sel session target q state body = by state
     by (AcknowledgedState own own_q rn) = closes_first (AcknowledgedState own own_q rn) (own == session) refl
     by (OpenState held) = closes_first (OpenState held) (held.session == session) refl
     by (SecuredState held) = closes_first (SecuredState held) (held.session == session) refl
-    by KilledState = stays refl
-    by UnpoweredState = stays refl
+    by absent = stays refl
 
 -- QueryRep
 slot_stays_small : (slot : ℕ) → slot < 2 ^ 15 → slot_below slot < 2 ^ 15
@@ -88,7 +87,6 @@ counts_down own session q slot body same =
     silently same_body none (λ of_command legal. (of_command, legal.state.1, slot_stays_small slot legal.state.2)))
 
 pub to_query_rep : (session : ℕ) (state : StateValue) (body : BodyValue) → Facts (commands.QueryRep session) state body (query_rep session state body)
-to_query_rep session ReadyState body = stays refl
 to_query_rep session (ArbitrateState own q slot) body =
     of_session own session (count_down session q slot body) (counts_down own session q slot body) (λ apart. rw apart refl)
 to_query_rep session (ReplyState own q rn) body =
@@ -102,8 +100,7 @@ to_query_rep session (OpenState held) body =
 to_query_rep session (SecuredState held) body =
     of_session held.session session (end_turn session held body)
     (λ same. turn_ends session held refl (λ other is. is) (λ of_command legal. (of_command, legal.state.q))) (λ apart. refl)
-to_query_rep session KilledState body = stays refl
-to_query_rep session UnpoweredState body = stays refl
+to_query_rep session state body = stays refl
 
 -- QueryAdjust
 q_stays_small : (updn : UpDn) (q : ℕ) → q ≤ 15 → q_after_adjust updn q ≤ 15
@@ -134,7 +131,6 @@ adjusts session updn state own q body draws in_range =
     draws ∙ none)
 
 pub to_query_adjust : (session : ℕ) (updn : UpDn) (state : StateValue) (body : BodyValue) → Facts (commands.QueryAdjust session updn) state body (query_adjust session updn state body)
-to_query_adjust session updn ReadyState body = stays refl
 to_query_adjust session updn (ArbitrateState own q slot) body =
     adjusts session updn (ArbitrateState own q slot) own q body refl (λ of_command legal. (of_command, legal.state.1))
 to_query_adjust session updn (ReplyState own q rn) body =
@@ -147,8 +143,7 @@ to_query_adjust session updn (OpenState held) body =
 to_query_adjust session updn (SecuredState held) body =
     of_session held.session session (end_turn session held body)
     (λ same. turn_ends session held refl (λ other is. is) (λ of_command legal. (of_command, legal.state.q))) (λ apart. refl)
-to_query_adjust session updn KilledState body = stays refl
-to_query_adjust session updn UnpoweredState body = stays refl
+to_query_adjust session updn state body = stays refl
 
 -- ACK
 epc_fits : (rn : ℕ) (state : StateValue) (body : BodyValue) → rn_or_handle_of state ≡ Some rn → IsLegalBody body → IsEpcAnswer rn state body (record { reply = epc_reply body; handle = 0; extended = false }) × IsSent (Some (record { reply = epc_reply body; handle = 0; extended = false }))
@@ -181,27 +176,21 @@ acked_held rn state held body number legal_held =
     (goes_back refl in_range) (acked rn held.handle held.session held.q state number in_range (λ legal. legal.state))
 
 pub to_ack : (rn : ℕ) (state : StateValue) (body : BodyValue) → Facts (commands.Ack rn) state body (ack rn state body)
-to_ack rn ReadyState body = stays refl
-to_ack rn (ArbitrateState session q slot) body = stays refl
 to_ack rn (ReplyState session q own) body =
     acked rn own session q (AcknowledgedState session q own) refl (λ of_command legal. (legal.state.0, legal.state.1)) (λ legal. legal.state)
 to_ack rn (AcknowledgedState session q own) body =
     acked rn own session q (AcknowledgedState session q own) refl (λ of_command legal. (legal.state.0, legal.state.1)) (λ legal. legal.state)
 to_ack rn (OpenState held) body = acked_held rn (OpenState held) held body refl (λ legal. legal.state)
 to_ack rn (SecuredState held) body = acked_held rn (SecuredState held) held body refl (λ legal. legal.state)
-to_ack rn KilledState body = stays refl
-to_ack rn UnpoweredState body = stays refl
+to_ack rn state body = stays refl
 
 -- NAK
 pub to_nak : (state : StateValue) (body : BodyValue) → Facts commands.Nak state body (nak state body)
-to_nak ReadyState body = stays refl
-to_nak (ArbitrateState session q slot) body = stays refl
 to_nak (ReplyState session q rn) body = goes_back refl (λ of_command legal. (legal.state.0, legal.state.1))
 to_nak (AcknowledgedState session q rn) body = goes_back refl (λ of_command legal. (legal.state.0, legal.state.1))
 to_nak (OpenState held) body = goes_back refl (λ of_command legal. (legal.state.session, legal.state.q))
 to_nak (SecuredState held) body = goes_back refl (λ of_command legal. (legal.state.session, legal.state.q))
-to_nak KilledState body = stays refl
-to_nak UnpoweredState body = stays refl
+to_nak state body = stays refl
 
 -- Select
 selected : {state : StateValue} (target : FlagName) (action : ℕ) (bank : MaskBank) (pointer : ℕ) (mask : List Bool) (body : BodyValue) → Facts (commands.Select target action bank pointer mask) state body (selected_ready target action bank pointer mask body)
@@ -224,5 +213,4 @@ to_select target action bank pointer mask (ReplyState session q rn) body = selec
 to_select target action bank pointer mask (AcknowledgedState session q rn) body = selected target action bank pointer mask body
 to_select target action bank pointer mask (OpenState held) body = selected_held target action bank pointer mask (OpenState held) held body (λ legal. legal.state)
 to_select target action bank pointer mask (SecuredState held) body = selected_held target action bank pointer mask (SecuredState held) held body (λ legal. legal.state)
-to_select target action bank pointer mask KilledState body = stays refl
-to_select target action bank pointer mask UnpoweredState body = stays refl
+to_select target action bank pointer mask state body = stays refl

@@ -5,7 +5,7 @@ use Rattle.std.proofs.lemmas.Bool.Decides.{eqb_tells}
 use Rattle.command_fields.specs.declared.choices.UpDn.{UpDn}
 use Rattle.command_grammar.specs.declared.commands.Command.TheVariants as commands
 use Rattle.tag_machine.specs.declared.states.Held.{Held}
-use Rattle.tag_machine.specs.TagValue.{StateValue, ReadyState, ArbitrateState, ReplyState, AcknowledgedState, OpenState, SecuredState, KilledState, UnpoweredState, BodyValue}
+use Rattle.tag_machine.specs.TagValue.{StateValue, ReadyState, ArbitrateState, ReplyState, AcknowledgedState, OpenState, SecuredState, BodyValue}
 use Rattle.tag_machine.specs.Answers.{Sent, Outcome, silent}
 use Rattle.tag_machine.specs.Draws.{begin_reply, enter, body_after_inversion, close, back}
 use Rattle.tag_machine.specs.Inventory.{slot_below, count_down, q_after_adjust, end_turn}
@@ -28,24 +28,20 @@ other : (own session : ℕ) (outcome stays : Outcome) → Some own ≢ Some sess
 other own session outcome stays apart = rw (ne_eqb own session (λ is. apart (ap (λ n. Some n) is))) refl
 
 pub other_rep : (session : ℕ) (state : StateValue) (body : BodyValue) → session_of state ≢ Some session → step (commands.QueryRep session) state body ≡ silent state body
-other_rep session ReadyState body apart = refl
 other_rep session (ArbitrateState own q slot) body apart = other own session (count_down session q slot body) (silent (ArbitrateState own q slot) body) apart
 other_rep session (ReplyState own q rn) body apart = other own session (silent (ArbitrateState session q 0x7FFF) body) (silent (ReplyState own q rn) body) apart
 other_rep session (AcknowledgedState own q rn) body apart = other own session (close session body) (silent (AcknowledgedState own q rn) body) apart
 other_rep session (OpenState held) body apart = other held.session session (end_turn session held body) (silent (OpenState held) body) apart
 other_rep session (SecuredState held) body apart = other held.session session (end_turn session held body) (silent (SecuredState held) body) apart
-other_rep session KilledState body apart = refl
-other_rep session UnpoweredState body apart = refl
+other_rep session state body apart = refl
 
 pub other_adjust : (session : ℕ) (updn : UpDn) (state : StateValue) (body : BodyValue) → session_of state ≢ Some session → step (commands.QueryAdjust session updn) state body ≡ silent state body
-other_adjust session updn ReadyState body apart = refl
 other_adjust session updn (ArbitrateState own q slot) body apart = other own session (enter session (q_after_adjust updn q) body) (silent (ArbitrateState own q slot) body) apart
 other_adjust session updn (ReplyState own q rn) body apart = other own session (enter session (q_after_adjust updn q) body) (silent (ReplyState own q rn) body) apart
 other_adjust session updn (AcknowledgedState own q rn) body apart = other own session (close session body) (silent (AcknowledgedState own q rn) body) apart
 other_adjust session updn (OpenState held) body apart = other held.session session (end_turn session held body) (silent (OpenState held) body) apart
 other_adjust session updn (SecuredState held) body apart = other held.session session (end_turn session held body) (silent (SecuredState held) body) apart
-other_adjust session updn KilledState body apart = refl
-other_adjust session updn UnpoweredState body apart = refl
+other_adjust session updn state body apart = refl
 
 -- who answers a QueryRep
 abbrev IsInSlot : ℕ → StateValue → Type 0
@@ -79,7 +75,6 @@ turn_ended session before held body =
     (silent_now session before (ArbitrateState session held.q 0) body) (silent_now session before ReadyState (body_after_inversion session body))
 
 pub answers_in_slot : (session : ℕ) (state : StateValue) (body : BodyValue) → FromSlot session state (step (commands.QueryRep session) state body)
-answers_in_slot session ReadyState body = silent_now session ReadyState ReadyState body
 answers_in_slot session (ArbitrateState own q slot) body =
     let state = ArbitrateState own q slot in
     either (FromSlot session state) (own == session) (count_down session q slot body) (silent state body)
@@ -96,22 +91,15 @@ answers_in_slot session (AcknowledgedState own q rn) body =
     of_session own session state body (close session body) (silent_now session state ReadyState (body_after_inversion session body))
 answers_in_slot session (OpenState held) body = of_session held.session session (OpenState held) body (end_turn session held body) (turn_ended session (OpenState held) held body)
 answers_in_slot session (SecuredState held) body = of_session held.session session (SecuredState held) body (end_turn session held body) (turn_ended session (SecuredState held) held body)
-answers_in_slot session KilledState body = silent_now session KilledState KilledState body
-answers_in_slot session UnpoweredState body = silent_now session UnpoweredState UnpoweredState body
+answers_in_slot session state body = silent_now session state state body
 
 no_answer : (answer : Option Sent) → ((sent : Sent) → answer ≡ Some sent → ⊥) → answer ≡ None
 no_answer None none = refl
 no_answer (Some sent) none = absurd (none sent refl)
 
 no_slot : (state : StateValue) → is_beyond_arbitrate state ≡ true → slot_of state ≡ Some 1 → ⊥
-no_slot ReadyState beyond is = cc
 no_slot (ArbitrateState own q slot) beyond is = cc
-no_slot (ReplyState own q rn) beyond is = cc
-no_slot (AcknowledgedState own q rn) beyond is = cc
-no_slot (OpenState held) beyond is = cc
-no_slot (SecuredState held) beyond is = cc
-no_slot KilledState beyond is = cc
-no_slot UnpoweredState beyond is = cc
+no_slot state beyond is = cc
 
 pub silent_beyond : (session : ℕ) (state : StateValue) (body : BodyValue) → is_beyond_arbitrate state ≡ true → (step (commands.QueryRep session) state body).answer ≡ None
 silent_beyond session state body beyond =

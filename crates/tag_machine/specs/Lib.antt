@@ -11,5 +11,4 @@ pub mod StateNames
 pub mod StateNumbers
 pub mod Hearing
 pub mod Slots
-pub mod Reach
 pub mod laws

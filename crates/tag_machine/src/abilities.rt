@@ -1,5 +1,5 @@
 //! Which states hear which commands. A command that a state doesn't hear is no call of a tag in it.
-ghost use Rattle.std.specs.Prelude.{◌≡◌, ◌+◌, true};
+ghost use Rattle.std.specs.Prelude.{◌≡◌, ◌+◌, true, refl};
 ghost use Rattle.tag_machine.specs.Hearing.{tag_value_of};
 
 use crate::any_tag::AnyTag;
@@ -90,26 +90,18 @@ impl InRound for Opened {}
 impl InRound for Secured {}
 
 impl InTurn for InReply {
-    ghost use Rattle.std.specs.Prelude.{refl};
-
     ghost in_turn = { λ state. refl };
 }
 
 impl InTurn for Acknowledged {
-    ghost use Rattle.std.specs.Prelude.{refl};
-
     ghost in_turn = { λ state. refl };
 }
 
 impl InTurn for Opened {
-    ghost use Rattle.std.specs.Prelude.{refl};
-
     ghost in_turn = { λ state. refl };
 }
 
 impl InTurn for Secured {
-    ghost use Rattle.std.specs.Prelude.{refl};
-
     ghost in_turn = { λ state. refl };
 }
 

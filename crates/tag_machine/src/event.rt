@@ -45,10 +45,8 @@ impl AnyTag {
             | AnyTag::Unpowered(Tag { state: _, body }) => {
                 let mut body = body;
                 body.parts.flags.lose_power();
-                AnyTag::Unpowered(Tag {
-                    state: Unpowered,
-                    body,
-                })
+                let state = Unpowered;
+                AnyTag::Unpowered(Tag { state, body })
             }
         }
     }

@@ -1,4 +1,4 @@
-//! What an interrogator expects of a tag, so that its bits can be read.
+//! What an interrogator expects of a tag that hears a command, and the reply that its bits then are.
 ghost use Rattle.std.specs.Prelude.{◌≡◌};
 ghost use Rattle.std.specs.Option.{IsSomeAnd};
 ghost use Rattle.reply_grammar.specs.declared.expected.Reply.{Reply};
@@ -6,12 +6,15 @@ ghost use Rattle.reply_grammar.specs.Replies.{AnswersExpected};
 ghost use Rattle.tag_machine.specs.TagValue.{StateValue};
 ghost use Rattle.tag_machine.specs.StateNumbers.{numbers_of};
 ghost use Rattle.tag_machine.specs.laws.Extended.{has_half};
-ghost use Rattle.tag_machine.specs.laws.Replies.{expect_of, expect_of_read};
+ghost use Rattle.tag_machine.specs.laws.Replies.{expect_of};
 
 use crate::state_numbers::StateNumbers;
 use bit_strings::{Bits, Count1};
 use command_grammar::Command;
-use reply_grammar::{Expect, Reply, decode_reply_to, reply_laws};
+use reply_grammar::{Expect, Reply, decode_reply, decode_reply_to, reply_laws};
+
+/// How many bits a handle and its CRC-16 have: what a first half of a Kill is answered with, and no answer to a second one.
+const HANDLE_BITS: u32 = 32;
 
 /// Whether a tag that holds these numbers holds the first half of a password.
 pub fn has_half(numbers: StateNumbers) -> bool
@@ -20,16 +23,6 @@ pub fn has_half(numbers: StateNumbers) -> bool
     match numbers {
         StateNumbers::Held(held) => held.half.is_some(),
         StateNumbers::None | StateNumbers::Waiting { .. } | StateNumbers::Replied { .. } => false,
-    }
-}
-
-/// What a Read of so many words expects (6.3.2.11.3.2): of 0 words, all to the bank's end.
-fn words_expected(count: u8, handle: u16) -> Expect
-    ensures { result ≡ expect_of_read count handle }
-{
-    match Count1::new(count) {
-        Some(count) => Expect::Words(count, handle),
-        None => Expect::AnyWords(handle),
     }
 }
 
@@ -46,7 +39,11 @@ pub fn expectation_of(command: &Command, unfinished: bool) -> Option<Expect>
         Command::Ack { .. } => Some(Expect::Epc),
         Command::Select { .. } | Command::Nak => None,
         Command::ReqRn { .. } => Some(Expect::Handle),
-        Command::Read { count, rn, .. } => Some(words_expected(*count, *rn)),
+        // A Read of 0 words is one of all to the bank's end (6.3.2.11.3.2).
+        Command::Read { count, rn, .. } => Some(match Count1::new(*count) {
+            Some(count) => Expect::Words(count, *rn),
+            None => Expect::AnyWords(*rn),
+        }),
         Command::Kill { rn, .. } => Some(if unfinished {
             Expect::Header(*rn)
         } else {
@@ -75,5 +72,27 @@ pub fn expected_reply_to(bits: &Bits, expect: &Option<Expect>, reply: &mut Reply
     match decode_reply_to(bits, expect, reply) {
         Ok(()) => {}
         Err(_) => unreachable!(),
+    }
+}
+
+/// The reply that bits are, of which it is known that they answer what is expected. Of other bits nothing is known.
+fn decoded(bits: &Bits, expect: &Expect) -> Reply
+    ensures { (reply : Reply) → AnswersExpected reply expect.now bits.now.items → result ≡ reply }
+{
+    match decode_reply(bits, expect) {
+        Ok(reply) => reply,
+        Err(_) => Reply::Header,
+    }
+}
+
+/// The reply that bits are with which a tag answers a command, whatever it was before. Of other bits nothing is known.
+pub fn reply_to(command: &Command, bits: &Bits) -> Reply
+    ensures { (state : StateValue) (reply : Reply)
+        → IsSomeAnd (expect_of command.now state) (λ it. AnswersExpected reply it bits.now.items)
+        → result ≡ reply }
+{
+    match expectation_of(command, bits.len() != HANDLE_BITS) {
+        None => Reply::Header,
+        Some(expect) => decoded(bits, &expect),
     }
 }

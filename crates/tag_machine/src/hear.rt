@@ -26,13 +26,11 @@ impl AnyTag {
     {
         match command {
             Command::Query {
-                dr: _,
-                code: _,
-                trext: _,
                 sel,
                 session,
                 target,
                 q,
+                ..
             } => self.query(*sel, *session, *target, *q, out),
             Command::Select {
                 target,

@@ -1,12 +1,11 @@
 //! A command to a tag that only waits, or is killed or without power: where the tag sends nothing and its state keeps
 //! its kind, the tag hears it in its place.
-ghost use Rattle.std.specs.Prelude.{◌≡◌, ◌+◌, ℕ, true, false, if◌then◌else◌};
+ghost use Rattle.std.specs.Prelude.{◌≡◌, ◌+◌, true, false, if◌then◌else◌};
 ghost use Rattle.tag_machine.specs.Answers.{silent};
 ghost use Rattle.tag_machine.specs.Hearing.{tag_value_of};
 ghost use Rattle.tag_machine.specs.Draws.{enter};
-ghost use Rattle.tag_machine.specs.Reach.{reaches_waiting};
 ghost use Rattle.tag_machine.specs.Step.{step};
-ghost use Rattle.tag_machine.specs.TagValue.{ArbitrateState, BodyValue, IsLegalTag, ReadyState};
+ghost use Rattle.tag_machine.specs.TagValue.{IsLegalTag};
 
 use crate::any_tag::AnyTag;
 use crate::states::{Arbitrate, Ready};
@@ -16,34 +15,6 @@ use bit_strings::{QValue, Session};
 use command_grammar::Command;
 use std::sync::ledger::Ledger;
 use tag_body::{Slot, adjusted};
-
-/// Whether a command may change a tag that waits for its slot, or takes no part in a round: a Select, Query, QueryRep or
-/// QueryAdjust.
-pub fn reaches_waiting(command: &Command) -> bool
-    ensures value { result ≡ reaches_waiting command.now }
-    ensures ready { result ≡ false → (body : BodyValue)
-        → step command.now ReadyState body ≡ silent ReadyState body }
-    ensures arbitrate { result ≡ false → (session q slot : ℕ) (body : BodyValue)
-        → step command.now (ArbitrateState session q slot) body
-        ≡ silent (ArbitrateState session q slot) body }
-{
-    match command {
-        Command::Query { .. }
-        | Command::QueryRep { .. }
-        | Command::QueryAdjust { .. }
-        | Command::Select { .. } => true,
-        Command::Ack { .. }
-        | Command::Nak
-        | Command::ReqRn { .. }
-        | Command::Read { .. }
-        | Command::Write { .. }
-        | Command::Kill { .. }
-        | Command::Lock { .. }
-        | Command::Access { .. }
-        | Command::BlockWrite { .. }
-        | Command::BlockErase { .. } => false,
-    }
-}
 
 impl Tag<Ready> {
     /// Hears a command that leaves the tag in ready, and answers whether it did: each but a Query that speaks to the tag.
@@ -70,14 +41,13 @@ impl Tag<Ready> {
                 self.body.select(*target, *action, *bank, *pointer, mask);
                 true
             }
-            Command::QueryRep { .. } | Command::QueryAdjust { .. } => true,
-            _ => !reaches_waiting(command),
+            _ => true,
         }
     }
 }
 
 impl Tag<Arbitrate> {
-    /// Hears a command that leaves the tag in arbitrate, and answers whether it did: one that reaches no waiting tag, a
+    /// Hears a command that leaves the tag in arbitrate, and answers whether it did: one that speaks to no waiting tag, a
     /// QueryRep or QueryAdjust of another session, a QueryRep by which the slot counter falls and doesn't become 0, or a
     /// QueryAdjust, or a Query that speaks to the tag, at which it draws another slot than 0.
     fn hear_in_arbitrate(&mut self, command: &Command) -> bool
@@ -110,7 +80,7 @@ impl Tag<Arbitrate> {
                 matches && self.draw_slot(*session, *q)
             }
             Command::Select { .. } => false,
-            _ => !reaches_waiting(command),
+            _ => true,
         }
     }
 

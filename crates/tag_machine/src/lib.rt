@@ -12,7 +12,6 @@ mod hear;
 mod in_place;
 mod inventory;
 mod laws;
-mod reply_reading;
 mod state_numbers;
 mod states;
 mod step_counter;
@@ -21,12 +20,11 @@ mod transitions;
 
 pub use air_events::{Choice, Entry, Event, Several};
 pub use any_tag::{Answered, AnyTag, Heard};
-pub use expectation::{expectation_of, expected_reply_to, has_half};
+pub use expectation::{expectation_of, expected_reply_to, has_half, reply_to};
 pub use laws::{
     absent_tags_stay, answers_are_expected, answers_are_replies, draw_laws, query_rep_laws,
     steps_keep_tags_legal,
 };
-pub use reply_reading::reply_to;
 pub use session_flags::DrawWords;
 pub use state_numbers::StateNumbers;
 pub use states::{

@@ -4,7 +4,7 @@ ghost use Rattle.tag_machine.specs.Hearing.{tag_value_of};
 ghost use Rattle.tag_machine.specs.StateNumbers.{numbers_of};
 
 use crate::any_tag::AnyTag;
-use crate::states::Held;
+use crate::states::{Acknowledged, Held, InReply};
 use crate::tag::Tag;
 use bit_strings::{QValue, Session};
 
@@ -49,16 +49,14 @@ impl AnyTag {
                 q: tag.state.q,
                 slot: tag.state.slot.get(),
             },
-            AnyTag::InReply(tag) => StateNumbers::Replied {
-                session: tag.state.session,
-                q: tag.state.q,
-                rn: tag.state.rn,
-            },
-            AnyTag::Acknowledged(tag) => StateNumbers::Replied {
-                session: tag.state.session,
-                q: tag.state.q,
-                rn: tag.state.rn,
-            },
+            AnyTag::InReply(tag) => {
+                let InReply { session, q, rn } = tag.state;
+                StateNumbers::Replied { session, q, rn }
+            }
+            AnyTag::Acknowledged(tag) => {
+                let Acknowledged { session, q, rn } = tag.state;
+                StateNumbers::Replied { session, q, rn }
+            }
             AnyTag::Opened(tag) => StateNumbers::Held(tag.state.held),
             AnyTag::Secured(tag) => StateNumbers::Held(tag.state.held),
         }

@@ -1,4 +1,5 @@
 //! The states of a tag, each with the numbers that it holds (6.3.2.4 Tag states and slot counter).
+ghost use Rattle.tag_machine.specs.States.{ready_state, arbitrate_state, reply_state, acknowledged_state, open_state, secured_state, killed_state, unpowered_state};
 
 use bit_strings::{QValue, Session};
 use tag_body::Slot;
@@ -36,8 +37,6 @@ pub trait State: Copy {
 pub struct Ready;
 
 impl State for Ready {
-    ghost use Rattle.tag_machine.specs.States.{ready_state};
-
     ghost value = { ready_state };
 }
 
@@ -50,8 +49,6 @@ pub struct Arbitrate {
 }
 
 impl State for Arbitrate {
-    ghost use Rattle.tag_machine.specs.States.{arbitrate_state};
-
     ghost value = { arbitrate_state };
 }
 
@@ -74,14 +71,10 @@ pub struct Acknowledged {
 }
 
 impl State for InReply {
-    ghost use Rattle.tag_machine.specs.States.{reply_state};
-
     ghost value = { reply_state };
 }
 
 impl State for Acknowledged {
-    ghost use Rattle.tag_machine.specs.States.{acknowledged_state};
-
     ghost value = { acknowledged_state };
 }
 
@@ -125,8 +118,6 @@ pub struct Opened {
 }
 
 impl State for Opened {
-    ghost use Rattle.tag_machine.specs.States.{open_state};
-
     ghost value = { open_state };
 }
 
@@ -137,8 +128,6 @@ pub struct Secured {
 }
 
 impl State for Secured {
-    ghost use Rattle.tag_machine.specs.States.{secured_state};
-
     ghost value = { secured_state };
 }
 
@@ -147,8 +136,6 @@ impl State for Secured {
 pub struct Killed;
 
 impl State for Killed {
-    ghost use Rattle.tag_machine.specs.States.{killed_state};
-
     ghost value = { killed_state };
 }
 
@@ -157,7 +144,5 @@ impl State for Killed {
 pub struct Unpowered;
 
 impl State for Unpowered {
-    ghost use Rattle.tag_machine.specs.States.{unpowered_state};
-
     ghost value = { unpowered_state };
 }

@@ -6,6 +6,7 @@ ghost use Rattle.tag_machine.specs.Answers.{silent, plain_answer, extended_answe
 ghost use Rattle.tag_machine.specs.Draws.{begin_reply, enter, back, tag_back};
 ghost use Rattle.tag_machine.specs.Hearing.{GivesOutcome, tag_value_of};
 
+use crate::abilities::Present;
 use crate::any_tag::{Answered, AnyTag, Heard};
 use crate::states::{Arbitrate, InReply};
 use crate::tag::Tag;
@@ -19,10 +20,8 @@ pub fn unanswered(tag: AnyTag, out: &mut Bits) -> Heard
         (silent (tag_value_of tag).state (tag_value_of tag).body) result out.old out.new }
 {
     out.clear();
-    Heard {
-        tag,
-        answered: Answered::Silent,
-    }
+    let answered = Answered::Silent;
+    Heard { tag, answered }
 }
 
 /// An answer that is a handle or a new RN16, whose preamble goes by the TRext of the Query. Its bits are the same whichever handle it is told with.
@@ -36,10 +35,8 @@ pub fn answer_handle(tag: AnyTag, number: u16, out: &mut Bits) -> Heard
         result out.old out.new }
 {
     encode_handle(number, out);
-    Heard {
-        tag,
-        answered: Answered::Plain,
-    }
+    let answered = Answered::Plain;
+    Heard { tag, answered }
 }
 
 /// An answer that says success by its header bit, with the extended preamble.
@@ -50,24 +47,17 @@ pub fn answer_header(tag: AnyTag, handle: u16, out: &mut Bits) -> Heard
         out.old out.new }
 {
     encode_header(handle, out);
-    Heard {
-        tag,
-        answered: Answered::Extended,
-    }
+    let answered = Answered::Extended;
+    Heard { tag, answered }
 }
 
 /// BACK: a tag with this body, in arbitrate with slot 0.
 pub fn back(body: Body, session: Session, q: QValue) -> Tag<Arbitrate>
     ensures { result ≡ tag_back session q body }
 {
-    Tag {
-        state: Arbitrate {
-            session,
-            q,
-            slot: Slot::new(0),
-        },
-        body,
-    }
+    let slot = Slot::new(0);
+    let state = Arbitrate { session, q, slot };
+    Tag { state, body }
 }
 
 /// BACK, without an answer.
@@ -83,15 +73,10 @@ pub fn begin_reply(mut body: Body, session: Session, q: QValue, out: &mut Bits) 
     ensures { GivesOutcome (begin_reply session q body) result out.old out.new }
 {
     let rn = body.draw();
-    let tag = Tag {
-        state: InReply { session, q, rn },
-        body,
-    };
     encode_rn16(rn, out);
-    Heard {
-        tag: AnyTag::InReply(tag),
-        answered: Answered::Plain,
-    }
+    let tag = InReply { session, q, rn }.tag(body);
+    let answered = Answered::Plain;
+    Heard { tag, answered }
 }
 
 /// ENTER: draws a slot, the last Q bits of a word, and replies at once where it is 0.
@@ -106,9 +91,5 @@ pub fn enter(mut body: Body, session: Session, q: QValue, out: &mut Bits) -> Hea
         return begin_reply(body, session, q, out);
     }
     let slot = Slot::new(slot);
-    let tag = Tag {
-        state: Arbitrate { session, q, slot },
-        body,
-    };
-    unanswered(AnyTag::Arbitrate(tag), out)
+    unanswered(Arbitrate { session, q, slot }.tag(body), out)
 }

@@ -32,10 +32,9 @@ impl AnyTag {
                 let handle = tag.held.handle;
                 tag.body
                     .encode_read(tag.level, bank, pointer, count, handle, out);
-                Heard {
-                    tag: tag.tag(),
-                    answered: Answered::Plain,
-                }
+                let answered = Answered::Plain;
+                let tag = tag.tag();
+                Heard { tag, answered }
             }
             Err(heard) => heard,
         }

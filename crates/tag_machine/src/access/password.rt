@@ -31,11 +31,8 @@ impl TagWithHandle {
         if own != password {
             return go_back(self.body, self.held.session, self.held.q, out);
         }
-        let tag = Tag {
-            state: Killed,
-            body: self.body,
-        };
-        answer_header(AnyTag::Killed(tag), self.held.handle, out)
+        let (state, body) = (Killed, self.body);
+        answer_header(AnyTag::Killed(Tag { state, body }), self.held.handle, out)
     }
 
     /// What both halves of an Access give.

@@ -72,10 +72,9 @@ impl TagWithHandle {
             Ok(()) => answer_header(self.tag(), handle, out),
             Err(code) => {
                 encode_error(code.code(), handle, out);
-                Heard {
-                    tag: self.tag(),
-                    answered: Answered::Extended,
-                }
+                let answered = Answered::Extended;
+                let tag = self.tag();
+                Heard { tag, answered }
             }
         }
     }

@@ -24,10 +24,8 @@ fn answer_epc(tag: AnyTag, out: &mut Bits) -> Heard
 {
     let memory = tag.memory();
     encode_epc(memory.pc(), &memory.epc(), out);
-    Heard {
-        tag,
-        answered: Answered::Plain,
-    }
+    let answered = Answered::Plain;
+    Heard { tag, answered }
 }
 
 impl AnyTag {
@@ -42,12 +40,8 @@ impl AnyTag {
                 if state.rn != rn {
                     return go_back(body, state.session, state.q, out);
                 }
-                let state = Acknowledged {
-                    session: state.session,
-                    q: state.q,
-                    rn,
-                };
-                answer_epc(state.tag(body), out)
+                let (session, q) = (state.session, state.q);
+                answer_epc(Acknowledged { session, q, rn }.tag(body), out)
             }
             AnyTag::Acknowledged(Tag { state, body }) => {
                 if state.rn != rn {

@@ -79,12 +79,9 @@ impl AnyTag {
                 if state.session != session {
                     return unanswered(state.tag(body), out);
                 }
-                let state = Arbitrate {
-                    session,
-                    q: state.q,
-                    slot: Slot::new(0x7FFF),
-                };
-                unanswered(state.tag(body), out)
+                let q = state.q;
+                let slot = Slot::new(0x7FFF);
+                unanswered(Arbitrate { session, q, slot }.tag(body), out)
             }
             AnyTag::Acknowledged(Tag { state, body }) => {
                 if state.session != session {

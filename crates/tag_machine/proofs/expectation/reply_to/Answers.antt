@@ -3,7 +3,7 @@ use Rattle.std.specs.Option.{IsSomeAnd}
 use Rattle.reply_grammar.specs.Replies.{AnswersExpected}
 use Rattle.reply_grammar.specs.declared.expected.Expect.{Expect}
 use Rattle.tag_machine.proofs.RepliesByLength.{read-by-length, tested-length}
-use Rattle.tag_machine.proofs.reply_reading.reply_to.Goals as goal
+use Rattle.tag_machine.proofs.expectation.reply_to.Goals as goal
 
 pub returns-in-None : goal.returns-in-None
 returns-in-None c = λ state reply answers.
