@@ -22,7 +22,8 @@ HasSent answer expect bits = (sent : Sent) × (answer ≡ Some sent) × IsSomeAn
 abbrev pub AreExpected : Option Sent → Option Expect → Type 0
 AreExpected answer expect = (sent : Sent) → answer ≡ Some sent → IsSomeAnd expect (λ it. Carries it sent.handle × AnswersExpected sent.reply it (bits_sent (Some sent)))
 
-some_expected : (expect : Option Expect) (sent : Sent) (bits : List Bool) → bits ≡ bits_sent (Some sent)
+-- what is sent is expected
+pub some_expected : (expect : Option Expect) (sent : Sent) (bits : List Bool) → bits ≡ bits_sent (Some sent)
     → IsSomeAnd expect (λ it. Carries it sent.handle × AnswersExpected sent.reply it (bits_sent (Some sent))) → IsSomeAnd expect (λ it. AnswersExpected sent.reply it bits)
 some_expected None sent bits is expected = expected
 some_expected (Some it) sent bits is expected = subst (λ (b : List Bool). AnswersExpected sent.reply it b) (sym is) expected.1

@@ -46,21 +46,10 @@ pub record TakesCode (heard : Option Command) (seen : Option Seen) (tag behind :
 
 -- 6.3.2.11.3 Access commands: those that a tag need not have
 abbrev pub is_optional : Option Command → Bool
-is_optional None = false
-is_optional (Some (commands.QueryRep session)) = false
-is_optional (Some (commands.Ack rn)) = false
-is_optional (Some (commands.Query dr line_code trext sel session target q)) = false
-is_optional (Some (commands.QueryAdjust session updn)) = false
-is_optional (Some (commands.Select target action bank pointer mask)) = false
-is_optional (Some commands.Nak) = false
-is_optional (Some (commands.ReqRn rn)) = false
-is_optional (Some (commands.Read bank pointer count rn)) = false
-is_optional (Some (commands.Write bank pointer covered rn)) = false
-is_optional (Some (commands.Kill covered rn)) = false
-is_optional (Some (commands.Lock payload rn)) = false
 is_optional (Some (commands.Access covered rn)) = true
 is_optional (Some (commands.BlockWrite bank pointer words rn)) = true
 is_optional (Some (commands.BlockErase bank pointer count rn)) = true
+is_optional heard = false
 
 -- The tables answer such a command, and the entry says that the tag sent nothing: the tag has no such command, and is as before.
 pub record LacksCommand (heard : Option Command) (seen : Option Seen) (tag behind : TagValue) : Type 0 where

@@ -4,7 +4,7 @@ use Rattle.std.specs.Prelude.{◌≡◌, ℕ, ◌≤◌, ◌==◌, ◌&&◌, ◌
 use Rattle.command_grammar.specs.declared.commands.Command.{Command}
 use Rattle.command_grammar.specs.declared.commands.Command.TheVariants as commands
 use Rattle.tag_machine.specs.Events.{tag_after_event}
-use Rattle.tag_machine.specs.TagValue.{StateValue, ReadyState, ArbitrateState, ReplyState, AcknowledgedState, OpenState, SecuredState, KilledState, UnpoweredState, BodyValue, TagValue}
+use Rattle.tag_machine.specs.TagValue.{StateValue, ArbitrateState, BodyValue, TagValue}
 use Rattle.log_judge.specs.Log.{LogEntry, Seen, Exchange, Befalls}
 use Rattle.log_judge.specs.Explaining.{Allows, Manner, seen_of}
 use Rattle.log_judge.specs.Verdicts.{Want, Nothing, Exactly, AnyRn16, AnyHandle, NothingOrAnyRn16}
@@ -18,21 +18,9 @@ pub record Known : Type 0 where
 
 -- a command at which a tag may draw a slot
 abbrev pub draws_slot : Option Command → Bool
-draws_slot None = false
-draws_slot (Some (commands.QueryRep session)) = false
-draws_slot (Some (commands.Ack rn)) = false
 draws_slot (Some (commands.Query dr line_code trext sel session target q)) = true
 draws_slot (Some (commands.QueryAdjust session updn)) = true
-draws_slot (Some (commands.Select target action bank pointer mask)) = false
-draws_slot (Some commands.Nak) = false
-draws_slot (Some (commands.ReqRn rn)) = false
-draws_slot (Some (commands.Read bank pointer count rn)) = false
-draws_slot (Some (commands.Write bank pointer covered rn)) = false
-draws_slot (Some (commands.Kill covered rn)) = false
-draws_slot (Some (commands.Lock payload rn)) = false
-draws_slot (Some (commands.Access covered rn)) = false
-draws_slot (Some (commands.BlockWrite bank pointer words rn)) = false
-draws_slot (Some (commands.BlockErase bank pointer count rn)) = false
+draws_slot heard = false
 
 -- A tag that answers drew slot 0. Of one that doesn't, the largest slot is kept.
 abbrev pub slot_word : Option Seen → ℕ
@@ -45,14 +33,8 @@ guessed heard seen = (if draws_slot heard then slot_word seen else number_seen s
 
 -- a tag in arbitrate with another slot
 abbrev pub at_slot : ℕ → StateValue → StateValue
-at_slot slot ReadyState = ReadyState
 at_slot slot (ArbitrateState session q old) = ArbitrateState session q slot
-at_slot slot (ReplyState session q rn) = ReplyState session q rn
-at_slot slot (AcknowledgedState session q rn) = AcknowledgedState session q rn
-at_slot slot (OpenState held) = OpenState held
-at_slot slot (SecuredState held) = SecuredState held
-at_slot slot KilledState = KilledState
-at_slot slot UnpoweredState = UnpoweredState
+at_slot slot state = state
 
 -- a tag that answers had slot 1, where that isn't known
 abbrev pub placed : Bool → Option Seen → StateValue → StateValue
@@ -69,21 +51,13 @@ prepared known heard seen = record {
 
 -- the tag is in arbitrate
 abbrev pub waits : StateValue → Bool
-waits ReadyState = false
 waits (ArbitrateState session q slot) = true
-waits (ReplyState session q rn) = false
-waits (AcknowledgedState session q rn) = false
-waits (OpenState held) = false
-waits (SecuredState held) = false
-waits KilledState = false
-waits UnpoweredState = false
+waits state = false
 
 -- a slot is drawn
 abbrev pub is_enters : Kind → Bool
-is_enters (Settled outcome) = false
 is_enters (Enters session q body) = true
-is_enters (Replies session q body) = false
-is_enters (Gives state body) = false
+is_enters kind = false
 
 -- The slot is any behind ENTER, and then as long as the tag waits.
 abbrev pub any_behind : Known → Option Command → StateValue → Bool
@@ -116,14 +90,8 @@ want_of_move (Counts session) most = (if most == 1 then AnyRn16 else NothingOrAn
 
 -- what a tag whose slot may be any has to answer to what it heard
 abbrev pub want_at : Option Command → StateValue → BodyValue → Want
-want_at heard ReadyState body = Nothing
 want_at heard (ArbitrateState session q slot) body = want_of_move (move_of heard session q body) slot
-want_at heard (ReplyState session q rn) body = Nothing
-want_at heard (AcknowledgedState session q rn) body = Nothing
-want_at heard (OpenState held) body = Nothing
-want_at heard (SecuredState held) body = Nothing
-want_at heard KilledState body = Nothing
-want_at heard UnpoweredState body = Nothing
+want_at heard state body = Nothing
 
 -- what has to be answered to what was heard
 abbrev pub want_of : Known → Option Command → Want
