@@ -1,13 +1,15 @@
-//! What an interrogator expects, read from a field.
-ghost use Rattle.std.specs.Prelude.{◌≡◌, ◌≤◌, ◌<◌, ◌^◌, ◌++◌, ℕ, List, IfSome, IsSomeAnd, Some, codes, length};
+//! What an interrogator expects, as a field: read and written.
+ghost use Rattle.std.specs.Prelude.{◌≡◌, ◌≤◌, ◌<◌, ◌^◌, ◌++◌, ◌∷◌, ℕ, List, IfSome, IsSomeAnd, OnOk, Some, codes, length};
 ghost use Rattle.std.specs.Fmt.{decimal};
+ghost use Rattle.std.specs.String.{string_bytes};
 ghost use Rattle.text_fields.specs.Hexadecimal.{hex_word};
+ghost use Rattle.text_fields.specs.Lines.{space};
 ghost use Rattle.reply_grammar.specs.declared.expected.Expect.{Expect};
 ghost use Rattle.wire_text.specs.ReplyText.{IsExpect, expect_word};
 
-use bit_strings::Count1;
+use bit_strings::{Count1, OutOfMemory};
 use reply_grammar::Expect;
-use text_fields::{number, word};
+use text_fields::{number, push_next_name, push_number, push_word, word};
 
 /// The greatest number of words that a Read can ask for by its WordCount.
 const MOST_WORDS: u32 = 255;
@@ -106,4 +108,41 @@ fn word_count(text: &[u8]) -> Option<Count1>
         → result ≡ Some count }
 {
     Count1::new(number(text, MOST_WORDS)? as u8)
+}
+
+/// Writes what is expected as the next field, as [`expect_of`] reads it. After an error the text may hold
+/// a part of it.
+pub fn push_next_expect(text: &mut String, expect: &Expect) -> Result<(), OutOfMemory>
+    ensures { OnOk result (string_bytes text.new ≡ string_bytes text.old
+        ++ space ∷ expect_word expect.now) }
+{
+    match expect {
+        Expect::Rn16 => push_next_name(text, "rn16"),
+        Expect::Epc => push_next_name(text, "epc"),
+        Expect::Handle => push_next_name(text, "handle"),
+        Expect::Same(handle) => push_front(text, "same-", *handle),
+        Expect::Words(count, handle) => push_counted(text, *count, *handle),
+        Expect::AnyWords(handle) => push_front(text, "any-", *handle),
+        Expect::Header(handle) => push_front(text, "header-", *handle),
+    }
+}
+
+/// Writes a field that is a front and a handle.
+fn push_front(text: &mut String, front: &str, handle: u16) -> Result<(), OutOfMemory>
+    ensures { OnOk result (string_bytes text.new ≡ string_bytes text.old
+        ++ space ∷ (front.now ++ hex_word handle)) }
+{
+    push_next_name(text, front)?;
+    push_word(text, handle)
+}
+
+/// Writes the field `words-N-HHHH`.
+fn push_counted(text: &mut String, count: Count1, handle: u16) -> Result<(), OutOfMemory>
+    ensures { OnOk result (string_bytes text.new ≡ string_bytes text.old
+        ++ space ∷ (codes "words-" ++ (decimal count ++ (codes "-" ++ hex_word handle)))) }
+{
+    push_next_name(text, "words-")?;
+    push_number(text, u32::from(count.get()))?;
+    text.push('-')?;
+    push_word(text, handle)
 }
