@@ -1,9 +1,9 @@
 -- What the channel gives of answers, by the answer at a place.
-use Rattle.std.proofs.Common.{◌≡◌, ℕ, ◌≤◌, ◌||◌, List, [], ◌∷◌, length, Option, Some, None, refl, ap, ◌∙◌, subst, arith}
+use Rattle.std.proofs.Common.{◌≡◌, ℕ, ◌≤◌, ◌||◌, List, [], ◌∷◌, length, Option, Some, None, refl, sym, ap, ◌∙◌, subst, arith}
 use Rattle.std.specs.Prelude.{slice_get}
 use Rattle.std.proofs.lemmas.List.Elements.{All-get_or}
 use Rattle.std.proofs.lemmas.Option.{slice_get-map, slice_get_within, get_or_from_slice_get}
-use Rattle.air_channel.proofs.Names.{option_map, IsSent, Replied, AnswerValue, answer_of, answer_value_of, Answer, first_broken, broken, levels_of, AreSentAnswers, IsAnswer, answer_levels}
+use Rattle.air_channel.proofs.Names.{option_map, IsSent, Replied, AnswerValue, answer_of, answers_of, answer_value_of, Answer, first_broken, broken, levels_of, AreSentAnswers, IsAnswer, answer_levels}
 use Rattle.line_code.specs.Stream.{stream_of}
 use Rattle.reply_wire.specs.Codes.{table_of}
 use Rattle.pie_line.specs.Link.{LinkValue}
@@ -11,22 +11,26 @@ use Rattle.reply_grammar.specs.Replies.{longest_reply}
 use Rattle.reply_grammar.proofs.Suiting.{spelling-within}
 use Rattle.air_model.proofs.ReceptionLaws.{few_words}
 
--- an answer stands where a reply does
-reply_at : (items : List AnswerValue) (replies : List Replied) (at : ℕ) → AreSentAnswers items replies → slice_get items at ≡ option_map answer_of (slice_get replies at)
-reply_at items replies at are = ap (λ (l : List AnswerValue). slice_get l at) are.same ∙ slice_get-map answer_of replies at
-
 some_reply : (picked : Option Replied) (value : AnswerValue) → Some value ≡ option_map answer_of picked → (replied : Replied) × (picked ≡ Some replied) × (value ≡ answer_of replied)
 some_reply None value some = absurd (cc)
 some_reply (Some replied) value some = (replied, refl, cc)
 
--- an answer is the reply that stands in its place
-pub some_given : (items : List AnswerValue) (replies : List Replied) (at : ℕ) (answer : Answer) → AreSentAnswers items replies → Some (answer_value_of answer) ≡ slice_get items at
-    → (replied : Replied) × (slice_get replies at ≡ Some replied) × IsAnswer answer replied
-some_given items replies at answer are some =
-    let found = some_reply (slice_get replies at) (answer_value_of answer) (some ∙ reply_at items replies at are) in
-    let sent : IsSent (Some found.0.sent) =
-    subst (λ (r : Replied). IsSent (Some r.sent)) (get_or_from_slice_get replies at found.0 found.0 found.1) (All-get_or (λ r. IsSent (Some r.sent)) replies at found.0 (slice_get_within replies at found.0 found.1) are.sent) in
-    (found.0, found.1, record { same = found.2; sent = sent })
+-- an answer that was asked for is the reply that stands in its place
+pub some_replied : (items : List AnswerValue) (replies : List Replied) (at : ℕ) (answer : Answer) {asked : Option Answer} → items ≡ answers_of replies
+    → option_map answer_value_of asked ≡ slice_get items at → asked ≡ Some answer → (replied : Replied) × (slice_get replies at ≡ Some replied) × (answer_value_of answer ≡ answer_of replied)
+some_replied items replies at answer are found some =
+    some_reply (slice_get replies at) (answer_value_of answer)
+    (ap (λ (one : Option Answer). option_map answer_value_of one) (sym some) ∙ found ∙ ap (λ (l : List AnswerValue). slice_get l at) are ∙ slice_get-map answer_of replies at)
+
+-- ... which was sent
+pub some_given : (items : List AnswerValue) (replies : List Replied) (at : ℕ) (answer : Answer) {asked : Option Answer} → AreSentAnswers items replies
+    → option_map answer_value_of asked ≡ slice_get items at → asked ≡ Some answer → (replied : Replied) × (slice_get replies at ≡ Some replied) × IsAnswer answer replied
+some_given items replies at answer are found some =
+    let there = some_replied items replies at answer are.same found some in
+    let sent : IsSent (Some there.0.sent) =
+    subst (λ (r : Replied). IsSent (Some r.sent)) (get_or_from_slice_get replies at there.0 there.0 there.1)
+    (All-get_or (λ r. IsSent (Some r.sent)) replies at there.0 (slice_get_within replies at there.0 there.1) are.sent) in
+    (there.0, there.1, record { same = there.2; sent = sent })
 
 -- its bits are no more than those of the longest reply, and its levels are those of the reply
 pub answer_short : (answer : Answer) (replied : Replied) → IsAnswer answer replied → length answer.bits.now ≤ longest_reply

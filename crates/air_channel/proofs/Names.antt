@@ -1,7 +1,7 @@
 -- The names of definitions and lemmas of crates below, and of this one, that the proofs of this crate cite.
-pub use Rattle.air_channel.specs.Air.{AirValue, air_after, next_exchange}
+pub use Rattle.air_channel.specs.Air.{AirValue}
 pub use Rattle.air_channel.specs.Giving.{AreSentAnswers, IsAnswer, answer_levels}
-pub use Rattle.air_model.specs.Channel.{Given, broken, first_broken, given_in, got_of, heard_levels, levels_of, wave_for, whole_or_silence}
+pub use Rattle.air_model.specs.Channel.{Given, broken, first_broken, got_of, heard_levels, levels_of, whole_or_silence}
 pub use Rattle.bit_strings.specs.BitString.{BitString}
 pub use Rattle.std.proofs.lemmas.List.{length-set}
 pub use Rattle.std.specs.List.{All}

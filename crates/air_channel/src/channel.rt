@@ -38,7 +38,11 @@ pub(crate) fn give(
         Some(Choice::Pick(number)) => give_whole(link, answers, *number, bits, stream),
         Some(Choice::Silent) => give_nothing(stream),
         Some(Choice::Break(place)) => give_broken(link, answers, *place, bits, stream),
-        Some(Choice::Raw(levels)) => give_levels(levels.as_slice(), stream),
+        Some(Choice::Raw(levels)) => {
+            stream.clear();
+            stream.put_all_reserved(levels.as_slice());
+            Got::Raw
+        }
         None => give_default(link, several, answers, bits, stream),
     }
 }
@@ -122,17 +126,6 @@ fn give_nothing(stream: &mut Levels) -> Got
 {
     stream.clear();
     Got::Silence
-}
-
-/// Gives these levels, whatever was answered.
-fn give_levels(levels: &[bool], stream: &mut Levels) -> Got
-    requires { length levels.now ≤ stream.old.capacity }
-    ensures stream { stream.new ≡ record stream.old { items = levels.now } }
-    ensures got { result ≡ Got.Raw }
-{
-    stream.clear();
-    stream.put_all_reserved(levels);
-    Got::Raw
 }
 
 /// Writes the stream of an answer. `bits` is a buffer.
