@@ -4,8 +4,8 @@ use Rattle.air_io.specs.declared.standard.StdSource.{StdSource}
 use Rattle.air_io.specs.declared.standard.StdSink.{StdSink}
 
 -- The reader that the source takes its bytes from. Profile.
-abbrev pub reader_of : {R : Type 0} → StdSource R → R
-reader_of source = source.reader
+abbrev pub std_reader_of : {R : Type 0} → StdSource R → R
+std_reader_of source = source.reader
 
 -- How many reads failed so far. Profile.
 abbrev pub failed_reads : {R : Type 0} → StdSource R → ℕ

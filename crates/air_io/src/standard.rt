@@ -16,11 +16,11 @@ pub struct StdSource<R> {
 }
 
 impl<R> StdSource<R> {
-    ghost use Rattle.air_io.specs.Standard.{reader_of, failed_reads};
+    ghost use Rattle.air_io.specs.Standard.{std_reader_of, failed_reads};
 
     /// A source over this reader, of which no read failed yet.
     pub fn new(reader: R) -> StdSource<R>
-        ensures reader { reader_of result ≡ reader }
+        ensures reader { std_reader_of result ≡ reader }
         ensures faults { failed_reads result ≡ 0 }
     {
         StdSource { reader, faults: 0 }
@@ -28,7 +28,7 @@ impl<R> StdSource<R> {
 }
 
 impl<R: Read> Source for StdSource<R> {
-    ghost use Rattle.air_io.specs.Standard.{reader_of, failed_reads};
+    ghost use Rattle.air_io.specs.Standard.{std_reader_of, failed_reads};
 
     ghost left = { λ _. None };
 
@@ -38,12 +38,12 @@ impl<R: Read> Source for StdSource<R> {
     fn read(&mut self, buf: &mut [u8]) -> Take
         requires { 0 < length buf.old }
         ensures took { IfTook result (λ count. (0 < count) × (count ≤ length buf.new)
-            × Consumes (R.remaining (reader_of self.old)) (R.remaining (reader_of self.new))
+            × Consumes (R.remaining (std_reader_of self.old)) (R.remaining (std_reader_of self.new))
             (take count buf.new)) }
-        ensures end { OnEnd result (IsAtEnd (R.remaining (reader_of self.new))) }
+        ensures end { OnEnd result (IsAtEnd (R.remaining (std_reader_of self.new))) }
         ensures failed { OnReadFailed result
             (FaultsRose (failed_reads self.old) (failed_reads self.new)
-            × Keeps (R.remaining (reader_of self.old)) (R.remaining (reader_of self.new))) }
+            × Keeps (R.remaining (std_reader_of self.old)) (R.remaining (std_reader_of self.new))) }
         ensures count { failed_reads self.old ≤ failed_reads self.new }
         ensures faults { failed_reads self.new
             ≡ (if is_failed_read result then one_more

@@ -6,7 +6,7 @@
 
 mod bits;
 mod bounded;
-mod checked;
+mod checked_numbers;
 mod code;
 mod ebv;
 mod ebv_front;
@@ -17,7 +17,7 @@ mod words;
 
 pub use bits::{Bits, Full, Levels, OutOfMemory};
 pub use bounded::Bounded;
-pub use checked::{Action, Count1, Payload, Pointer, QValue, Session};
+pub use checked_numbers::{Action, Count1, Payload, Pointer, QValue, Session};
 pub use code::Code;
 pub use ebv::Ebv;
 pub use ebv_front::{EbvFront, EbvStep};

@@ -2,10 +2,10 @@
 use Rattle.std.specs.Prelude.{ℕ, ◌+◌, ◌*◌, ◌/◌, ◌%◌, ◌^◌, ◌==◌, Bool, not, ◌&&◌, ◌||◌, List, [], ◌∷◌, if◌then◌else◌, Result, Ok, Err}
 use Rattle.std.specs.List.{list_any}
 use Rattle.bit_strings.specs.NumbersInBits.{digit_of}
-use Rattle.lock_rules.specs.declared.permissions.ErrorCode.{ErrorCode}
-use Rattle.lock_rules.specs.declared.permissions.ErrorCode.TheVariants.{Overrun, Locked}
-use Rattle.lock_rules.specs.declared.permissions.Field.{Field}
-use Rattle.lock_rules.specs.declared.permissions.Field.TheVariants.{KillWord, AccessWord, Epc, Tid, User}
+use Rattle.lock_rules.specs.declared.fields_and_levels.ErrorCode.{ErrorCode}
+use Rattle.lock_rules.specs.declared.fields_and_levels.ErrorCode.TheVariants.{Overrun, Locked}
+use Rattle.lock_rules.specs.declared.fields_and_levels.Field.{Field}
+use Rattle.lock_rules.specs.declared.fields_and_levels.Field.TheVariants.{KillWord, AccessWord, Epc, Tid, User}
 use Rattle.lock_rules.specs.declared.locks.Pair.{Pair}
 use Rattle.lock_rules.specs.declared.locks.Locks.{Locks}
 use Rattle.lock_rules.specs.Permissions.{lock_pair_of}

@@ -1,9 +1,9 @@
 -- 6.3.2.11.3.5 Lock, the table of the functions of the pairs: what a tag lets an interrogator do with a field.
 use Rattle.std.specs.Prelude.{Bool, true, false}
-use Rattle.lock_rules.specs.declared.permissions.Field.{Field}
-use Rattle.lock_rules.specs.declared.permissions.Field.TheVariants.{KillWord, AccessWord, Epc, Tid, User}
-use Rattle.lock_rules.specs.declared.permissions.Level.{Level}
-use Rattle.lock_rules.specs.declared.permissions.Level.TheVariants.{Opened, Secured}
+use Rattle.lock_rules.specs.declared.fields_and_levels.Field.{Field}
+use Rattle.lock_rules.specs.declared.fields_and_levels.Field.TheVariants.{KillWord, AccessWord, Epc, Tid, User}
+use Rattle.lock_rules.specs.declared.fields_and_levels.Level.{Level}
+use Rattle.lock_rules.specs.declared.fields_and_levels.Level.TheVariants.{Opened, Secured}
 use Rattle.lock_rules.specs.declared.locks.Pair.{Pair}
 use Rattle.lock_rules.specs.declared.locks.Locks.{Locks}
 

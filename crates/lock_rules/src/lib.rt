@@ -2,8 +2,8 @@
 //! EPCglobal Class-1 Generation-2 standard, version 1.2.0).
 #![tactic(auto)]
 
+mod fields_and_levels;
 mod locks;
-mod permissions;
 
+pub use fields_and_levels::{ErrorCode, Field, Level};
 pub use locks::{Locks, Pair};
-pub use permissions::{ErrorCode, Field, Level};

@@ -3,7 +3,7 @@ ghost use Rattle.std.specs.Prelude.{◌≡◌, ◌<◌, ◌≤◌, ◌↔◌, Is
 ghost use Rattle.lock_rules.specs.Permissions.{lock_pair_of, pair_allows, may, Reading, Writing};
 ghost use Rattle.lock_rules.specs.Lock.{bit_at_place, pair_at, pair_number, locks_number, locks_of, takes_permalock_off, pair_after, pair_after_lock, masks_user, takes_any_permalock_off, locks_after};
 
-use crate::permissions::{ErrorCode, Field, Level};
+use crate::fields_and_levels::{ErrorCode, Field, Level};
 use bit_strings::Payload;
 
 /// The two lock bits of a field (6.3.2.11.3.5 Lock). The standard calls the first one pwd-write or

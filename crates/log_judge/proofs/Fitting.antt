@@ -5,8 +5,8 @@ use Rattle.command_fields.specs.declared.choices.Side.{Side}
 use Rattle.command_fields.specs.declared.choices.UpDn.{UpDn}
 use Rattle.command_grammar.specs.declared.commands.Command.{Command}
 use Rattle.command_grammar.specs.declared.commands.Command.TheVariants as commands
-use Rattle.lock_rules.specs.declared.permissions.Level.{Level}
-use Rattle.lock_rules.specs.declared.permissions.Level.TheVariants as levels
+use Rattle.lock_rules.specs.declared.fields_and_levels.Level.{Level}
+use Rattle.lock_rules.specs.declared.fields_and_levels.Level.TheVariants as levels
 use Rattle.tag_machine.specs.declared.states.Half.{Half}
 use Rattle.tag_machine.specs.declared.states.Held.{Held}
 use Rattle.tag_machine.specs.TagValue.{StateValue, ReadyState, ArbitrateState, BodyValue}

@@ -7,8 +7,8 @@ use Rattle.command_fields.specs.declared.choices.UpDn.{UpDn}
 use Rattle.command_fields.specs.declared.choices.UpDn.TheVariants.{Up, Same, Down}
 use Rattle.command_grammar.specs.declared.commands.Command.{Command}
 use Rattle.command_grammar.specs.declared.commands.Command.TheVariants as commands
-use Rattle.lock_rules.specs.declared.permissions.Level.{Level}
-use Rattle.lock_rules.specs.declared.permissions.Level.TheVariants as levels
+use Rattle.lock_rules.specs.declared.fields_and_levels.Level.{Level}
+use Rattle.lock_rules.specs.declared.fields_and_levels.Level.TheVariants as levels
 use Rattle.session_flags.specs.Flags.{matches}
 use Rattle.reply_grammar.specs.declared.expected.Reply.TheVariants.{Handle}
 use Rattle.tag_machine.specs.declared.states.Held.{Held}

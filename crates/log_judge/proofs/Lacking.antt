@@ -3,8 +3,8 @@ use Rattle.std.proofs.Common.{◌≡◌, ◌≢◌, ℕ, ◌==◌, ◌&&◌, Boo
 use Rattle.command_fields.specs.declared.choices.Bank.{Bank}
 use Rattle.command_grammar.specs.declared.commands.Command.{Command}
 use Rattle.command_grammar.specs.declared.commands.Command.TheVariants as commands
-use Rattle.lock_rules.specs.declared.permissions.Level.{Level}
-use Rattle.lock_rules.specs.declared.permissions.Level.TheVariants as levels
+use Rattle.lock_rules.specs.declared.fields_and_levels.Level.{Level}
+use Rattle.lock_rules.specs.declared.fields_and_levels.Level.TheVariants as levels
 use Rattle.reply_grammar.specs.declared.expected.Reply.TheVariants.{Handle}
 use Rattle.tag_memory.specs.Memory.{access_word_of}
 use Rattle.tag_machine.specs.Access.{access_whole, half_outcome, held_state, is_password, uncover, unless_other_half, whole_of, block_write_outcome, block_erase_outcome}

@@ -7,9 +7,9 @@ use Rattle.log_judge.proofs.Tests.{so_not}
 use Rattle.command_fields.specs.declared.choices.Bank.{Bank}
 use Rattle.command_fields.specs.declared.choices.Bank.TheVariants.{Reserved}
 use Rattle.lock_rules.specs.declared.locks.Locks.{Locks}
-use Rattle.lock_rules.specs.declared.permissions.Level.{Level}
-use Rattle.lock_rules.specs.declared.permissions.ErrorCode.{ErrorCode}
-use Rattle.lock_rules.specs.declared.permissions.ErrorCode.TheVariants.{Overrun, Locked}
+use Rattle.lock_rules.specs.declared.fields_and_levels.Level.{Level}
+use Rattle.lock_rules.specs.declared.fields_and_levels.ErrorCode.{ErrorCode}
+use Rattle.lock_rules.specs.declared.fields_and_levels.ErrorCode.TheVariants.{Overrun, Locked}
 use Rattle.tag_memory.specs.Memory.{Banks, bank_of, with_bank}
 use Rattle.tag_memory.specs.ReadsAndWrites.{all_words, banks_after_write, banks_with_words_at, length_fits, may_write_word, with_words_at}
 

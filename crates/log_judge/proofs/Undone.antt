@@ -5,9 +5,9 @@ use Rattle.std.proofs.lemmas.List.{length-replicate}
 use Rattle.command_fields.specs.declared.choices.Bank.{Bank}
 use Rattle.command_grammar.specs.declared.commands.Command.{Command}
 use Rattle.command_grammar.specs.declared.commands.Command.TheVariants as commands
-use Rattle.lock_rules.specs.declared.permissions.ErrorCode.{ErrorCode}
-use Rattle.lock_rules.specs.declared.permissions.Level.{Level}
-use Rattle.lock_rules.specs.declared.permissions.Level.TheVariants as levels
+use Rattle.lock_rules.specs.declared.fields_and_levels.ErrorCode.{ErrorCode}
+use Rattle.lock_rules.specs.declared.fields_and_levels.Level.{Level}
+use Rattle.lock_rules.specs.declared.fields_and_levels.Level.TheVariants as levels
 use Rattle.reply_grammar.specs.declared.expected.Reply.{Reply}
 use Rattle.reply_grammar.specs.declared.expected.Reply.TheVariants.{Header, Error}
 use Rattle.tag_memory.specs.ReadsAndWrites.{banks_after_write, length_fits}

@@ -3,7 +3,7 @@ use Rattle.std.specs.Prelude.{◌≡◌, ◌≢◌, ℕ, ◌+◌, ◌<◌, ◌�
 use Rattle.command_grammar.specs.declared.commands.Command.{Command}
 use Rattle.command_grammar.specs.declared.commands.Command.TheVariants as commands
 use Rattle.command_fields.specs.declared.choices.Bank.{Bank}
-use Rattle.lock_rules.specs.declared.permissions.Level.{Level}
+use Rattle.lock_rules.specs.declared.fields_and_levels.Level.{Level}
 use Rattle.reply_grammar.specs.declared.expected.Reply.{Reply}
 use Rattle.reply_grammar.specs.declared.expected.Reply.TheVariants.{Rn16, Epc, Handle, Words, Header, Error}
 use Rattle.tag_memory.specs.Memory.{Banks, access_word_of, bank_of}

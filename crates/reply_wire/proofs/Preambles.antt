@@ -7,7 +7,7 @@ use Rattle.line_code.specs.TableFacts.{with_level_flipped}
 use Rattle.line_code.specs.Stream.{blocks, Streams}
 use Rattle.line_code.specs.Table.{Table}
 use Rattle.reply_wire.specs.Codes.{table_of}
-use Rattle.reply_wire.specs.Preambles.{difference, differing_places, PreamblesDiffer, HasOnePreamble, KeepsPreamble}
+use Rattle.reply_wire.specs.PilotExtension.{difference, differing_places, PreamblesDiffer, HasOnePreamble, KeepsPreamble}
 use Rattle.miller_line.specs.Miller.{miller}
 
 pub preambles_differ : (code : Code) → PreamblesDiffer (table_of code)

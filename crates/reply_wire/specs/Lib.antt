@@ -3,7 +3,7 @@ pub mod Received
 pub mod Receiving
 pub mod laws
 pub mod Codes
-pub mod Preambles
+pub mod PilotExtension
 pub use Rattle.line_code.specs.TableFacts
 pub use Rattle.line_code.specs.Stream
 pub use Rattle.line_code.specs.Refusal

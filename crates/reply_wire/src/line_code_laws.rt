@@ -4,7 +4,7 @@ ghost use Rattle.bit_strings.specs.declared.code.Code.{Code};
 ghost use Rattle.line_code.specs.TableFacts.{IsEven, HasLead, TellsBits, RefusesFlips, HidesLead, longest_lead};
 ghost use Rattle.line_code.specs.Stream.{stream_of};
 ghost use Rattle.reply_wire.specs.Codes.{table_of, chips_of};
-ghost use Rattle.reply_wire.specs.Preambles.{PreamblesDiffer, HasOnePreamble, KeepsPreamble};
+ghost use Rattle.reply_wire.specs.PilotExtension.{PreamblesDiffer, HasOnePreamble, KeepsPreamble};
 
 /// The laws of each of the four codes: its blocks have one length, a lead stands before the data, the
 /// blocks of 0 and of 1 differ, no stream with one level inverted is a stream, and no blocks of data

@@ -3,7 +3,7 @@ use Rattle.std.proofs.Common.{◌≡◌, ◌≢◌, inl, inr, ℕ, List, [], ◌
 use Rattle.std.specs.Prelude.{filter}
 use Rattle.std.proofs.lemmas.Bool.{cases_Bool}
 use Rattle.pie_line.specs.Link.{LinkValue}
-use Rattle.wave_dump.specs.Drawing.{DrawingValue}
+use Rattle.wave_dump.specs.DumpValue.{DrawingValue}
 use Rattle.wave_dump.specs.Waves.{new_dump}
 use Rattle.report_lines.specs.ModeLines.{keeps, kept_line_text, kept_text, line_text_of}
 use Rattle.report_lines.specs.ReportLine.{ReportLine, text_by}

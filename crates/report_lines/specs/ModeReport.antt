@@ -1,7 +1,7 @@
 -- Profile: the report of a mode, written line by line as a run tells it, and as one text.
 use Rattle.std.specs.Prelude.{ℕ, List, [], ◌∷◌, ◌++◌}
 use Rattle.pie_line.specs.Link.{LinkValue}
-use Rattle.wave_dump.specs.Drawing.{DrawingValue}
+use Rattle.wave_dump.specs.DumpValue.{DrawingValue}
 use Rattle.wave_dump.specs.Waves.{dump_behind, end_text, exchange_text, head_text, new_dump}
 use Rattle.report_lines.specs.ModeLines.{kept_line_text, line_text_of}
 use Rattle.report_lines.specs.ReportLine.{ReportLine, BlfLine, GivenLine, DoneLine, text_by}

@@ -1,6 +1,6 @@
 -- 6.3.2.11.3 Access commands: what a tag answers where its memory or locks are read or are to change.
 use Rattle.std.specs.Prelude.{ℕ, ◌≤◌, nat_lt, Bool, List, length, Result, Ok, Err}
-use Rattle.lock_rules.specs.declared.permissions.ErrorCode.{ErrorCode}
+use Rattle.lock_rules.specs.declared.fields_and_levels.ErrorCode.{ErrorCode}
 use Rattle.lock_rules.specs.ErrorCodes.{error_number}
 use Rattle.reply_grammar.specs.declared.expected.Reply.{Reply}
 use Rattle.reply_grammar.specs.declared.expected.Reply.TheVariants.{Rn16, Epc, Handle, Words, Header, Error}

@@ -9,8 +9,8 @@ use Rattle.gen2_crc.specs.laws.CheckNumbers.{length-crc16_of}
 use Rattle.command_fields.specs.declared.choices.Bank.{Bank}
 use Rattle.command_fields.specs.declared.choices.Bank.TheVariants.{Reserved, Epc, Tid, User}
 use Rattle.lock_rules.specs.declared.locks.Locks.{Locks}
-use Rattle.lock_rules.specs.declared.permissions.ErrorCode.TheVariants.{Overrun, Locked}
-use Rattle.lock_rules.specs.declared.permissions.Level.{Level}
+use Rattle.lock_rules.specs.declared.fields_and_levels.ErrorCode.TheVariants.{Overrun, Locked}
+use Rattle.lock_rules.specs.declared.fields_and_levels.Level.{Level}
 use Rattle.bit_strings.specs.Words.{bits_of_words}
 use Rattle.reply_grammar.specs.Replies.{AreWords}
 use Rattle.tag_memory.specs.Memory.{Banks, IsLegalMemory, AreBanksOfWords, AreSound, bank_of, pc_of, epc_of, length_in, stored_crc_of, with_stored_crc}

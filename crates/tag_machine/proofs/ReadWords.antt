@@ -6,8 +6,8 @@ use Rattle.std.proofs.lemmas.List.{length-take-le}
 use Rattle.std.proofs.lemmas.List.Elements.{All-take, All-drop}
 use Rattle.command_fields.specs.declared.choices.Bank.{Bank}
 use Rattle.command_fields.specs.declared.choices.Bank.TheVariants.{Reserved, Epc as EpcBank, Tid, User}
-use Rattle.lock_rules.specs.declared.permissions.ErrorCode.TheVariants as errors
-use Rattle.lock_rules.specs.declared.permissions.Level.{Level}
+use Rattle.lock_rules.specs.declared.fields_and_levels.ErrorCode.TheVariants as errors
+use Rattle.lock_rules.specs.declared.fields_and_levels.Level.{Level}
 use Rattle.reply_grammar.specs.declared.expected.Reply.TheVariants.{Words}
 use Rattle.reply_grammar.specs.Replies.{AreWords}
 use Rattle.tag_memory.specs.Memory.{Banks, bank_of}

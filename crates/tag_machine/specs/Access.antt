@@ -3,10 +3,10 @@
 use Rattle.std.specs.Prelude.{ℕ, ◌+◌, ◌*◌, ◌^◌, ◌==◌, Bool, true, false, List, [], ◌∷◌, Option, Some, None, Result, bit_xor, if◌then◌else◌}
 use Rattle.command_fields.specs.declared.choices.Bank.{Bank}
 use Rattle.lock_rules.specs.declared.locks.Locks.{Locks}
-use Rattle.lock_rules.specs.declared.permissions.ErrorCode.{ErrorCode}
-use Rattle.lock_rules.specs.declared.permissions.ErrorCode.TheVariants as errors
-use Rattle.lock_rules.specs.declared.permissions.Level.{Level}
-use Rattle.lock_rules.specs.declared.permissions.Level.TheVariants as levels
+use Rattle.lock_rules.specs.declared.fields_and_levels.ErrorCode.{ErrorCode}
+use Rattle.lock_rules.specs.declared.fields_and_levels.ErrorCode.TheVariants as errors
+use Rattle.lock_rules.specs.declared.fields_and_levels.Level.{Level}
+use Rattle.lock_rules.specs.declared.fields_and_levels.Level.TheVariants as levels
 use Rattle.lock_rules.specs.ErrorCodes.{error_number}
 use Rattle.lock_rules.specs.Lock.{locks_after}
 use Rattle.reply_grammar.specs.declared.expected.Reply.TheVariants.{Handle, Header, Error}

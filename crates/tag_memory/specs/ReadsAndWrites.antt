@@ -3,11 +3,11 @@
 use Rattle.std.specs.Prelude.{ℕ, zero, suc, ◌+◌, ◌-◌, nat_lt, nat_le, ◌==◌, Bool, true, false, not, ◌&&◌, ◌||◌, List, ◌++◌, length, take, drop, replicate, if◌then◌else◌, Result, Ok, Err}
 use Rattle.command_fields.specs.declared.choices.Bank.{Bank}
 use Rattle.command_fields.specs.declared.choices.Bank.TheVariants.{Reserved, Epc, Tid, User}
-use Rattle.lock_rules.specs.declared.permissions.Field.{Field}
-use Rattle.lock_rules.specs.declared.permissions.Field.TheVariants.{KillWord, AccessWord, Epc as EpcField, Tid as TidField, User as UserField}
-use Rattle.lock_rules.specs.declared.permissions.Level.{Level}
-use Rattle.lock_rules.specs.declared.permissions.ErrorCode.{ErrorCode}
-use Rattle.lock_rules.specs.declared.permissions.ErrorCode.TheVariants.{Overrun, Locked}
+use Rattle.lock_rules.specs.declared.fields_and_levels.Field.{Field}
+use Rattle.lock_rules.specs.declared.fields_and_levels.Field.TheVariants.{KillWord, AccessWord, Epc as EpcField, Tid as TidField, User as UserField}
+use Rattle.lock_rules.specs.declared.fields_and_levels.Level.{Level}
+use Rattle.lock_rules.specs.declared.fields_and_levels.ErrorCode.{ErrorCode}
+use Rattle.lock_rules.specs.declared.fields_and_levels.ErrorCode.TheVariants.{Overrun, Locked}
 use Rattle.lock_rules.specs.declared.locks.Locks.{Locks}
 use Rattle.lock_rules.specs.Permissions.{may, Reading, Writing}
 use Rattle.tag_memory.specs.Memory.{Banks, bank_of, with_bank, pc_of, length_in, epc_fits}

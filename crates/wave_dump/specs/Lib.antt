@@ -1,4 +1,4 @@
 pub mod Exchanged
 pub mod Waves
-pub mod Drawing
+pub mod DumpValue
 pub mod Borrowed

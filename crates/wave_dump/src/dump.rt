@@ -32,7 +32,7 @@ pub struct Dump {
 
 impl Model for Dump {
     ghost use Rattle.std.specs.String.{string_bytes};
-    ghost use Rattle.wave_dump.specs.Drawing.{DrawingValue};
+    ghost use Rattle.wave_dump.specs.DumpValue.{DrawingValue};
     ghost use Rattle.wave_dump.specs.Waves.{idle_between};
 
     ghost Value = { DrawingValue };

@@ -1,7 +1,7 @@
 //! A tag with a handle, and the rules that stand before what an access command does (6.3.2.11.3): the tag has a handle, the command
 //! carries it, it ends no unfinished Kill or Access, and the covered number of a Write, Kill or Access has a cover.
 ghost use Rattle.std.specs.Prelude.{◌≡◌, ◌≤◌, ℕ, IfOk, IfErr, OnOk, if◌then◌else◌};
-ghost use Rattle.lock_rules.specs.declared.permissions.Level.{Level};
+ghost use Rattle.lock_rules.specs.declared.fields_and_levels.Level.{Level};
 ghost use Rattle.tag_machine.specs.declared.states.Held.{Held};
 ghost use Rattle.tag_machine.specs.TagValue.{BodyValue};
 ghost use Rattle.reply_grammar.specs.Replies.{reply_room};

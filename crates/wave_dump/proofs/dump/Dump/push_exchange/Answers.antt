@@ -2,7 +2,7 @@ use Rattle.std.proofs.Common.{◌≡◌, ℕ, List, ◌++◌, false, ap, ◌∙�
 use Rattle.std.specs.String.{string_bytes}
 use Rattle.wire_text.specs.CommandText.{command_line}
 use Rattle.wave_dump.specs.Borrowed.{exchanged_of}
-use Rattle.wave_dump.specs.Drawing.{DrawingValue}
+use Rattle.wave_dump.specs.DumpValue.{DrawingValue}
 use Rattle.wave_dump.specs.Exchanged.{Exchanged}
 use Rattle.wave_dump.specs.Waves.{Signals, answer_begin, answer_moments, exchange_text, frame_moments, idle_between, with_underscores, moments_text, sent_signals}
 use Rattle.wave_dump.proofs.DumpTexts.{exchange-drawn}
