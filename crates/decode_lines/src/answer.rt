@@ -20,7 +20,6 @@ use crate::request::{
     MOST_INTERVALS, MOST_LEVELS, MOST_SAMPLES, MOST_WORDS, Request, RequestKind, kind_of_line,
     read_intervals, request_of,
 };
-use crate::stream_lines::read_stream;
 use bit_strings::{Bits, Code, Levels, OutOfMemory};
 use checked_lines::FaultReason;
 use command_grammar::{Command, CommandRefusal, decode_command_to};
@@ -74,7 +73,6 @@ impl Workspace {
         match kind_of_line(line) {
             None => Ok(Err(FaultReason::Word)),
             Some((RequestKind::Pie, others)) => self.answer_pie(others, text),
-            Some((RequestKind::Stream(code), others)) => self.answer_stream(code, others, text),
             Some((kind, others)) => self.answer_other(kind, others, text),
         }
     }
@@ -98,31 +96,6 @@ impl Workspace {
         let intervals = Numbers::new(&self.intervals);
         self.rooms.answer_frame(&intervals, text)?;
         Ok(Ok(()))
-    }
-
-    /// Adds the answer to a line that begins with a code's name, by its other fields. Where its levels are not read
-    /// at once, the line is answered as others are, so that each refusal has its reason.
-    fn answer_stream(
-        &mut self,
-        code: Code,
-        others: Fields,
-        text: &mut String,
-    ) -> Result<Result<(), FaultReason>, OutOfMemory>
-        ensures ok { IfOk result
-            (λ answered. OnOk answered
-            (AnswersBehind (RequestKind.Stream code) others.entry (string_bytes text.old)
-            (string_bytes text.new))) }
-        ensures refused { IfOk result
-            (λ answered. IfErr answered (AreFaultyToDecode
-            (RequestKind.Stream code) others.entry)) }
-    {
-        match read_stream(others.again(), &mut self.rooms.levels) {
-            Some(trext) => {
-                self.rooms.answer_levels(code, trext, text)?;
-                Ok(Ok(()))
-            }
-            None => self.answer_other(RequestKind::Stream(code), others, text),
-        }
     }
 
     /// Adds the answer to a line of any kind but `pie`, by its other fields.

@@ -9,7 +9,6 @@ mod lines;
 mod raw_field;
 mod request;
 mod source;
-mod stream_lines;
 
 pub use checked_lines::{FaultReason, FaultyLine, fault_text};
 pub use laws::{
