@@ -15,17 +15,11 @@ use Rattle.text_fields.specs.Lines.{IsFieldText, line_feed, space}
 abbrev IsVisible : ℕ → Type 0
 IsVisible byte = space < byte
 
-not_space : (byte : ℕ) → IsVisible byte → byte ≢ space
-not_space byte above is = omega arith
-
-not_line_feed : (byte : ℕ) → IsVisible byte → byte ≢ line_feed
-not_line_feed byte above is = omega arith
-
 IsFieldText-visible : (text : List ℕ) → text ≢ [] → All IsVisible text → IsFieldText text
 IsFieldText-visible text filled visible = record {
   filled = filled;
-  no_space = All-weaker IsVisible (λ byte. byte ≢ space) not_space text visible;
-  no_line_feed = All-weaker IsVisible (λ byte. byte ≢ line_feed) not_line_feed text visible;
+  no_space = All-weaker IsVisible (λ byte. byte ≢ space) (λ byte above is. omega (arith, above, is)) text visible;
+  no_line_feed = All-weaker IsVisible (λ byte. byte ≢ line_feed) (λ byte above is. omega (arith, above, is)) text visible;
 }
 
 -- a list or a hyphen is a field, where the list has visible bytes
@@ -40,14 +34,10 @@ IsFieldText-decimal n small =
     IsFieldText-visible (decimal n) (λ empty. let none = ap length empty in omega (arith, none, numeral.0))
     (All-from_get_or IsVisible (decimal n) 0 (λ place within. let digit = digit_at (decimal n) place numeral.1 within in omega (arith, digit.0)))
 
-binary_digit-visible : (bit : Bool) → IsVisible (binary_digit bit)
-binary_digit-visible false = omega arith
-binary_digit-visible true = omega arith
-
 digits-visible : (bits : List Bool) → All IsVisible (map binary_digit bits)
 digits-visible [] = All-nil IsVisible
-digits-visible (bit ∷ bits) =
-    All-cons IsVisible (binary_digit bit) (map binary_digit bits) (binary_digit-visible bit) (digits-visible bits)
+digits-visible (false ∷ bits) = All-cons IsVisible 48 (map binary_digit bits) (omega arith) (digits-visible bits)
+digits-visible (true ∷ bits) = All-cons IsVisible 49 (map binary_digit bits) (omega arith) (digits-visible bits)
 
 pub IsFieldText-binary : (bits : List Bool) → IsFieldText (binary bits)
 IsFieldText-binary bits = IsFieldText-or_hyphen (map binary_digit bits) (digits-visible bits)

@@ -29,7 +29,7 @@ abbrev behind : List ℕ → List (List ℕ) → List (List ℕ)
 behind field fields = field ∷ fields
 
 -- a field is there, and behind it one less
-some_field : (count : ℕ) (fields : List (List ℕ)) → AreFilled (suc count) fields
+pub some_field : (count : ℕ) (fields : List (List ℕ)) → AreFilled (suc count) fields
     → ((a : List ℕ) (rest : List (List ℕ)) → fields ≡ a ∷ rest → Filled a → AreFilled count rest → ⊥) → ⊥
 some_field count [] are wanting = let number = are.number in absurd (omega arith)
 some_field count (field ∷ fields) are wanting =

@@ -6,11 +6,7 @@ use Rattle.std.proofs.lemmas.Bool.Decides.{nat_tests}
 use Rattle.std.proofs.lemmas.List.Elements.{All-from_get_or, All-head, All-tail}
 use Rattle.text_fields.specs.Hexadecimal.{hex_word, hex_words}
 use Rattle.text_fields.specs.WordLists.{is_upper_hex_digit}
-use Rattle.text_fields.proofs.WordDigits.{digits_pass}
-
--- the fact of `AllPass is_upper_hex_digit`
-abbrev IsDigit : ℕ → Type 0
-IsDigit digit = is_upper_hex_digit digit ≡ true
+use Rattle.text_fields.proofs.WordDigits.{IsDigit, digits_pass}
 
 digit_below : (digit : ℕ) → IsDigit digit → digit < 128
 digit_below digit is = grind (arith, nat_tests)

@@ -1,7 +1,7 @@
 -- So many fields are left as are still wanted.
-use Rattle.std.proofs.Common.{◌≡◌, ◌+◌, ◌<◌, ℕ, zero, suc, List, [], ◌∷◌, refl, arith}
+use Rattle.std.proofs.Common.{◌≡◌, ◌+◌, ◌<◌, ℕ, zero, suc, List, ◌∷◌, arith}
 use Rattle.text_fields.specs.NamedFields.{AreFilled}
-use Rattle.text_fields.proofs.FilledFields.{Filled, one_less, one_more}
+use Rattle.text_fields.proofs.FilledFields.{Filled, one_less, one_more, some_field}
 
 -- of so many fields some were read, and all are so many and filled exactly where those that are left are as many as are still wanted, and filled
 pub record StillWanted (read count : ℕ) (fields left : List (List ℕ)) : Type 0 where
@@ -10,11 +10,6 @@ pub record StillWanted (read count : ℕ) (fields left : List (List ℕ)) : Type
   pub to : AreFilled count fields → AreFilled wanted left
   pub from : AreFilled wanted left → AreFilled count fields
 
-some_wanting : (count : ℕ) (fields : List (List ℕ)) → AreFilled (suc count) fields
-    → ((field : List ℕ) (rest : List (List ℕ)) → fields ≡ field ∷ rest → ¬ Filled field) → ⊥
-some_wanting count [] are wanting = let number = are.number in absurd (omega arith)
-some_wanting count (field ∷ rest) are wanting = wanting field rest refl (one_less count field rest are).0
-
 -- a field that is wanted isn't there, or is empty
 pub stuck : (read count : ℕ) (fields left : List (List ℕ)) → StillWanted read count fields left → read < count
     → ((field : List ℕ) (rest : List (List ℕ)) → left ≡ field ∷ rest → ¬ Filled field) → ¬ AreFilled count fields
@@ -22,7 +17,7 @@ stuck read count fields left still less wanting are = by still.wanted still.sum 
   where
     by : (wanted : ℕ) → read + wanted ≡ count → AreFilled wanted left → ⊥
     by zero sum are = absurd (omega (arith, sum, less))
-    by (suc wanted) sum are = some_wanting wanted left are wanting
+    by (suc wanted) sum are = some_field wanted left are (λ field rest cut filled more. wanting field rest cut filled)
 
 -- one field more is there
 pub one_read : (read count : ℕ) (fields left : List (List ℕ)) (field : List ℕ) → StillWanted read count fields (field ∷ left) → read < count → Filled field

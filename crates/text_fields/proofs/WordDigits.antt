@@ -4,14 +4,14 @@ use Rattle.std.specs.Prelude.{All, None, max, min, slice_get}
 use Rattle.std.specs.List.{AllPass, flat_map}
 use Rattle.std.specs.Simd.{first_chunks}
 use Rattle.std.proofs.lemmas.Bool.Decides.{nat_tests}
-use Rattle.std.proofs.lemmas.List.Elements.{All-append, All-cons, All-get_or, All-head, All-nil, All-tail}
+use Rattle.std.proofs.lemmas.List.Elements.{All-append, All-cons, All-get_or, All-head, All-nil, All-tail, All-take}
 use Rattle.hex.specs.Hex.{decode_pairs, decode_sized, hex_digit_value}
 use Rattle.text_fields.specs.Binary.{hyphen}
 use Rattle.text_fields.specs.Hexadecimal.{hex_byte, hex_digit, hex_word}
 use Rattle.text_fields.specs.WordLists.{AreWordDigits, digit_number, first_word, is_upper_hex_digit, word_number, words_of_digits}
 
 -- the fact of `AllPass is_upper_hex_digit`
-abbrev IsDigit : ℕ → Type 0
+abbrev pub IsDigit : ℕ → Type 0
 IsDigit digit = is_upper_hex_digit digit ≡ true
 
 abbrev IsSmall : ℕ → Type 0
@@ -182,6 +182,10 @@ digits_no_hyphen words same = omega (arith, digits_length words, ap length same)
 pub digits_upper : (digits : List ℕ) → AreWordDigits digits → AllPass is_upper_hex_digit digits
 digits_upper digits are = subst (λ list. AllPass is_upper_hex_digit list) (sym are.spelling) (digits_pass (words_of_digits digits) (words_small digits))
 
+-- ... and so are the first four of them
+pub first_upper : (digits front : List ℕ) → AreWordDigits digits → front ≡ take 4 digits → AllPass is_upper_hex_digit front
+first_upper digits front are is = subst (λ list. AllPass is_upper_hex_digit list) (sym is) (All-take IsDigit 4 digits (digits_upper digits are))
+
 -- where there are four digits there is a first word, and else there is none
 pub first_is : (digits : List ℕ) → 4 ≤ length digits → slice_get (words_of_digits digits) 0 ≡ Some (first_word (take 4 digits))
 first_is [] enough = absurd (omega arith)
@@ -208,19 +212,20 @@ words_in_groups (a ∷ b ∷ c ∷ d ∷ digits) =
     ap (λ (n : ℕ). map first_word (first_chunks 4 n (a ∷ b ∷ c ∷ d ∷ digits))) count
     ∙ ap (λ (words : List ℕ). word_number a b c d ∷ words) (words_in_groups digits)
 
--- four digits spell their word
-pub one_word : (digits : List ℕ) (word : ℕ) → length digits ≡ 4 → AllPass is_upper_hex_digit digits → word ≡ first_word digits → digits ≡ hex_word word
-one_word [] word four upper is = absurd (omega arith)
-one_word (a ∷ []) word four upper is = absurd (omega arith)
-one_word (a ∷ b ∷ []) word four upper is = absurd (omega arith)
-one_word (a ∷ b ∷ c ∷ []) word four upper is = absurd (omega arith)
-one_word (a ∷ b ∷ c ∷ d ∷ []) word four upper is = words_spelled (a ∷ b ∷ c ∷ d ∷ []) upper refl ∙ ap (λ n. hex_word n) (sym is)
-one_word (a ∷ b ∷ c ∷ d ∷ e ∷ digits) word four upper is = absurd (omega arith)
+-- a field of four digits spells their word
+pub one_word : (field digits : List ℕ) (word : ℕ) → length field ≡ 4 → AllPass is_upper_hex_digit field → digits ≡ take 4 field → word ≡ first_word digits → field ≡ hex_word word
+one_word [] digits word four upper front is = absurd (omega arith)
+one_word (a ∷ []) digits word four upper front is = absurd (omega arith)
+one_word (a ∷ b ∷ []) digits word four upper front is = absurd (omega arith)
+one_word (a ∷ b ∷ c ∷ []) digits word four upper front is = absurd (omega arith)
+one_word (a ∷ b ∷ c ∷ d ∷ []) digits word four upper front is =
+    words_spelled (a ∷ b ∷ c ∷ d ∷ []) upper refl ∙ ap (λ n. hex_word n) (sym (is ∙ ap (λ ds. first_word ds) front))
+one_word (a ∷ b ∷ c ∷ d ∷ e ∷ field) digits word four upper front is = absurd (omega arith)
 
 -- and no other word
 pub same_word : (word : ℕ) → IsSmall word → first_word (hex_word word) ≡ word
 same_word word small = word_back word small
 
-pub ruleset word_digits = (same_word, take_all)
+pub ruleset word_digits = (one_word, same_word, take_all)
 
-pub ruleset first_digits = (first_is, no_word)
+pub ruleset first_digits = (first_upper, first_is, no_word)

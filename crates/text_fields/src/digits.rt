@@ -65,6 +65,19 @@ pub fn list_digits(field: &[u8]) -> Option<&[u8]>
     }
 }
 
+/// The bit that a field of one binary digit spells; none exactly where the field is neither `0` nor
+/// `1`.
+pub fn one_bit(field: &[u8]) -> Option<bool>
+    ensures value { IfSome result (λ bit. field.now ≡ binary_digit bit ∷ []) }
+    ensures only { (bit : Bool) → field.now ≡ binary_digit bit ∷ [] → result ≡ Some bit }
+{
+    match field {
+        b"0" => Some(false),
+        b"1" => Some(true),
+        _ => None,
+    }
+}
+
 impl<'a> Digits<'a> {
     /// The bits that a field spells; none exactly where the field isn't the spelling of a list of at
     /// most `most` bits.

@@ -60,15 +60,11 @@ impl<'a> Iterator for Fields<'a> {
 
     fn next(&mut self) -> Option<&'a [u8]> {
         let line = self.rest?;
-        match split_at_first(line, SPACE) {
-            Some((field, rest)) => {
-                self.rest = Some(rest);
-                Some(field)
-            }
-            None => {
-                self.rest = None;
-                Some(line)
-            }
-        }
+        let Some((field, rest)) = split_at_first(line, SPACE) else {
+            self.rest = None;
+            return Some(line);
+        };
+        self.rest = Some(rest);
+        Some(field)
     }
 }

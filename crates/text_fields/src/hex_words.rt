@@ -17,10 +17,7 @@ pub fn byte(field: &[u8]) -> Option<u8>
     ensures value { IfSome result (λ n. field.now ≡ hex_byte n) }
     ensures only { (n : ℕ) → n < 2 ^ 8 → field.now ≡ hex_byte n → result ≡ Some n }
 {
-    if field.len() != 2 {
-        return None;
-    }
-    if !all_pass::<UpperHexDigit>(field) {
+    if field.len() != 2 || !all_pass::<UpperHexDigit>(field) {
         return None;
     }
     Some(byte_of(field[0], field[1]))

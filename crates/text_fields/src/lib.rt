@@ -19,18 +19,19 @@ mod hex_bytes;
 mod hex_words;
 mod laws;
 mod lines;
-mod more_fields;
 mod next_fields;
 mod ranged_fields;
 mod short_text;
-mod single_bits;
 mod word_lists;
 
 pub use ascii::push_ascii;
 pub use code_names::{code_named, name_of};
 pub use decimal_numbers::{number, push_long_number, push_number};
-pub use digits::{Digits, is_binary_digit, list_digits, push_bits};
-pub use exact::{are_filled, four_fields, is_at_end, one_field, three_fields, two_fields};
+pub use digits::{Digits, is_binary_digit, list_digits, one_bit, push_bits};
+pub use exact::{
+    are_filled, five_fields, four_fields, is_at_end, one_field, seven_fields, six_fields,
+    three_fields, two_fields,
+};
 pub use fault_lines::fault_line;
 pub use fields::Fields;
 pub use fields_fault::FieldsFault;
@@ -41,7 +42,6 @@ pub use laws::{
     spellings_are_field_texts, word_lists_are_told_apart, words_are_told_apart,
 };
 pub use lines::split_line;
-pub use more_fields::{five_fields, seven_fields, six_fields};
 pub use next_fields::{
     push_named_number, push_named_word, push_next_bits, push_next_long_number, push_next_name,
     push_next_number, push_next_numbers, push_next_word, push_next_words,
@@ -50,5 +50,4 @@ pub use ranged_fields::{
     action_of, count_of, number_from, pointer_of, q_of, session_of, words_from,
 };
 pub use short_text::push_bytes;
-pub use single_bits::one_bit;
 pub use word_lists::Words;

@@ -46,11 +46,11 @@ fn number_of(digit: u8) -> u8
     requires { is_upper_hex_digit digit ≡ true }
     ensures { result ≡ digit_number digit }
 {
-    // A digit goes by itself, behind a zero, within the bounds that it has, and over itself: so `hex` is compiled
-    // without a jump for each digit, and many words at once.
+    // `hex` reads one digit, behind a zero, and writes its number over it. The bounds, which change no digit, tell the compiler which bytes come:
+    // so it needs no jump for a digit, and reads many words at once.
     let bounded = digit.clamp(b'0', b'F');
     let mut byte = [bounded];
-    // It is a digit.
+    // `hex` refuses no upper-case digit.
     let _ = hex::decode_to_slice([b'0', bounded].as_slice(), &mut byte);
     byte[0]
 }
