@@ -1,7 +1,6 @@
 -- Upper-case hexadecimal digits are ASCII, and words are written in them.
 use Rattle.std.proofs.Common.{◌≡◌, ◌<◌, ◌^◌, ℕ, zero, suc, true, false, ◌==◌, List, [], ◌∷◌, length, slice_index, arith, lit<, refl}
 use Rattle.std.specs.List.{AllPass, flat_map}
-use Rattle.std.specs.Str.{IsAscii}
 use Rattle.std.proofs.lemmas.Bool.Decides.{nat_tests}
 use Rattle.std.proofs.lemmas.List.Elements.{All-from_get_or, All-head, All-tail}
 use Rattle.text_fields.specs.Hexadecimal.{hex_word, hex_words}
@@ -11,13 +10,10 @@ use Rattle.text_fields.proofs.WordDigits.{IsDigit, digits_pass}
 digit_below : (digit : ℕ) → IsDigit digit → digit < 128
 digit_below digit is = grind (arith, nat_tests)
 
-digits_below : (digits : List ℕ) → AllPass is_upper_hex_digit digits → (i : ℕ) → slice_index digits i < 128
-digits_below [] are i = lit< tt
-digits_below (digit ∷ digits) are zero = digit_below digit (All-head IsDigit digit digits are)
-digits_below (digit ∷ digits) are (suc i) = digits_below digits (All-tail IsDigit digit digits are) i
-
-pub digits_ascii : (digits : List ℕ) → AllPass is_upper_hex_digit digits → IsAscii digits
-digits_ascii digits are = digits_below digits are
+pub digits_ascii : (digits : List ℕ) → AllPass is_upper_hex_digit digits → (i : ℕ) → slice_index digits i < 128
+digits_ascii [] are i = lit< tt
+digits_ascii (digit ∷ digits) are zero = digit_below digit (All-head IsDigit digit digits are)
+digits_ascii (digit ∷ digits) are (suc i) = digits_ascii digits (All-tail IsDigit digit digits are) i
 
 -- the digits of words that fit 16 bits
 pub words_pass : (words : List ℕ) → ((i : ℕ) → slice_index words i < 2 ^ 16) → AllPass is_upper_hex_digit (flat_map hex_word words)
