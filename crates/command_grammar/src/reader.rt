@@ -5,6 +5,7 @@ mod decoding;
 mod field_steps;
 mod fields;
 mod framer;
+mod known_bits;
 mod stage;
 mod state;
 

@@ -8,7 +8,7 @@ use Rattle.bit_strings.specs.NumbersInBits.{digit_of, value_of, field_of}
 use Rattle.bit_strings.specs.Ebv.{IsEbv, IsCutEbv}
 use Rattle.gen2_crc.specs.Crc.{crc5_of, crc16_of}
 use Rattle.command_grammar.specs.declared.reader.fields.Fields.{Fields}
-use Rattle.command_grammar.specs.declared.reader.stage.NumberFront.{NumberFront}
+use Rattle.command_grammar.specs.declared.reader.known_bits.KnownBits.{KnownBits}
 use Rattle.command_grammar.specs.declared.reader.stage.NumberField.{NumberField}
 use Rattle.command_grammar.specs.declared.reader.stage.NumberField.TheVariants as number_fields
 use Rattle.command_grammar.specs.declared.reader.stage.Stage.TheVariants as stages
@@ -137,18 +137,18 @@ ebv_stops front rest bit v cut none = ap (pointed v) (ebv_refused front rest bit
 abbrev kept : Fields → Reading (Unit {0}) → Reading Fields
 kept v r = r >>= λ x. Ok (v, x.1)
 
-pub known_bad : (reason : Reason) (number : NumberFront) (v : Fields) (bit : Bool) (rest : List Bool) → not (beq bit (number.value / 2 ^ number.behind % 2 == 1)) ≡ true → stage_from (stages.Known reason number) v (bit ∷ rest) ≡ Err (Bad (length rest + 1) reason)
+pub known_bad : (reason : Reason) (number : KnownBits) (v : Fields) (bit : Bool) (rest : List Bool) → not (beq bit (number.value / 2 ^ number.behind % 2 == 1)) ≡ true → stage_from (stages.Known reason number) v (bit ∷ rest) ≡ Err (Bad (length rest + 1) reason)
 known_bad reason number v bit rest test =
     ap (kept v) (exactly-bad number.value number.behind reason bit rest (other_bits bit (number.value / 2 ^ number.behind % 2 == 1) test))
 
-known_next : (reason : Reason) (number : NumberFront) (v : Fields) (bit : Bool) (rest : List Bool) → not (beq bit (number.value / 2 ^ number.behind % 2 == 1)) ≡ false → stage_from (stages.Known reason number) v (bit ∷ rest) ≡ kept v (exactly_at (field_of number.value number.behind) reason rest)
+known_next : (reason : Reason) (number : KnownBits) (v : Fields) (bit : Bool) (rest : List Bool) → not (beq bit (number.value / 2 ^ number.behind % 2 == 1)) ≡ false → stage_from (stages.Known reason number) v (bit ∷ rest) ≡ kept v (exactly_at (field_of number.value number.behind) reason rest)
 known_next reason number v bit rest test =
     ap (kept v) (exactly-more number.value number.behind reason bit rest (same_bits bit (number.value / 2 ^ number.behind % 2 == 1) test))
 
-pub known_last : (reason : Reason) (number : NumberFront) (v : Fields) (bit : Bool) (rest : List Bool) → not (beq bit (number.value / 2 ^ number.behind % 2 == 1)) ≡ false → number.behind ≡ 0 → stage_from (stages.Known reason number) v (bit ∷ rest) ≡ Ok (v, rest)
+pub known_last : (reason : Reason) (number : KnownBits) (v : Fields) (bit : Bool) (rest : List Bool) → not (beq bit (number.value / 2 ^ number.behind % 2 == 1)) ≡ false → number.behind ≡ 0 → stage_from (stages.Known reason number) v (bit ∷ rest) ≡ Ok (v, rest)
 known_last reason number v bit rest test nothing = known_next reason number v bit rest test ∙ ap (kept v) (exactly-none number.value number.behind reason rest nothing)
 
-pub known_more : (reason : Reason) (number : NumberFront) (less : ℕ) (v : Fields) (bit : Bool) (rest : List Bool) → not (beq bit (number.value / 2 ^ number.behind % 2 == 1)) ≡ false → less + 1 ≡ number.behind
+pub known_more : (reason : Reason) (number : KnownBits) (less : ℕ) (v : Fields) (bit : Bool) (rest : List Bool) → not (beq bit (number.value / 2 ^ number.behind % 2 == 1)) ≡ false → less + 1 ≡ number.behind
     → stage_from (stages.Known reason number) v (bit ∷ rest) ≡ stage_from (stages.Known reason (record { behind = less; value = number.value })) v rest
 known_more reason number less v bit rest test same =
     let e : number.behind ≡ suc less = omega arith in
@@ -156,7 +156,7 @@ known_more reason number less v bit rest test same =
 
 -- ---- the beginning of each field
 
-zeros_start : (reason : Reason) (width : ℕ) (number : NumberFront) (v : Fields) (bits : List Bool) → number.behind + 1 ≡ width → number.value ≡ 0 → stage_from (stages.Known reason number) v bits ≡ kept v (exactly_at (field_of 0 width) reason bits)
+zeros_start : (reason : Reason) (width : ℕ) (number : KnownBits) (v : Fields) (bits : List Bool) → number.behind + 1 ≡ width → number.value ≡ 0 → stage_from (stages.Known reason number) v bits ≡ kept v (exactly_at (field_of 0 width) reason bits)
 zeros_start reason width number v bits whole nothing =
     let e : suc number.behind ≡ width = omega arith in
     ap (λ n. kept v (exactly_at (field_of n (suc number.behind)) reason bits)) nothing ∙ ap (λ n. kept v (exactly_at (field_of 0 n) reason bits)) e
@@ -169,10 +169,10 @@ three_zeros : field_of 0 3 ≡ false ∷ false ∷ false ∷ []
 unfolding field_of
 three_zeros = refl
 
-pub truncate_start : (number : NumberFront) (v : Fields) (bits : List Bool) → number.behind + 1 ≡ 1 → number.value ≡ 0 → stage_from (stages.Known reasons.Truncate number) v bits ≡ kept v (exactly_at (false ∷ []) reasons.Truncate bits)
+pub truncate_start : (number : KnownBits) (v : Fields) (bits : List Bool) → number.behind + 1 ≡ 1 → number.value ≡ 0 → stage_from (stages.Known reasons.Truncate number) v bits ≡ kept v (exactly_at (false ∷ []) reasons.Truncate bits)
 truncate_start number v bits whole nothing = zeros_start reasons.Truncate 1 number v bits whole nothing ∙ ap (λ (l : List Bool). kept v (exactly_at l reasons.Truncate bits)) one_zero
 
-pub kill_bits_start : (number : NumberFront) (v : Fields) (bits : List Bool) → number.behind + 1 ≡ 3 → number.value ≡ 0 → stage_from (stages.Known reasons.KillBits number) v bits ≡ kept v (exactly_at (false ∷ false ∷ false ∷ []) reasons.KillBits bits)
+pub kill_bits_start : (number : KnownBits) (v : Fields) (bits : List Bool) → number.behind + 1 ≡ 3 → number.value ≡ 0 → stage_from (stages.Known reasons.KillBits number) v bits ≡ kept v (exactly_at (false ∷ false ∷ false ∷ []) reasons.KillBits bits)
 kill_bits_start number v bits whole nothing = zeros_start reasons.KillBits 3 number v bits whole nothing ∙ ap (λ (l : List Bool). kept v (exactly_at l reasons.KillBits bits)) three_zeros
 
 before_is : (bits rest : List Bool) → before (bits ++ rest) rest ≡ bits

@@ -2,7 +2,7 @@
 use Rattle.std.specs.Prelude.{◌≡◌, ◌≢◌, ℕ, ◌+◌, ◌/◌, ◌%◌, ◌^◌, ◌≤◌, Bool, length, IsSome, ◌==◌}
 use Rattle.command_grammar.specs.declared.reader.fields.Fields.{Fields}
 use Rattle.command_grammar.specs.reading.FieldStages.{width_of}
-use Rattle.command_grammar.specs.declared.reader.stage.NumberFront.{NumberFront}
+use Rattle.command_grammar.specs.declared.reader.known_bits.KnownBits.{KnownBits}
 use Rattle.command_grammar.specs.declared.reader.stage.NumberField.{NumberField}
 use Rattle.command_grammar.specs.declared.reader.stage.NumberField.TheVariants as number_fields
 use Rattle.command_grammar.specs.declared.reader.stage.TripleFront.TheVariants.{Nothing}
@@ -35,7 +35,7 @@ IsSoundNext (next.Stay stage) v = AreFieldsInRange stage v
 IsSoundNext other v = Unit {0}
 
 -- the next bit of bits that are known beforehand, as those of a check number are
-abbrev pub next_bit : NumberFront → Bool
+abbrev pub next_bit : KnownBits → Bool
 next_bit number = number.value / 2 ^ number.behind % 2 == 1
 
 -- the bit isn't of a number, nor inside a mask or bits that are known, nor the first one of two or three: it ends them, is refused,

@@ -2,7 +2,7 @@
 ghost use Rattle.std.specs.Prelude.{◌≡◌, ◌+◌, ◌≤◌, ◌∷◌, ◌++◌, List, Bool, IsTrue, IsFalse, length};
 ghost use Rattle.command_grammar.specs.reading.CommandFields.{field_from};
 ghost use Rattle.command_grammar.specs.reading.FieldStages.{width_of, stage_from, next_from};
-ghost use Rattle.command_grammar.specs.reading.FieldRanges.{AreFieldsInRange, IsSoundNext, IsEdge, next_bit, number_bits};
+ghost use Rattle.command_grammar.specs.reading.FieldRanges.{AreFieldsInRange, IsSoundNext, IsEdge, number_bits};
 ghost use Rattle.command_grammar.specs.reading.CheckNumbers.{IsRegisterOf, IsAsked, check_kept};
 ghost use Rattle.command_grammar.specs.declared.reader.fields.Fields.{Fields};
 ghost use Rattle.command_grammar.specs.declared.reader.stage.Stage.TheVariants as stages;
@@ -12,58 +12,9 @@ use crate::fields::Field;
 use crate::reader::check::Check;
 use crate::reader::field_steps::{take_bit, take_ebv, take_pair, take_second, take_third};
 use crate::reader::fields::Fields;
+use crate::reader::known_bits::{KnownBits, take_known};
 use crate::refusal::Reason;
 use bit_strings::EbvFront;
-
-/// A number that is known beforehand, as a check number is, and how much of it was read.
-#[derive(Clone, Copy)]
-pub(crate) struct NumberFront {
-    /// How many bits come behind the next one.
-    behind: u32,
-    value: u32,
-}
-
-impl NumberFront {
-    /// No bit of so many zeros.
-    pub(crate) fn of(width: u32) -> NumberFront
-        requires { 1 ≤ width }
-        ensures behind { result.behind + 1 ≡ width }
-        ensures value { result.value ≡ 0 }
-    {
-        NumberFront {
-            behind: width - 1,
-            value: 0,
-        }
-    }
-
-    /// The next bit.
-    fn next(&self) -> bool
-        requires { self.now.behind ≤ 15 }
-        ensures { result ≡ next_bit self.now }
-    {
-        (self.value >> self.behind) % 2 == 1
-    }
-
-    /// Takes the next bit where it isn't the last one and doesn't differ, and gives whether it did.
-    fn take_known_inside(&mut self, bit: bool) -> bool
-        requires { self.old.behind ≤ 15 }
-        ensures reads { IsTrue result → (reason : Reason) (fields : Fields) (rest : List Bool)
-            → stage_from (stages.Known reason self.old) fields (bit ∷ rest)
-            ≡ stage_from (stages.Known reason self.new) fields rest }
-        ensures few { self.new.behind ≤ self.old.behind }
-        ensures last { IsFalse result → bit ≡ next_bit self.old → self.old.behind ≡ 0 }
-        ensures same { IsFalse result → self.new ≡ self.old }
-    {
-        if self.behind == 0 {
-            return false;
-        }
-        if bit != self.next() {
-            return false;
-        }
-        self.behind -= 1;
-        true
-    }
-}
 
 /// A field of one bit whose value is kept: DR, TRext or Target of a Query (6.3.2.11.2.1).
 #[derive(Clone, Copy)]
@@ -153,8 +104,8 @@ pub(crate) enum Stage {
     Ebv(EbvFront),
     /// The bits of a mask: how many come behind the next one.
     Mask(u32),
-    /// Bits that are known: a bit that differs from those of the number is refused.
-    Known(Reason, NumberFront),
+    /// Bits that are known: another bit is refused for the reason.
+    Known(Reason, KnownBits),
 }
 
 /// What comes of a bit.
@@ -202,7 +153,7 @@ impl Stage {
             Field::Crc5 => match check {
                 Check::Short(crc) => {
                     let value = u32::from(crc.value());
-                    Stage::Known(Reason::Crc5, NumberFront { behind: 4, value })
+                    Stage::Known(Reason::Crc5, KnownBits { behind: 4, value })
                 }
                 Check::Long(_) | Check::Over => unreachable!(),
             },
@@ -212,19 +163,19 @@ impl Stage {
             Field::MaskBank => Stage::Pair(PairField::MaskBank, None),
             Field::Pointer => Stage::Ebv(EbvFront::new()),
             Field::Mask => Stage::Number(NumberField::MaskLength),
-            Field::Truncate => Stage::Known(Reason::Truncate, NumberFront::of(1)),
+            Field::Truncate => Stage::Known(Reason::Truncate, KnownBits::zeros(1)),
             Field::Bank => Stage::Pair(PairField::Bank, None),
             Field::Count => Stage::Number(NumberField::Count),
             Field::Words => Stage::Number(NumberField::WordsLength),
             Field::WordCount => Stage::Number(NumberField::WordCount),
             Field::Covered => Stage::Number(NumberField::Covered),
-            Field::KillBits => Stage::Known(Reason::KillBits, NumberFront::of(3)),
+            Field::KillBits => Stage::Known(Reason::KillBits, KnownBits::zeros(3)),
             Field::Payload => Stage::Number(NumberField::Payload),
             Field::Rn => Stage::Number(NumberField::Rn),
             Field::Crc16 => match check {
                 Check::Long(crc) => {
                     let value = u32::from(crc.value());
-                    Stage::Known(Reason::Crc16, NumberFront { behind: 15, value })
+                    Stage::Known(Reason::Crc16, KnownBits { behind: 15, value })
                 }
                 Check::Short(_) | Check::Over => unreachable!(),
             },
@@ -246,7 +197,7 @@ impl Stage {
         ensures fields { IsFalse result → fields.new ≡ fields.old }
     {
         match self {
-            Stage::Known(_, wanted) => wanted.take_known_inside(bit),
+            Stage::Known(_, wanted) => wanted.take_inside(bit),
             Stage::Mask(behind) => take_mask_inside(behind, bit, fields),
             Stage::Pair(_, first @ None) => {
                 *first = Some(bit);
@@ -311,19 +262,4 @@ fn take_mask_inside(behind: &mut u32, bit: bool, fields: &mut Fields) -> bool
     fields.mask.push_reserved(bit);
     *behind -= 1;
     true
-}
-
-/// The last of the bits that are known, or another bit.
-fn take_known(reason: Reason, wanted: NumberFront, bit: bool) -> Next
-    requires few { wanted.behind ≤ 15 }
-    requires edge { IsEdge (stages.Known reason wanted) bit }
-    ensures reads { (fields : Fields) (rest : List Bool)
-        → stage_from (stages.Known reason wanted) fields (bit ∷ rest)
-        ≡ next_from result fields rest }
-    ensures sound { (fields : Fields) → IsSoundNext result fields }
-{
-    if bit != wanted.next() {
-        return Next::Refused(reason);
-    }
-    Next::Done
 }

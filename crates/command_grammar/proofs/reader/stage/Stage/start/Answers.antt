@@ -11,7 +11,7 @@ pub returns-in-Pointer-clause-reads : goal.returns-in-Pointer-clause-reads
 returns-in-Pointer-clause-reads c = λ bits rest fields counts. rw c.in-Pointer.is (pointer_start c.new.result fields rest c.new.ensures.none)
 
 pub returns-in-Truncate-clause-reads : goal.returns-in-Truncate-clause-reads
-returns-in-Truncate-clause-reads c = λ bits rest fields counts. rw c.in-Truncate.is (truncate_start c.of.result fields rest c.of.ensures.behind c.of.ensures.value)
+returns-in-Truncate-clause-reads c = λ bits rest fields counts. rw c.in-Truncate.is (truncate_start c.zeros.result fields rest c.zeros.ensures.behind c.zeros.ensures.value)
 
 pub returns-in-Words-clause-reads : goal.returns-in-Words-clause-reads
 returns-in-Words-clause-reads c = λ bits rest fields counts. rw c.in-Words.is (words_start fields rest)
@@ -20,7 +20,7 @@ pub returns-in-WordCount-clause-reads : goal.returns-in-WordCount-clause-reads
 returns-in-WordCount-clause-reads c = λ bits rest fields counts. rw c.in-WordCount.is (count_start fields rest)
 
 pub returns-in-KillBits-clause-reads : goal.returns-in-KillBits-clause-reads
-returns-in-KillBits-clause-reads c = λ bits rest fields counts. rw c.in-KillBits.is (kill_bits_start c.of-in-KillBits.result fields rest c.of-in-KillBits.ensures.behind c.of-in-KillBits.ensures.value)
+returns-in-KillBits-clause-reads c = λ bits rest fields counts. rw c.in-KillBits.is (kill_bits_start c.zeros-in-KillBits.result fields rest c.zeros-in-KillBits.ensures.behind c.zeros-in-KillBits.ensures.value)
 
 pub returns-in-Long-check-clause-reads : goal.returns-in-Long-check-clause-reads
 returns-in-Long-check-clause-reads c = λ bits rest fields counts. rw c.in-Crc16.is (crc16_start c.from-value-in-Long-check.result fields bits rest (c.from-value-in-Long-check.ensures ∙ c.value-in-Long-check.ensures bits (subst (λ (check : Check). IsRegisterOf check bits) c.in-Long-check.is counts)))

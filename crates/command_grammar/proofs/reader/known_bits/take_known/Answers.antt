@@ -2,7 +2,7 @@ use Rattle.std.proofs.Common.{◌∙◌, Bool, not, sym, ap}
 use mathlib.Core.Bool.{beq}
 use Rattle.command_grammar.proofs.reading.FieldStages.{known_bad, known_last}
 use Rattle.command_grammar.proofs.reading.KnownBits.{same_bits}
-use Rattle.command_grammar.proofs.reader.stage.take_known.Goals as goal
+use Rattle.command_grammar.proofs.reader.known_bits.take_known.Goals as goal
 
 pub returns-then-bit-next-clause-reads : goal.returns-then-bit-next-clause-reads
 returns-then-bit-next-clause-reads c = λ fields rest.

@@ -1,7 +1,7 @@
 use Rattle.std.proofs.Common.{◌-◌, ◌∙◌, Bool, not, ap, sym, arith}
 use mathlib.Core.Bool.{beq}
 use Rattle.command_grammar.proofs.reading.FieldStages.{known_more}
-use Rattle.command_grammar.proofs.reader.stage.NumberFront.take_known_inside.Goals as goal
+use Rattle.command_grammar.proofs.reader.known_bits.KnownBits.take_inside.Goals as goal
 
 pub returns-clause-reads : goal.returns-clause-reads
 returns-clause-reads c = λ yes reason fields rest.
