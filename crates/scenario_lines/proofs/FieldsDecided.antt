@@ -24,9 +24,8 @@ use Rattle.wire_text.specs.PasswordsAndLocks.{locks_text, password_text}
 use Rattle.scenario_lines.specs.Spelling.{flag_text}
 use Rattle.wire_text.specs.NameLists.{EachFound, first_named}
 use Rattle.wire_text.proofs.NameLists.{found_is, told}
-use Rattle.wire_text.specs.FieldNames.{all_banks, all_flags, all_mask_banks, all_sides, bank_found, flag_found, mask_bank_found, side_found}
-use Rattle.wire_text.proofs.CommandsToldApart.{all_codes, code_found}
-use Rattle.scenario_lines.proofs.ToldNames.{all_sels, sel_found, several_found, all_severals, version_found, all_versions}
+use Rattle.wire_text.specs.FieldNames.{all_banks, all_codes, all_flags, all_mask_banks, all_sels, all_sides, bank_found, code_found, flag_found, mask_bank_found, side_found}
+use Rattle.scenario_lines.proofs.ToldNames.{sel_found, several_found, all_severals, version_found, all_versions}
 use Rattle.scenario_lines.proofs.Decisions.{Any, Behind, Decided, Spelled, behind_decided, below_decided, both, either, le_decided, nothing_decided, number_decided, same_answer, text_decided}
 
 -- a number in a range

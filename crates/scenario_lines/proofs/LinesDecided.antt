@@ -29,7 +29,7 @@ use Rattle.scenario_lines.specs.declared.line.Happening.{Happening}
 use Rattle.scenario_lines.specs.declared.line.Happening.TheVariants as happenings
 use Rattle.scenario_lines.specs.declared.line.Line.{Line}
 use Rattle.scenario_lines.specs.declared.line.Line.TheVariants as lines
-use Rattle.scenario_lines.specs.Names.{air_found, air_kind, air_word, all_air_kinds, all_op_kinds, event_kind, event_word, op_found, op_kind, op_word, several_text, version_digit}
+use Rattle.scenario_lines.specs.Names.{air_found, air_kind, air_word, all_air_kinds, all_op_kinds, event_word, op_found, op_kind, op_word, several_text, version_digit}
 use Rattle.text_fields.specs.NamedFields.{SpellBehind, Vocabulary, spelled_fields}
 use Rattle.text_fields.specs.WordLists.{IsWordList}
 use Rattle.wire_text.specs.PasswordsAndLocks.{password_text}

@@ -19,12 +19,10 @@ use Rattle.scenario_lines.specs.declared.keywords.EventKind.TheVariants.{Timeout
 use Rattle.scenario_lines.specs.declared.keywords.OpKind.{OpKind}
 use Rattle.scenario_lines.specs.declared.keywords.AirKind.{AirKind}
 use Rattle.wire_text.specs.NameLists.{EachFound}
+use Rattle.wire_text.specs.FieldNames.{all_sels}
 use Rattle.wire_text.proofs.NameLists.{told}
+use Rattle.wire_text.proofs.Cuts.{letter}
 use Rattle.scenario_lines.specs.Names.{HasRuleText, air_found, all_air_kinds, air_word, all_keywords, event_word, keyword_found, keyword_text, op_found, all_op_kinds, op_word, rule_text, sel_text, several_text, version_digit}
-
--- the letter at a place of two equal texts
-letter : (place : ℕ) (one other : List ℕ) → one ≡ other → get_or one place 0 ≡ get_or other place 0
-letter place one other same = ap (λ (text : List ℕ). get_or text place 0) same
 
 pub keyword_told : (one other : Keyword) → keyword_text one ≡ keyword_text other → one ≡ other
 keyword_told = told keyword_text all_keywords keyword_found
@@ -100,9 +98,6 @@ air_word_told = told air_word all_air_kinds air_found
 
 pub op_word_told : (one other : OpKind) → op_word one ≡ op_word other → one ≡ other
 op_word_told = told op_word all_op_kinds op_found
-
-abbrev pub all_sels : List Sel
-all_sels = sels.All00 ∷ sels.All01 ∷ sels.NotSl ∷ sels.Sl ∷ []
 
 pub sel_found : EachFound sel_text all_sels
 sel_found sels.All00 = refl

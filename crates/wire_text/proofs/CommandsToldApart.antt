@@ -4,7 +4,6 @@ use Rattle.std.specs.List.{AllByRecursion}
 use Rattle.std.proofs.lemmas.Bool.Decides.{nat_tests}
 use Rattle.std.proofs.lemmas.List.Elements.{All-from_recursion, recursion_from_All}
 use Rattle.bit_strings.specs.declared.code.Code.{Code}
-use Rattle.bit_strings.specs.declared.code.Code.TheVariants as line_codes
 use Rattle.text_fields.specs.Binary.{binary_digit}
 use Rattle.text_fields.specs.Hexadecimal.{hex_digit, hex_word}
 use Rattle.text_fields.specs.CodeNames.{code_word}
@@ -18,8 +17,8 @@ use Rattle.command_fields.specs.declared.choices.MaskBank.{MaskBank}
 use Rattle.command_fields.specs.declared.choices.FlagName.{FlagName}
 use Rattle.command_grammar.specs.Commands.{IsWord, all_kinds}
 use Rattle.command_grammar.specs.declared.kinds.CommandKind.{CommandKind}
-use Rattle.wire_text.specs.FieldNames.{all_banks, all_flags, all_mask_banks, all_sels, all_sides, all_updns, bank_found, flag_found, mask_bank_found, sel_found, side_found, updn_found}
-use Rattle.wire_text.specs.NameLists.{EachFound, command_found}
+use Rattle.wire_text.specs.FieldNames.{all_banks, all_codes, all_flags, all_mask_banks, all_sels, all_sides, all_updns, bank_found, code_found, flag_found, mask_bank_found, sel_found, side_found, updn_found}
+use Rattle.wire_text.specs.NameLists.{command_found}
 use Rattle.wire_text.proofs.NameLists.{told}
 use Rattle.wire_text.specs.CommandText.{bank_word, command_name, flag_word, mask_bank_word, payload_digits, sel_word, side_word, updn_word}
 
@@ -42,13 +41,6 @@ sel_told = told sel_word all_sels sel_found
 pub updn_told : (one other : UpDn) → updn_word one ≡ updn_word other → one ≡ other
 updn_told = told updn_word all_updns updn_found
 
-abbrev pub all_codes : List Code
-all_codes = line_codes.Fm0 ∷ line_codes.M2 ∷ line_codes.M4 ∷ line_codes.M8 ∷ []
-
-pub code_found : EachFound code_word all_codes
-code_found line_codes.Fm0 = refl
-code_found code = refl
-
 pub code_told : (one other : Code) → code_word one ≡ code_word other → one ≡ other
 code_told = told code_word all_codes code_found
 
@@ -62,7 +54,7 @@ bit_told one other same =
     let digits : binary_digit one ≡ binary_digit other = cc in
     digit_told one other digits
 
-hex_digit_told : (m n : ℕ) → m < 16 → n < 16 → hex_digit m ≡ hex_digit n → m ≡ n
+pub hex_digit_told : (m n : ℕ) → m < 16 → n < 16 → hex_digit m ≡ hex_digit n → m ≡ n
 hex_digit_told m n small small' same = grind (arith, nat_tests)
 
 -- the two parts of a payload

@@ -1,5 +1,5 @@
--- A text that is cut in two.
-use Rattle.std.proofs.Common.{◌≡◌, ◌≢◌, ◌-◌, ℕ, List, ◌++◌, length, take, drop, Bor, arith, ap, sym, ◌∙◌, refl, length-append}
+-- A text that is cut in two, and the letters of texts.
+use Rattle.std.proofs.Common.{◌≡◌, ◌≢◌, ◌-◌, ℕ, List, ◌++◌, length, get_or, take, drop, Bor, arith, ap, sym, ◌∙◌, refl, length-append}
 use Rattle.std.specs.Prelude.{Option, Some, None, IfSome, IsSomeAnd, MatchOption}
 use Rattle.std.proofs.Math.Seq.{take-append_seam, drop-append_seam}
 use Rattle.std.proofs.lemmas.List.{append_cancel_left}
@@ -24,3 +24,7 @@ parts_told one more other rest sizes same =
     let mine = cut_back (length rest) (one ++ more) one more sizes refl in
     let yours = cut_back (length rest) (one ++ more) other rest refl same in
     (sym mine.0 ∙ yours.0, sym mine.1 ∙ yours.1)
+
+-- the letter at a place of two equal texts
+pub letter : (place : ℕ) (one other : List ℕ) → one ≡ other → get_or one place 0 ≡ get_or other place 0
+letter place one other same = ap (λ (text : List ℕ). get_or text place 0) same

@@ -1,10 +1,9 @@
 -- Fields spell one reply, or are faulty for one reason.
-use Rattle.std.proofs.Common.{◌≡◌, ◌<◌, ◌^◌, ◌/◌, ◌%◌, ℕ, List, [], ◌∷◌, length, get_or, ap, arith, refl, sym, ◌∙◌}
+use Rattle.std.proofs.Common.{◌≡◌, ◌<◌, ◌^◌, ◌/◌, ◌%◌, ℕ, List, [], ◌∷◌, length, ap, arith, refl, sym, ◌∙◌}
 use Rattle.std.specs.Prelude.{All}
-use Rattle.std.proofs.lemmas.Bool.Decides.{nat_tests}
 use Rattle.std.proofs.lemmas.List.Elements.{All-cons, All-nil}
 use Rattle.text_fields.specs.Lines.{IsFieldText, fields_of}
-use Rattle.text_fields.specs.Hexadecimal.{hex_byte, hex_digit, hex_word, hex_words}
+use Rattle.text_fields.specs.Hexadecimal.{hex_byte, hex_word, hex_words}
 use Rattle.text_fields.specs.NamedFields.{AreFilled}
 use Rattle.text_fields.proofs.FieldTextLaws.{IsFieldText-cons as before, IsFieldText-hex_byte, IsFieldText-hex_word, IsFieldText-hex_words, IsFieldText-one}
 use Rattle.text_fields.proofs.ToldApart.{hex_word_told, hex_words_told}
@@ -14,6 +13,10 @@ use Rattle.reply_grammar.specs.declared.expected.Reply.{Reply}
 use Rattle.reply_grammar.specs.declared.expected.Reply.TheVariants.{Rn16, Epc, Handle, Words, Header, Error}
 use Rattle.wire_text.specs.declared.reply_kinds.ReplyKind.{ReplyKind}
 use Rattle.wire_text.specs.declared.reply_kinds.ReplyKind.TheVariants as kinds
+use Rattle.wire_text.specs.FieldNames.{all_reply_kinds, reply_found}
+use Rattle.wire_text.proofs.NameLists.{told}
+use Rattle.wire_text.proofs.CommandsToldApart.{hex_digit_told}
+use Rattle.wire_text.proofs.Cuts.{letter}
 use Rattle.wire_text.specs.ReplyText.{IsFaultyReply, IsReplyForm, IsReplyText, other_reply_fields, replies, reply_field_count, reply_fields, reply_kind, reply_line, reply_name}
 
 name_is : (kind : ReplyKind) → IsFieldText (reply_name kind)
@@ -44,21 +47,8 @@ counted reply = refl
 filled : (reply : Reply) → IsReplyForm reply → AreFilled (reply_field_count (reply_kind reply)) (other_reply_fields reply)
 filled reply is = texts_filled (other_reply_fields reply) (reply_field_count (reply_kind reply)) (other_texts reply) (counted reply)
 
--- the letter at a place of two equal texts
-letter : (place : ℕ) (one other : List ℕ) → one ≡ other → get_or one place 0 ≡ get_or other place 0
-letter place one other same = ap (λ (text : List ℕ). get_or text place 0) same
-
 name_told : (one other : ReplyKind) → reply_name one ≡ reply_name other → one ≡ other
-name_told kinds.Rn16 kinds.Rn16 same = refl
-name_told kinds.Epc kinds.Epc same = refl
-name_told kinds.Handle kinds.Handle same = refl
-name_told kinds.Words kinds.Words same = refl
-name_told kinds.Header kinds.Header same = refl
-name_told kinds.Error kinds.Error same = refl
-name_told one other same = absurd (omega (arith, letter 0 _ _ same, letter 1 _ _ same))
-
-hex_digit_told : (m n : ℕ) → m < 16 → n < 16 → hex_digit m ≡ hex_digit n → m ≡ n
-hex_digit_told m n small small' same = grind (arith, nat_tests)
+name_told = told reply_name all_reply_kinds reply_found
 
 hex_byte_told : (m n : ℕ) → m < 2 ^ 8 → n < 2 ^ 8 → hex_byte m ≡ hex_byte n → m ≡ n
 hex_byte_told m n small small' same =
