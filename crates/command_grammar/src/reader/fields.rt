@@ -68,15 +68,11 @@ impl Fields {
         ensures { answer.new ≡ Ok (command_of kind self.old) }
     {
         match kind {
-            CommandKind::QueryRep => match answer {
-                // One that stands there has its session changed alone: one made anew has all of its room made ready.
-                Ok(Command::QueryRep { session }) => *session = self.session,
-                _ => {
-                    *answer = Ok(Command::QueryRep {
-                        session: self.session,
-                    });
-                }
-            },
+            CommandKind::QueryRep => {
+                *answer = Ok(Command::QueryRep {
+                    session: self.session,
+                });
+            }
             CommandKind::Ack => {
                 *answer = Ok(Command::Ack { rn: self.rn });
             }
