@@ -1,17 +1,15 @@
 -- Tags with numbers: what one event and one command after another makes of them.
-use Rattle.std.proofs.Common.{◌≡◌, ◌≢◌, ℕ, zero, suc, ◌+◌, ◌<◌, ◌≤◌, Bool, true, false, Option, Some, None, List, [], ◌∷◌, ◌++◌, length, map, drop, get_or, refl, sym, ap, ◌∙◌, arith, append_assoc, add-one, drop-cons, length-append}
+use Rattle.std.proofs.Common.{◌≡◌, ◌≢◌, ℕ, zero, suc, ◌+◌, ◌<◌, ◌≤◌, Bool, true, false, Option, Some, None, List, [], ◌∷◌, ◌++◌, length, drop, get_or, refl, sym, ap, ◌∙◌, arith, add-one, drop-cons}
 use Rattle.std.specs.List.{All}
 use Rattle.std.specs.Prelude.{slice_set}
 use Rattle.std.proofs.lemmas.List.Elements.{All-append, All-nil}
 use Rattle.std.proofs.lemmas.Bool.{eq-eqb, ne_eqb}
-use Rattle.std.proofs.lemmas.List.{drop_all, length-map}
+use Rattle.std.proofs.lemmas.List.{drop_all}
 use Rattle.air_events.specs.declared.Entry.{Entry}
 use Rattle.air_events.specs.declared.Event.{Event}
 use Rattle.command_grammar.specs.declared.commands.Command.{Command}
 use Rattle.tag_machine.specs.Events.{tag_after_event}
-use Rattle.tag_machine.specs.Hearing.{tag_value_of}
 use Rattle.tag_machine.specs.TagValue.{TagValue, IsLegalTag}
-use Rattle.tag_machine.specs.declared.any_tag.AnyTag.{AnyTag}
 use Rattle.tag_machine.proofs.StepFacts.{step_facts}
 use Rattle.tag_machine.specs.Answers.{IsSent, Sent}
 use Rattle.tag_machine.specs.TagsInExchange.{AreLegalTags, Replied, is_missed, outcome_unless, replies_from, reply_of, tag_after_own_event, tags_after_event, tags_after}
@@ -84,18 +82,6 @@ legal-append (first ∷ tags) tag legal here = (legal.0, legal-append tags tag l
 pub length-heard : (number : ℕ) (command : Command) (entry : Entry) (tags : List TagValue) → length (tags_after (hearing_from number command entry tags)) ≡ length tags
 length-heard number command entry [] = refl
 length-heard number command entry (tag ∷ tags) = ap (λ n. suc n) (length-heard (number + 1) command entry tags)
-
-pub length-seated : (seats : List TagValue) (tags more : List AnyTag) → seats ++ map tag_value_of more ≡ map tag_value_of tags → length seats + length more ≡ length tags
-length-seated seats tags more same =
-    omega (arith, ap (λ (l : List TagValue). length l) same, length-append seats (map tag_value_of more), length-map more tag_value_of, length-map tags tag_value_of)
-
-pub seated_next : (seats after : List TagValue) (next : AnyTag) (more rest tags : List AnyTag) → seats ++ map tag_value_of more ≡ map tag_value_of tags
-    → more ≡ next ∷ rest → after ≡ seats ++ tag_value_of next ∷ [] → after ++ map tag_value_of rest ≡ map tag_value_of tags
-seated_next seats after next more rest tags same is after_is =
-    ap (λ (l : List TagValue). l ++ map tag_value_of rest) after_is
-    ∙ append_assoc seats (tag_value_of next ∷ []) (map tag_value_of rest)
-    ∙ ap (λ (l : List AnyTag). seats ++ map tag_value_of l) (sym is)
-    ∙ same
 
 -- what legal tags send is legal
 all_one : {X : Type 0} (P : X → Type 0) (x : X) → P x → All P (x ∷ [])

@@ -1,13 +1,15 @@
 -- Tags in their seats: what they are seen as, and how a slot counter is written back.
-use Rattle.std.proofs.Common.{◌≡◌, ℕ, zero, suc, ◌<◌, ◌≤◌, ◌==◌, List, [], ◌∷◌, length, map, Option, Some, None, get_or, set, refl, sym, ap, ◌∙◌, subst, arith, if◌then◌else◌}
+use Rattle.std.proofs.Common.{◌≡◌, ℕ, zero, suc, ◌<◌, ◌≤◌, ◌==◌, ◌+◌, List, [], ◌∷◌, ◌++◌, length, map, replicate, Option, Some, None, get_or, set, refl, sym, ap, ◌∙◌, subst, arith, append_assoc, length-append, if◌then◌else◌}
 use Rattle.std.proofs.Math.ListN.{get_or-map}
-use Rattle.std.proofs.lemmas.List.{get_or-set_same, get_or_default, set-get_or, length-set, length-map, map-set, ext_get_or}
+use Rattle.std.proofs.lemmas.List.{get_or-set_same, get_or_default, set-get_or, length-set, length-map, length-replicate, map-set, append-nil}
 use Rattle.std.proofs.lemmas.Option.{same_Some}
 use Rattle.air_events.specs.TagNumbers.{most_tags}
+use Rattle.tag_machine.specs.declared.any_tag.AnyTag.{AnyTag}
+use Rattle.tag_machine.specs.Hearing.{tag_value_of}
 use Rattle.tag_machine.specs.TagsInExchange.{AreLegalTags}
 use Rattle.tag_machine.specs.Inventory.{slot_below}
 use Rattle.tag_machine.specs.TagValue.{StateValue, ArbitrateState, BodyValue, TagValue, IsLegalState, IsLegalTag}
-use Rattle.tag_population.proofs.EventsOnTags.{legal-set}
+use Rattle.tag_population.proofs.EventsOnTags.{legal-append, legal-set}
 use Rattle.tag_population.specs.Floor.{with_slot, tag_seated, seated_tags, participation_in, participations_of, seats_written_back, steps_back, floor_with, calling, counted_floor, no_tag, FloorValue, AreSeated}
 use Rattle.tag_population.specs.Waiting.{participation_at, waiting_slot, counted_down, AreSlots}
 use Rattle.tag_population.specs.declared.waiting.Participation.{Participation}
@@ -80,16 +82,6 @@ legal_tags (participation ∷ participations) (seat ∷ seats) slots legal =
 pub participation_of_tag : (tags : List TagValue) (number : ℕ) → participation_at (participations_of tags) number ≡ participation_in (get_or tags number no_tag).state
 participation_of_tag tags number = get_or-map (λ (tag : TagValue). participation_in tag.state) tags number no_tag
 
--- the tags below a number take part as their states say
-pub record SettledBelow (seats : List TagValue) (number : ℕ) (participations : List (Option Participation)) : Type 0 where
-  pub whole : length participations ≡ length seats
-  pub each : (other : ℕ) → other < number → participation_at participations other ≡ participation_in (get_or seats other no_tag).state
-
-pub settled_all : (seats : List TagValue) (number : ℕ) (participations : List (Option Participation)) → SettledBelow seats number participations → length seats ≤ number → participations ≡ participations_of seats
-settled_all seats number participations so_far past =
-    ext_get_or None participations (participations_of seats) (so_far.whole ∙ sym (length-map seats (λ (t : TagValue). participation_in t.state)))
-    (λ other below. so_far.each other (omega (arith, below, so_far.whole, past)) ∙ sym (participation_of_tag seats other))
-
 settled_tags : (seats : List TagValue) → seated_tags (participations_of seats) seats ≡ seats
 settled_tags [] = refl
 settled_tags (seat ∷ seats) =
@@ -108,17 +100,74 @@ slots_of : (seats : List TagValue) → AreLegalTags seats → AreSlots (particip
 slots_of [] legal = λ number slot is. absurd (cc)
 slots_of (seat ∷ seats) legal = λ number slot is. slots_at seat seats legal number slot is
 
--- tags that take part as their states say are those in the seats
-pub new_tags : (seats : List TagValue) (parts : List (Option Participation)) → parts ≡ participations_of seats → seated_tags parts seats ≡ seats
-new_tags seats parts is = ap (λ (l : List (Option Participation)). seated_tags l seats) is ∙ settled_tags seats
+-- a tag more takes part, in front of those that don't
+set_behind : (seats : List TagValue) (next : TagValue) (rest : List (Option Participation))
+    → set (participations_of seats ++ None ∷ rest) (length seats) (participation_in next.state) ≡ participations_of (seats ++ next ∷ []) ++ rest
+set_behind [] next rest = refl
+set_behind (seat ∷ seats) next rest = ap (λ (l : List (Option Participation)). participation_in seat.state ∷ l) (set_behind seats next rest)
 
-pub new_seated : (seats : List TagValue) (parts : List (Option Participation)) → parts ≡ participations_of seats → length seats ≤ most_tags → AreLegalTags seats → AreSeated parts seats
-new_seated seats parts is few legal = record {
-  few = few;
-  whole = ap (λ (l : List (Option Participation)). length l) is ∙ length-map seats (λ (t : TagValue). participation_in t.state);
-  legal = legal;
-  slots = subst (λ (l : List (Option Participation)). AreSlots l) (sym is) (slots_of seats legal);
+-- the first of these tags sit in their seats and take part as their states say, and those that are left don't yet
+pub record Seating (tags left : List AnyTag) (seats : List TagValue) (parts : List (Option Participation)) : Type 0 where
+  pub values : seats ++ map tag_value_of left ≡ map tag_value_of tags
+  pub legal : AreLegalTags seats
+  pub taking : parts ≡ participations_of seats ++ replicate (length left) None
+
+-- ... and where one is left there is room for it
+pub room_left : (tags left rest : List AnyTag) (seats : List TagValue) (parts : List (Option Participation)) (next : AnyTag) → Seating tags left seats parts → left ≡ next ∷ rest
+    → (length seats < length tags) × (length parts ≡ length tags)
+room_left tags left rest seats parts next so_far is =
+    let all : length seats + length left ≡ length tags =
+    omega (arith, ap (λ (l : List TagValue). length l) so_far.values, length-append seats (map tag_value_of left), length-map left tag_value_of, length-map tags tag_value_of) in (
+      omega (arith, all, ap (λ (l : List AnyTag). length l) is),
+      omega (
+        arith,
+        all,
+        ap (λ (l : List (Option Participation)). length l) so_far.taking,
+        length-append (participations_of seats) (replicate (length left) None),
+        length-map seats (λ (t : TagValue). participation_in t.state),
+        length-replicate {A = Option Participation} (length left) None,
+      ),
+    )
+
+pub seating_next : (tags left rest : List AnyTag) (seats after : List TagValue) (parts taking : List (Option Participation)) (next : AnyTag) → Seating tags left seats parts → left ≡ next ∷ rest
+    → after ≡ seats ++ tag_value_of next ∷ [] → IsLegalTag (tag_value_of next) → taking ≡ set parts (length seats) (participation_in (tag_value_of next).state) → Seating tags rest after taking
+seating_next tags left rest seats after parts taking next so_far is after_is legal put = record {
+  values =
+      ap (λ (l : List TagValue). l ++ map tag_value_of rest) after_is
+      ∙ append_assoc seats (tag_value_of next ∷ []) (map tag_value_of rest)
+      ∙ ap (λ (l : List AnyTag). seats ++ map tag_value_of l) (sym is)
+      ∙ so_far.values;
+  legal = rw after_is (legal-append seats (tag_value_of next) so_far.legal legal);
+  taking =
+      put
+      ∙ ap (λ (l : List (Option Participation)). set l (length seats) (participation_in (tag_value_of next).state)) so_far.taking
+      ∙ ap (λ (l : List AnyTag). set (participations_of seats ++ replicate (length l) None) (length seats) (participation_in (tag_value_of next).state)) is
+      ∙ set_behind seats (tag_value_of next) (replicate (length rest) None)
+      ∙ ap (λ (l : List TagValue). participations_of l ++ replicate (length rest) None) (sym after_is);
 }
+
+no_tags_left : (left : List AnyTag) → length left ≡ 0 → left ≡ []
+no_tags_left [] none = refl
+no_tags_left (tag ∷ left) none = absurd (omega (arith, none))
+
+-- all of them sit in their seats
+pub all_seated : (tags left : List AnyTag) (seats : List TagValue) (parts : List (Option Participation)) → Seating tags left seats parts → length left ≡ 0 → length tags ≤ most_tags
+    → AreSeated parts seats × (seated_tags parts seats ≡ map tag_value_of tags) × (parts ≡ participations_of (seated_tags parts seats))
+all_seated tags left seats parts so_far past few =
+    let none : left ≡ [] = no_tags_left left past in
+    let taking : parts ≡ participations_of seats =
+    so_far.taking ∙ ap (λ (l : List AnyTag). participations_of seats ++ replicate (length l) None) none ∙ append-nil (participations_of seats) in
+    let sit : seated_tags parts seats ≡ seats = ap (λ (l : List (Option Participation)). seated_tags l seats) taking ∙ settled_tags seats in
+    let values : seats ≡ map tag_value_of tags = sym (append-nil seats) ∙ ap (λ (l : List AnyTag). seats ++ map tag_value_of l) (sym none) ∙ so_far.values in (
+      record {
+        few = omega (arith, few, ap (λ (l : List TagValue). length l) values, length-map tags tag_value_of);
+        whole = ap (λ (l : List (Option Participation)). length l) taking ∙ length-map seats (λ (t : TagValue). participation_in t.state);
+        legal = so_far.legal;
+        slots = subst (λ (l : List (Option Participation)). AreSlots l) (sym taking) (slots_of seats so_far.legal);
+      },
+      sit ∙ values,
+      taking ∙ ap (λ (l : List TagValue). participations_of l) (sym sit),
+    )
 
 pub steps_back_most : (participation : Option Participation) → steps_back participation ≤ 1
 steps_back_most None = omega arith

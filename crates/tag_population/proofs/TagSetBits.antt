@@ -31,7 +31,7 @@ replaced_other words number word other size small apart same =
     ]
 
 -- a word that is read
-pub word_read : (words : List ℕ) (number word : ℕ) → length words * 64 ≡ most_tags → number < most_tags → word ≡ get_or words (number / 64) word → word ≡ get_or words (number / 64) 0
+word_read : (words : List ℕ) (number word : ℕ) → length words * 64 ≡ most_tags → number < most_tags → word ≡ get_or words (number / 64) word → word ≡ get_or words (number / 64) 0
 word_read words number word size small is = is ∙ get_or_default_zero words (number / 64) word (omega (arith, size, small))
 
 one_not_zero : (bit : ℕ) → bit ≡ 1 → bit ≡ 0 → ⊥
@@ -53,15 +53,15 @@ filled_replaced filled words at word after is within stays here = λ other below
 abbrev with_bit : ℕ → ℕ → ℕ
 with_bit word bit = bit_or word (1 * 2 ^ bit % 2 ^ 64)
 
-pub inserted : (words : List ℕ) (number word : ℕ) → length words * 64 ≡ most_tags → number < most_tags → word ≡ get_or words (number / 64) 0
+pub inserted : (words : List ℕ) (number word : ℕ) → length words * 64 ≡ most_tags → number < most_tags
     → IsIn (set words (number / 64) (with_bit word (number % 64))) number
-inserted words number word size small is = replaced_same words number (with_bit word (number % 64)) size small ∙ bit_at_set_same w64 word (number % 64) (omega arith)
+inserted words number word size small = replaced_same words number (with_bit word (number % 64)) size small ∙ bit_at_set_same w64 word (number % 64) (omega arith)
 
-pub inserted_other : (words : List ℕ) (number word other : ℕ) → length words * 64 ≡ most_tags → number < most_tags → word ≡ get_or words (number / 64) 0 → other ≢ number
+pub inserted_other : (words : List ℕ) (number word other : ℕ) → length words * 64 ≡ most_tags → number < most_tags → word ≡ get_or words (number / 64) word → other ≢ number
     → bit_in_set (set words (number / 64) (with_bit word (number % 64))) other ≡ bit_in_set words other
 inserted_other words number word other size small is apart =
     replaced_other words number (with_bit word (number % 64)) other size small apart
-    (λ bit below differs. bit_at_set_other w64 word (number % 64) (omega arith) bit differs ∙ ap (λ n. bit_at n bit) is)
+    (λ bit below differs. bit_at_set_other w64 word (number % 64) (omega arith) bit differs ∙ ap (λ n. bit_at n bit) (word_read words number word size small is))
 
 inserted_filled : (filled : ℕ) (words : List ℕ) (number word : ℕ) → IsFilled filled words → length words * 64 ≡ most_tags → number < most_tags
     → IsFilled (with_bit filled (number / 64)) (set words (number / 64) (with_bit word (number % 64)))
@@ -85,15 +85,15 @@ inserted_set filled words number word is small =
 abbrev without_bit : ℕ → ℕ → ℕ
 without_bit word bit = bit_and word (bit_not w64 (1 * 2 ^ bit % 2 ^ 64))
 
-pub removed : (words : List ℕ) (number word : ℕ) → length words * 64 ≡ most_tags → number < most_tags → word ≡ get_or words (number / 64) 0
+pub removed : (words : List ℕ) (number word : ℕ) → length words * 64 ≡ most_tags → number < most_tags
     → bit_in_set (set words (number / 64) (without_bit word (number % 64))) number ≡ 0
-removed words number word size small is = replaced_same words number (without_bit word (number % 64)) size small ∙ bit_at_clear_same w64 word (number % 64) (omega arith)
+removed words number word size small = replaced_same words number (without_bit word (number % 64)) size small ∙ bit_at_clear_same w64 word (number % 64) (omega arith)
 
-pub removed_other : (words : List ℕ) (number word other : ℕ) → length words * 64 ≡ most_tags → number < most_tags → word ≡ get_or words (number / 64) 0 → other ≢ number
+pub removed_other : (words : List ℕ) (number word other : ℕ) → length words * 64 ≡ most_tags → number < most_tags → word ≡ get_or words (number / 64) word → other ≢ number
     → bit_in_set (set words (number / 64) (without_bit word (number % 64))) other ≡ bit_in_set words other
 removed_other words number word other size small is apart =
     replaced_other words number (without_bit word (number % 64)) other size small apart
-    (λ bit below differs. bit_at_clear_other w64 word (number % 64) (omega arith) bit below differs ∙ ap (λ n. bit_at n bit) is)
+    (λ bit below differs. bit_at_clear_other w64 word (number % 64) (omega arith) bit below differs ∙ ap (λ n. bit_at n bit) (word_read words number word size small is))
 
 -- ... of which its word is empty then
 pub emptied_filled : (filled : ℕ) (words : List ℕ) (number word : ℕ) → IsFilled filled words → length words * 64 ≡ most_tags → number < most_tags → word ≡ 0

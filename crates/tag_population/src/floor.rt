@@ -61,9 +61,14 @@ impl Floor {
             (λ floor. (floor.tags ≡ map tag_value_of tags.items)
             × (floor.parts ≡ participations_of floor.tags)) }
     {
-        let seats = seats_of(alloc, tags)?;
-        let mut waiting = Waiting::new(alloc, seats.len())?;
-        settle(seats.as_slice(), &mut waiting);
+        let mut seats = Vec::with_capacity(alloc, tags.len())?;
+        let mut waiting = Waiting::new(alloc, tags.len())?;
+        for tag in tags {
+            let seat = Seat::new(tag);
+            let number = TagNumber::from_index(seats.len());
+            waiting.put(number, seat.participation());
+            seats.push_reserved(seat);
+        }
         Ok(Floor { seats, waiting })
     }
 
@@ -182,10 +187,7 @@ impl Floor {
         ensures { IsNextReached reach self.now.parts from result }
     {
         if let Reach::CalledOnly = reach {
-            if from == 0 {
-                return self.waiting.first_called();
-            }
-            return self.waiting.called_after(TagNumber::from_index(from - 1));
+            return self.waiting.next_called(from);
         }
         for at in from..self.seats.len() {
             let number = TagNumber::from_index(at);
@@ -197,29 +199,6 @@ impl Floor {
             }
         }
         None
-    }
-}
-
-/// Seats for these tags, in this order.
-fn seats_of(alloc: Global, tags: Vec<AnyTag>) -> Result<Vec<Seat>, OutOfMemory>
-    ensures items { IfOk result (λ seats. seats.items ≡ map tag_value_of tags.items) }
-    ensures legal { IfOk result (λ seats. AreLegalTags seats.items) }
-{
-    let mut seats = Vec::with_capacity(alloc, tags.len())?;
-    for tag in tags {
-        seats.push_reserved(Seat::new(tag));
-    }
-    Ok(seats)
-}
-
-/// Lets each tag take part as its state says.
-fn settle(seats: &[Seat], waiting: &mut Waiting)
-    requires whole { length waiting.old ≡ length seats.now }
-    requires few { length seats.now ≤ most_tags }
-    ensures { waiting.new ≡ participations_of seats.now }
-{
-    for at in 0..seats.len() {
-        waiting.put(TagNumber::from_index(at), seats[at].participation());
     }
 }
 

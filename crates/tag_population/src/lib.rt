@@ -11,5 +11,3 @@ mod wheel;
 
 pub use answers::{Answer, Answers};
 pub use population::Population;
-pub use tag_set::TagSet;
-pub use waiting::{Participation, Waiting};

@@ -1,6 +1,5 @@
 //! One place in a population, which has a tag.
-ghost use Rattle.std.specs.Prelude.{◌≡◌, ◌+◌, ◌<◌, ◌≤◌, ◌++◌, Some, true, false, length, if◌then◌else◌};
-ghost use Rattle.tag_machine.specs.Answers.{silent};
+ghost use Rattle.std.specs.Prelude.{◌≡◌, ◌+◌, ◌<◌, ◌≤◌, ◌++◌, Some, length};
 ghost use Rattle.tag_machine.specs.Events.{tag_after_event};
 ghost use Rattle.tag_machine.specs.TagsInExchange.{outcome_unless, reply_of};
 ghost use Rattle.tag_machine.specs.Hearing.{tag_value_of, typed_name_of};
@@ -117,38 +116,17 @@ impl Seat {
         ensures legal { IsLegalTag self.new }
         ensures counted { steps.new ≤ steps.old + 1 }
     {
+        let Some(tag) = &mut self.tag else {
+            unreachable!()
+        };
         // Most tags stay as they are.
-        if self.hear_in_place(command, misses, steps) {
+        if misses || tag.hear_in_place(command, steps) {
             return;
         }
         let Some(tag) = self.tag.take() else {
             unreachable!()
         };
         self.tag = Some(answers.hear(number, tag, command, steps));
-    }
-
-    /// Lets the tag hear a command where it only waits, unless it misses it, and answers whether that was all.
-    fn hear_in_place<L: Ledger>(
-        &mut self,
-        command: &Command,
-        misses: bool,
-        steps: &mut Steps<L>,
-    ) -> bool
-        ensures heard { result ≡ true
-            → outcome_unless misses command.now self.old ≡ silent self.new.state self.new.body }
-        ensures left { result ≡ false → self.new ≡ self.old }
-        ensures reached { result ≡ false → misses ≡ false }
-        ensures counted { steps.new ≡ steps.old
-            + (if result then (if misses then 0 else 1) else 0) }
-        ensures legal { IsLegalTag self.new }
-    {
-        let Some(tag) = &mut self.tag else {
-            unreachable!()
-        };
-        if misses {
-            return true;
-        }
-        tag.hear_in_place(command, steps)
     }
 }
 

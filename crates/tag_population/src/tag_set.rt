@@ -15,7 +15,7 @@ const WORD: usize = 64;
 ///
 /// A contract sees its words, with a bit for each tag.
 #[derive(Drop)]
-pub struct TagSet {
+pub(crate) struct TagSet {
     words: Vec<u64>,
     /// A bit for each word: 0 where that word is 0.
     filled: u64,
@@ -36,7 +36,7 @@ impl Model for TagSet {
 
 impl TagSet {
     /// The set of no tag, with room for all.
-    pub fn new(alloc: Global) -> Result<TagSet, OutOfMemory>
+    pub(crate) fn new(alloc: Global) -> Result<TagSet, OutOfMemory>
         ensures { IfOk result HasNone }
     {
         let words = vec![in alloc; 0; usize::from(MOST_TAGS) / WORD]?;
@@ -71,7 +71,7 @@ impl TagSet {
     }
 
     /// Adds these tags to the set of none.
-    pub fn insert_all(&mut self, tags: &[u32])
+    pub(crate) fn insert_all(&mut self, tags: &[u32])
         requires none { HasNone self.old }
         requires small { All (λ tag. tag < most_tags) tags.now }
         ensures { IsSetOf self.new tags.now }
@@ -82,7 +82,7 @@ impl TagSet {
     }
 
     /// Removes these tags, which are all that the set has.
-    pub fn remove_all(&mut self, tags: &[u32])
+    pub(crate) fn remove_all(&mut self, tags: &[u32])
         requires all { IsSetOf self.old tags.now }
         requires small { All (λ tag. tag < most_tags) tags.now }
         ensures { HasNone self.new }
@@ -93,7 +93,7 @@ impl TagSet {
     }
 
     /// Whether a tag is in the set.
-    pub fn contains(&self, number: TagNumber) -> bool
+    pub(crate) fn contains(&self, number: TagNumber) -> bool
         ensures { (result ≡ true) ↔ IsIn self.now number }
     {
         let number = number.index();
@@ -101,20 +101,16 @@ impl TagSet {
         word >> (number % WORD) & 1 == 1
     }
 
-    /// The tag with the least number, if there is one.
-    pub(crate) fn first(&self) -> Option<TagNumber>
-        ensures { IsNextIn self.now 0 result }
+    /// The tag with the least number from one on, if there is one.
+    pub(crate) fn next(&self, from: usize) -> Option<TagNumber>
+        requires { from ≤ most_tags }
+        ensures { IsNextIn self.now from result }
     {
-        self.from_word(0)
-    }
-
-    /// The tag with the least number above this one, if there is one.
-    pub(crate) fn next_after(&self, number: TagNumber) -> Option<TagNumber>
-        ensures { IsNextIn self.now (number + 1) result }
-    {
-        let number = number.index();
-        let at = number / WORD;
-        match next_one(self.words[at], number % WORD + 1) {
+        let at = from / WORD;
+        if at == self.words.len() {
+            return None;
+        }
+        match next_one(self.words[at], from % WORD) {
             Some(bit) => Some(TagNumber::from_index(at * WORD + bit)),
             None => self.from_word(at + 1),
         }

@@ -20,7 +20,7 @@ const CALLED: usize = 131_072;
 
 /// How a tag takes part in a round.
 #[derive(Clone, Copy)]
-pub enum Participation {
+pub(crate) enum Participation {
     /// It waits in a round of the session with this number, and has this slot counter.
     Waits(u8, u16),
     /// It is called: it has to hear the next command.
@@ -34,7 +34,7 @@ pub enum Participation {
 ///
 /// A contract sees for each tag how it takes part.
 #[derive(Drop)]
-pub struct Waiting {
+pub(crate) struct Waiting {
     bases: [u16; 4],
     wheel: Wheel,
     called: TagSet,
@@ -54,7 +54,7 @@ impl Model for Waiting {
 
 impl Waiting {
     /// So many tags, none of which takes part.
-    pub fn new(alloc: Global, count: usize) -> Result<Waiting, OutOfMemory>
+    pub(crate) fn new(alloc: Global, count: usize) -> Result<Waiting, OutOfMemory>
         requires { count ≤ most_tags }
         ensures { IfOk result (λ waiting. waiting ≡ replicate count None) }
     {
@@ -68,7 +68,7 @@ impl Waiting {
     }
 
     /// The slot counter of the tag with this number, if it waits for its slot.
-    pub fn slot(&self, number: TagNumber) -> Option<u16>
+    pub(crate) fn slot(&self, number: TagNumber) -> Option<u16>
         requires { number < length self.now }
         ensures value { result ≡ waiting_slot (participation_at self.now number) }
         ensures range { (slot : ℕ) → result ≡ Some slot → slot < 32768 }
@@ -82,7 +82,7 @@ impl Waiting {
     }
 
     /// Whether the tag with this number waits for its slot in a round of this session.
-    pub fn waits_in(&self, number: TagNumber, session: Session) -> bool
+    pub(crate) fn waits_in(&self, number: TagNumber, session: Session) -> bool
         requires { number < length self.now }
         ensures { result ≡ waits_in session (participation_at self.now number) }
     {
@@ -93,7 +93,7 @@ impl Waiting {
     }
 
     /// Whether the tag with this number takes part in a round: whether it waits for its slot or is called.
-    pub fn takes_part(&self, number: TagNumber) -> bool
+    pub(crate) fn takes_part(&self, number: TagNumber) -> bool
         requires { number < length self.now }
         ensures { result ≡ is_some (participation_at self.now number) }
     {
@@ -102,7 +102,7 @@ impl Waiting {
 
     /// Lets a tag take part as is said.
     #[inline(always)]
-    pub fn put(&mut self, number: TagNumber, participation: Option<Participation>)
+    pub(crate) fn put(&mut self, number: TagNumber, participation: Option<Participation>)
         requires number { number < length self.old }
         requires legal { IsLegalParticipation participation }
         ensures participations { self.new ≡ slice_set self.old number participation }
@@ -117,24 +117,16 @@ impl Waiting {
         note_called(&mut self.called, number, stood, place);
     }
 
-    /// The first of the tags that are called, in the order of their numbers.
-    pub fn first_called(&self) -> Option<TagNumber>
-        ensures next { IsNextCalled self.now 0 result }
-        ensures slots { AreSlots self.now }
+    /// The first of the tags that are called whose number is this one or above.
+    pub(crate) fn next_called(&self, from: usize) -> Option<TagNumber>
+        requires { from ≤ length self.now }
+        ensures { IsNextCalled self.now from result }
     {
-        self.called.first()
-    }
-
-    /// The next of the tags that are called, behind the tag with this number.
-    pub fn called_after(&self, number: TagNumber) -> Option<TagNumber>
-        requires { number < length self.now }
-        ensures { IsNextCalled self.now (number + 1) result }
-    {
-        self.called.next_after(number)
+        self.called.next(from)
     }
 
     /// A tag that waits with slot counter 1 in this session; none exactly where no tag does.
-    pub fn due(&self, session: Session) -> Option<TagNumber>
+    pub(crate) fn due(&self, session: Session) -> Option<TagNumber>
         ensures { IsDue self.now session result }
     {
         let session = session.get();
@@ -143,7 +135,7 @@ impl Waiting {
     }
 
     /// Counts down the slot counters of all tags that wait in this session at once: moves the base of the session.
-    pub fn count_down(&mut self, session: Session)
+    pub(crate) fn count_down(&mut self, session: Session)
         ensures counted { self.new ≡ map (counted_down session) self.old }
         ensures slots { AreSlots self.new }
     {

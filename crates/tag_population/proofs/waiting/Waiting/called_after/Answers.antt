@@ -1,6 +1,0 @@
-use Rattle.std.proofs.Common.{◌+◌}
-use Rattle.tag_population.proofs.SlotPlaces.{next_called}
-use Rattle.tag_population.proofs.waiting.Waiting.called_after.Goals as goal
-
-pub returns : goal.returns
-returns c = rw (← c.self.view_is) (next_called c.self.inside.bases c.self.inside.called c.self.inside.wheel (c.args.number + 1) c.next_after.result c.self.invariant.1 c.next_after.ensures)
