@@ -56,7 +56,7 @@ fn read<C: LineCode>(trext: bool, levels: &[bool], out: &mut Bits) -> Result<(),
     let mut behind = &levels[lead..];
     while let Some(sixteen) = next_sixteen::<C>(mark, behind) {
         let bits = sixteen.0;
-        out.put_all_reserved(&bits);
+        put_bits(&bits, out);
         mark = sixteen.1;
         behind = &behind[16 * C::CHIPS as usize..];
     }
@@ -138,4 +138,15 @@ fn next_sixteen<C: LineCode>(mark: C::Mark, levels: &[bool]) -> Option<([bool; 1
         return None;
     }
     C::sixteen_bits(mark, &levels[..chips])
+}
+
+/// Puts the bits to the end of `out`, one by one, which the compiler does in place.
+fn put_bits(bits: &[bool], out: &mut Bits)
+    requires { length out.old.items + length bits.now ≤ out.old.capacity }
+    ensures items { out.new.items ≡ out.old.items ++ bits.now }
+    ensures capacity { out.new.capacity ≡ out.old.capacity }
+{
+    for bit in bits {
+        out.push_reserved(*bit);
+    }
 }

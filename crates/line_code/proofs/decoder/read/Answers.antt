@@ -6,7 +6,6 @@ use Rattle.line_code.specs.States.{Reads, HasBlocks, LastIs, context_after}
 use Rattle.line_code.specs.Stream.{Streams, stream_of, blocks}
 use Rattle.line_code.specs.Table.{Context, Table}
 use Rattle.line_code.specs.laws.Reading.{has_more, reads_between}
-use Rattle.line_code.proofs.Writing.{capacity_of}
 use Rattle.line_code.proofs.Steps.{one_more, block_more}
 use Rattle.bit_strings.specs.laws.Family.{bad-in_front}
 use Rattle.bit_strings.specs.BitString.{BitString}
@@ -33,12 +32,12 @@ behind levels at = take_all (length levels - at) (drop at levels) (omega (arith,
 
 -- what is read, and the blocks of more bits behind it
 taken : (t : Table) (trext : Bool) (levels : List Bool) (context : Context) (before out new : BitString) (at : ℕ) (next : BlocksAt t context levels at)
-    → HasRead t trext levels at context before out → at + next.count ≤ length levels → new ≡ record out { items = out.items ++ next.more }
+    → HasRead t trext levels at context before out → at + next.count ≤ length levels → new.items ≡ out.items ++ next.more → new.capacity ≡ out.capacity
     → HasRead t trext levels (at + next.count) (context_after t context next.more) before new
-taken t trext levels context before out new at next read within put = record {
+taken t trext levels context before out new at next read within items capacity = record {
   within = within;
-  has = rw put (goes_on t trext context levels out.items at read.has next);
-  same = capacity_of new out _ put ∙ read.same;
+  has = rw items (goes_on t trext context levels out.items at read.has next);
+  same = capacity ∙ read.same;
 }
 
 -- there is room for as many bits as their blocks have levels
@@ -75,8 +74,8 @@ loop-sixteen-init g c =
     } in
     begins_at t c.args.trext levels _ _ c.args.out.now c.args.out.now at read (behind levels at)
 
-pub put_all_reserved-requires : goal.put_all_reserved-requires
-put_all_reserved-requires g c =
+pub put_bits-requires : goal.put_bits-requires
+put_bits-requires g c =
     let code : CodeTable = record { table = g.C.LineCode.table; chips = g.C.LineCode.CHIPS; even = g.met.C.LineCode.even; tells = g.met.C.LineCode.tells_bits } in
     let levels = c.args.levels.now in
     let loop = c.loop-sixteen.invariant in
@@ -96,7 +95,7 @@ loop-sixteen-preserved g c =
     let count = 16 * g.C.LineCode.CHIPS in
     let within : at + count ≤ length levels = let place = loop.place in let next = some.1 in omega arith in
     let next : BlocksAt t (g.C.LineCode.context_of c.loop-sixteen.mark) levels at = record { count = count; more = c.in-Some.sixteen.0; levels_are = ap (take count) (sym loop.are) ∙ some.2 } in
-    let read = taken t c.args.trext levels _ c.args.out.now c.loop-sixteen.out _ at next loop.read within c.put_all_reserved.ensures in
+    let read = taken t c.args.trext levels _ c.args.out.now c.loop-sixteen.out _ at next loop.read within c.put_bits.ensures.items c.put_bits.ensures.capacity in
     let further : drop count rest ≡ drop (at + count) levels = ap (drop count) loop.are ∙ drop-drop count at levels ∙ ap (λ (n : ℕ). drop n levels) (omega arith) in
     rw (c.CHIPS.ensures, some.3) (begins_at t c.args.trext levels _ _ c.args.out.now _ (at + count) read (behind rest count ∙ further))
 
