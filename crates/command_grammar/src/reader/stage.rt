@@ -14,7 +14,7 @@ use crate::reader::field_steps::{take_bit, take_ebv, take_pair, take_second, tak
 use crate::reader::fields::Fields;
 use crate::reader::known_bits::{KnownBits, take_known};
 use crate::refusal::Reason;
-use bit_strings::EbvFront;
+use bit_strings::{EbvFront, EbvStep};
 
 /// A field of one bit whose value is kept: DR, TRext or Target of a Query (6.3.2.11.2.1).
 #[derive(Clone, Copy)]
@@ -182,8 +182,8 @@ impl Stage {
         }
     }
 
-    /// Takes a bit inside a mask or bits that are known, or the first one of two or three, and gives whether it did. The last
-    /// bit of these isn't taken, nor one that differs from the known one, nor one elsewhere, as in a number.
+    /// Takes a bit inside a mask, an extensible bit vector or bits that are known, or the first one of two or three, and gives
+    /// whether it did. The last bit of these isn't taken, nor one that is refused, nor one elsewhere, as in a number.
     #[inline(always)]
     pub(crate) fn take_inside(&mut self, bit: bool, fields: &mut Fields) -> bool
         requires sound { AreFieldsInRange self.old fields.old }
@@ -207,11 +207,8 @@ impl Stage {
                 *front = TripleFront::One(bit);
                 true
             }
-            Stage::Bit(_)
-            | Stage::Pair(..)
-            | Stage::Triple(..)
-            | Stage::Number(_)
-            | Stage::Ebv(_) => false,
+            Stage::Ebv(front) => take_ebv_inside(front, bit),
+            Stage::Bit(_) | Stage::Pair(..) | Stage::Triple(..) | Stage::Number(_) => false,
         }
     }
 
@@ -262,4 +259,20 @@ fn take_mask_inside(behind: &mut u32, bit: bool, fields: &mut Fields) -> bool
     fields.mask.push_reserved(bit);
     *behind -= 1;
     true
+}
+
+/// Takes the next bit of an extensible bit vector where it goes on behind it, and gives whether it did.
+fn take_ebv_inside(front: &mut EbvFront, bit: bool) -> bool
+    ensures reads { IsTrue result → (fields : Fields) (rest : List Bool)
+        → stage_from (stages.Ebv front.old) fields (bit ∷ rest)
+        ≡ stage_from (stages.Ebv front.new) fields rest }
+    ensures same { IsFalse result → front.new ≡ front.old }
+{
+    match front.take(bit) {
+        EbvStep::More(more) => {
+            *front = more;
+            true
+        }
+        EbvStep::Value(_) | EbvStep::NotShortest | EbvStep::TooLong => false,
+    }
 }
