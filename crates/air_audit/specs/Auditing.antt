@@ -154,7 +154,7 @@ abbrev pub Lists : Option (ℕ × List ℕ) → Record → Type 0
 Lists None sent = listed_by sent ≡ []
 Lists (Some pair) sent = listed_by sent ≡ record { round = sent.round; slot = sent.slot; pc = pair.0; epc = pair.1 } ∷ []
 
--- where a trace stands behind the line of the next tag, or the last line
+-- where an auditor stands behind the line of the next tag, or the last line of a trace
 abbrev pub position_behind : ℕ → Option TagValue → Position
 position_behind told None = positions.Ended
 position_behind told (Some tag) = positions.Telling (told + 1)

@@ -33,7 +33,7 @@ place_of_command place (commands.QueryRep session) = next_slot place.round place
 place_of_command place (commands.QueryAdjust session updn) = next_slot place.round place.slot
 place_of_command place command = place
 
--- that of the latest record
+-- the place in a round of the latest record of a trace
 abbrev pub place_in : List Item → Place
 place_in [] = record { round = 0; slot = 0 }
 place_in (befell event number ∷ past) = place_in past

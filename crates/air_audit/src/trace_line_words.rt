@@ -22,7 +22,7 @@ pub(crate) enum Word {
     Other,
 }
 
-/// What this word says.
+/// What this word says as the first field of a line of a trace.
 fn word_of(word: &[u8]) -> Word
     ensures { result ≡ word_of word.now }
 {

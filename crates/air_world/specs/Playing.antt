@@ -75,7 +75,8 @@ pub record StandsAt {A : Type 0} (hears : A → List ReportLine → A → Type 0
   pub at : RunIsAt begun.start begun.earlier past air run
   pub heard : hears begun.first (lines_to_tell begun.start past) report
 
--- ... or the run was cut off by the first fault of the listener, which has heard a front of these lines
+-- the air, the run and its listener stand behind a past, or the run was cut off by the first fault of the listener, which has heard a front
+-- of the lines of that past
 abbrev pub StandsOrFails : {A T : Type 0} → (A → List ReportLine → A → Type 0) → (A → Option PlayFault) → Result T PlayFault → Begun A → (past : List Item) → AirValue → RunValue → A → Type 0
 StandsOrFails hears failed result begun past air run report =
     EndsOrFails result (StandsAt hears begun past air run report) (IsCutOff hears failed begun.first report (lines_to_tell begun.start past))

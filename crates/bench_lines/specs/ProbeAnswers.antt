@@ -48,12 +48,12 @@ abbrev pub probe_answer_line : ℕ → Option Sent → List ℕ
 probe_answer_line number None = line_with (codes "answer" ∷ decimal number ∷ codes "-" ∷ [])
 probe_answer_line number (Some sent) = line_with (codes "answer" ∷ decimal number ∷ answer_preamble_word sent.extended ∷ reply_line sent.reply ∷ [])
 
--- a cover, or none
+-- the cover of a tag as a field of a probe's answer, or a hyphen
 abbrev pub cover_word : Option ℕ → List ℕ
 cover_word None = codes "-"
 cover_word (Some cover) = hex_word cover
 
--- a first half with the password that it is a half of, or none
+-- the first half of a password that a tag holds, as a field of a probe's answer with the password's name, or a hyphen
 abbrev pub password_word : Password → List ℕ
 password_word passwords.Kill = codes "kill-"
 password_word passwords.Access = codes "access-"
@@ -62,7 +62,7 @@ abbrev pub half_word : Option Half → List ℕ
 half_word None = codes "-"
 half_word (Some half) = password_word half.password ++ hex_word half.value
 
--- the numbers of a state
+-- the fields of a probe's answer that tell the numbers of the tag's state
 abbrev pub number_fields : StateNumbers → List (List ℕ)
 number_fields numbers.None = []
 number_fields (numbers.Waiting session q slot) = decimal session ∷ decimal q ∷ decimal slot ∷ []

@@ -23,7 +23,7 @@ abbrev pub seen_fields : Option Seen → List (List ℕ)
 seen_fields None = seen_mark_word Silent ∷ []
 seen_fields (Some seen) = answer_preamble_word seen.extended ∷ reply_fields seen.reply
 
--- The numbers of a reply are in the ranges of their fields. An EPC may have another length than its PC says.
+-- The numbers of a reply that a log says was seen are in the ranges of their fields. An EPC may have another length than its PC says.
 abbrev pub IsSeen : Option Seen → Type 0
 IsSeen seen = IfSome seen (λ it. IsReplyForm it.reply)
 

@@ -31,7 +31,7 @@ use tag_machine::{AnyTag, Heard, Steps, answers_are_replies, expectation_of, has
 /// Room for the bits of a line and for those of a reply.
 const ROOM: u32 = 8_240;
 
-/// How many bytes wait until they are written together.
+/// How many bytes of a probe's answers wait until they are written together.
 const PAGE_BYTES: usize = 4_096;
 
 /// Room for a page and for what comes behind it before it is written: the words of a Read of a whole bank, or the four banks of a tag.

@@ -114,7 +114,7 @@ bits_of_bank banks.User = true ∷ true ∷ []
 abbrev pub with_crc5 : List Part → List Part
 with_crc5 parts = parts ++ named_field reasons.Crc5 (crc5_of (bits_of parts))
 
--- ... by the CRC-16
+-- Annex F: the CRC-16 stands last and is computed over the bits before it
 abbrev pub with_crc16 : List Part → List Part
 with_crc16 parts = parts ++ named_field reasons.Crc16 (crc16_of (bits_of parts))
 

@@ -47,7 +47,7 @@ abbrev pub all_request_kinds : List RequestKind
 all_request_kinds =
     UriKind ∷ SgtinKind ∷ CommandKind ∷ PieKind ∷ ReplyKind ∷ HeardKind ∷ SamplesKind ∷ StreamKind Fm0 ∷ StreamKind M2 ∷ StreamKind M4 ∷ StreamKind M8 ∷ []
 
--- ... so each kind is the first of them with its word
+-- each kind of decode lines is the first of all kinds with its word
 pub request_kind_found : EachFound request_word all_request_kinds
 request_kind_found (StreamKind Fm0) = refl
 request_kind_found (StreamKind M2) = refl

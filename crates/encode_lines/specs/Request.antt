@@ -56,7 +56,7 @@ kind_word HeardKind = codes "heard"
 abbrev pub all_kinds : List LineKind
 all_kinds = StreamKind Fm0 ∷ StreamKind M2 ∷ StreamKind M4 ∷ StreamKind M8 ∷ PieKind ∷ CommandKind ∷ ReplyKind ∷ HeardKind ∷ []
 
--- ... so each kind is the first of them with its word
+-- each kind of encode lines is the first of all kinds with its word
 pub kind_found : EachFound kind_word all_kinds
 kind_found (StreamKind Fm0) = refl
 kind_found (StreamKind M2) = refl

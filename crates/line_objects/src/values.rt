@@ -36,7 +36,7 @@ pub fn spelled_number(field: &[u8]) -> Option<u64>
     }
 }
 
-/// The number that a field spells, if it spells one.
+/// The number that a field of a line spells, for an object, if it spells one.
 pub(crate) fn number_in(field: &[u8]) -> Option<u64>
     ensures { result ≡ number_in field.now }
 {

@@ -49,14 +49,14 @@ most_behind (draws.Turn session) own q slot most = most
 most_behind draws.Number own q slot most = most
 most_behind draws.Nothing own q slot most = most
 
--- ... from the numbers that the state of the tag holds
+-- the largest slot that a silent tag may have, from the numbers that its state holds
 abbrev pub slots_told : Draws → StateNumbers → Option ℕ → Option ℕ
 slots_told drawn numbers.None most = None
 slots_told drawn (numbers.Waiting session q slot) most = most_behind drawn session q slot most
 slots_told drawn (numbers.Replied session q rn) most = None
 slots_told drawn (numbers.Held held) most = None
 
--- ... and from its state
+-- the largest slot that a silent tag may have, from its state
 abbrev pub slots_behind : Draws → StateValue → Option ℕ → Option ℕ
 slots_behind drawn state most = slots_told drawn (numbers_of state) most
 
@@ -68,7 +68,7 @@ falls_in_turn session answered (numbers.Waiting own q slot) most = (if own == se
 falls_in_turn session answered (numbers.Replied own q rn) most = None
 falls_in_turn session answered (numbers.Held held) most = None
 
--- ... behind a command, by what it may draw there
+-- the largest slot that a silent tag may have behind a command at which slots fall, by what it may draw there
 abbrev pub fallen : Draws → Bool → StateNumbers → Option ℕ → Option ℕ
 fallen (draws.Slot session) answered held_numbers most = None
 fallen (draws.Turn session) answered held_numbers None = None
@@ -88,7 +88,7 @@ want_told session answered (numbers.Waiting own q slot) = (if not answered && ha
 want_told session answered (numbers.Replied own q rn) = (if answered then rn16_wanted (q == 0) else Nothing)
 want_told session answered (numbers.Held held) = Nothing
 
--- ... by the answer and the state behind the command
+-- what had to be answered to a command at which a tag draws its slot, by the answer and the state behind the command
 abbrev pub want_of_slot : ℕ → Option Seen → StateValue → Want
 want_of_slot session answer state = want_told session (is_some answer) (numbers_of state)
 
@@ -97,7 +97,7 @@ abbrev pub comes_now : Option ℕ → Bool
 comes_now None = true
 comes_now (Some most) = most == 1
 
--- an RN16 in the tag's turn, now or later
+-- what had to be answered where the tag's turn may come: an RN16, now or later
 abbrev pub want_in_turn : Option ℕ → Want
 want_in_turn most = rn16_wanted (comes_now most)
 

@@ -34,7 +34,7 @@ pub record IsInFirstSlot (state : StateValue) (most : ℕ) : Type 0 where
   pub is : state ≡ ArbitrateState session q 1
   pub least : 1 ≤ most
 
--- ... where its slot may be any
+-- the tag has slot 1 of those that it may have, where its slot may be any
 abbrev pub HasFirstSlot : Option ℕ → StateValue → Type 0
 HasFirstSlot None state = Unit {0}
 HasFirstSlot (Some most) state = IsInFirstSlot state most

@@ -30,7 +30,7 @@ abbrev pub takes_second : Password → ℕ → ℕ → Bool
 takes_second passwords.Kill both password = false
 takes_second passwords.Access both password = password == both
 
--- ... as a first half any, and as a second one where it makes the password whole
+-- 6.3.2.11.3.6 Access: a half of the access password is taken as a first half whatever it is, and as a second one where it makes the password whole
 abbrev pub takes_half : Option Half → ℕ → ℕ → Bool
 takes_half None value password = true
 takes_half (Some half) value password = takes_second half.password (whole_of half.value value) password
@@ -61,7 +61,7 @@ answers_held (commands.Access covered rn) held password = held.handle == rn && t
 answers_held (commands.BlockWrite bank pointer words rn) held password = held.handle == rn && is_none held.half
 answers_held (commands.BlockErase bank pointer count rn) held password = held.handle == rn && is_none held.half
 
--- ... and in no other state
+-- a command that a tag need not have is answered in open and secured, and in no other state
 abbrev pub answers_with : Command → StateNumbers → ℕ → Bool
 answers_with command numbers.None password = false
 answers_with command (numbers.Waiting session q slot) password = false

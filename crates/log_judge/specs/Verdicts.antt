@@ -24,7 +24,7 @@ pub record IsRn16 (answer : Option Seen) : Type 0 where
   pub range : number < 2 ^ 16
   pub is : answer ≡ Some (record { reply = Rn16 number; extended = false })
 
--- ... a handle or a cover
+-- the answer is a handle or a cover
 pub record IsHandle (answer : Option Seen) : Type 0 where
   pub number : ℕ
   pub range : number < 2 ^ 16

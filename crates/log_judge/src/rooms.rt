@@ -64,7 +64,7 @@ impl Rooms {
         tag
     }
 
-    /// Lets a tag hear a command, of whose answer nothing is kept.
+    /// Lets the tag of a log hear a command, of whose answer nothing is kept.
     pub(crate) fn hear_unheard<L: Ledger>(
         &mut self,
         tag: AnyTag,

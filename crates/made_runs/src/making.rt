@@ -59,7 +59,7 @@ fn draw_words(alloc: Global, generator: &mut Lcg64Xsh32) -> Result<DrawWords, Ou
     DrawWords::new(alloc, words.as_slice())
 }
 
-/// A list of these words.
+/// A list of these words, for a made tag.
 fn word_list(alloc: Global, words: &[u16]) -> Result<List<u16>, OutOfMemory>
     requires { length words.now < 2 ^ 32 }
     ensures { IfOk result (λ list. list ≡ words.now) }

@@ -31,7 +31,7 @@ result_value results.Silent = []
 result_value results.Broken = []
 result_value results.Denied = []
 
--- a number as a value
+-- a count as a JSON value
 abbrev pub count_value : ℕ → Data
 count_value count = number (unsigned count)
 

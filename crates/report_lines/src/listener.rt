@@ -31,7 +31,7 @@ pub trait Listener {
             → is_of_exchanges line ≡ true
             → hears first lines self.now → hears first (lines ++ line ∷ []) self.now };
 
-    /// Whether a line that a trace alone has may make a difference. Where not, nobody has to tell it.
+    /// Whether a line that a trace alone has may make a difference to this listener. Where not, nobody has to tell it.
     fn wants_frames(&self) -> bool
         ensures { IsFalse result → (first : Self) (lines : List ReportLine) (line : ReportLine)
             → is_of_trace line ≡ true

@@ -7,7 +7,7 @@ use pie_line::Intervals;
 use pie_text::read_numbers;
 use text_fields::FieldsFault;
 
-/// How many intervals a line has at most.
+/// How many intervals a `tx` line has at most.
 pub const MOST_INTERVALS: u32 = 20_000;
 
 /// The longest interval that a tx line may have, in nanoseconds.

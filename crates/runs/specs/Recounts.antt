@@ -68,7 +68,7 @@ pub record Recount : Type 0 where
   pub target : Side
   pub sound : ℕ → Bool
 
--- the steps of the run
+-- the steps of a run of which a recount speaks: those before its rounds, the rounds, and those behind
 abbrev pub steps_with : Recount → List Step
 steps_with recount = recount.before ++ (recount.rounds ++ recount.after)
 

@@ -98,7 +98,7 @@ pub record Agrees (draft : DraftValue) (line : Line) : Type 0 where
   pub order : KeepsOrder draft.air line
   pub once : ChoosesOnce draft.air line
 
--- ... where the scenario stands
+-- what the line says agrees with where the scenario stands
 abbrev pub AgreesWith : ScenarioStanding → Line → Type 0
 AgreesWith (within draft) line = Agrees draft line
 AgreesWith standing line = Unit {0}

@@ -51,7 +51,7 @@ new_held session q handle = record { session = session; q = q; handle = handle; 
 abbrev pub first_level : BodyValue → Level
 first_level body = (if access_word_of body.memory == 0 then levels.Secured else levels.Opened)
 
--- ... and the tag answers it
+-- 6.3.2.11.3.1 Req_RN in acknowledged: the tag answers the handle that it draws
 abbrev pub give_handle : ℕ → ℕ → BodyValue → Outcome
 give_handle session q body =
     plain_answer (held_state (first_level body) (new_held session q (draw_of body))) (body_after_draw body) (Handle (draw_of body)) 0
@@ -61,7 +61,7 @@ abbrev pub give_cover : Level → Held → BodyValue → Outcome
 give_cover level held body =
     plain_answer (held_state level (record held { cover = Some (draw_of body) })) (body_after_draw body) (Handle (draw_of body)) 0
 
--- ... where the command carries the handle
+-- 6.3.2.11.3.1 Req_RN in open and secured, where the command carries the handle
 abbrev pub req_rn_outcome : Level → ℕ → Held → BodyValue → Outcome
 req_rn_outcome level rn held body = with_handle level rn held body (give_cover level held body)
 
@@ -92,7 +92,7 @@ abbrev pub unless_other_half : Password → Option Half → Outcome → Outcome 
 unless_other_half password None instead outcome = outcome
 unless_other_half password (Some half) instead outcome = (if is_password password half.password then outcome else instead)
 
--- ... by what the command brings: a half of a password, or none
+-- a first half of another password than an access command brings ends, and any where it brings none; else the command does what it does
 abbrev pub unless_ended : Option Password → Held → BodyValue → Outcome → Outcome
 unless_ended None held body outcome = unless_half held.half (back held.session held.q body) outcome
 unless_ended (Some password) held body outcome = unless_other_half password held.half (back held.session held.q body) outcome
@@ -101,7 +101,7 @@ unless_ended (Some password) held body outcome = unless_other_half password held
 abbrev pub outcome_where_heeded : ℕ → Option Password → Level → Held → BodyValue → Outcome → Outcome
 outcome_where_heeded rn brought level held body outcome = with_handle level rn held body (unless_ended brought held body outcome)
 
--- ... in each state
+-- what stands before an access command, in each state
 abbrev pub in_access : ℕ → Option Password → (Level → Held → BodyValue → Outcome) → StateValue → BodyValue → Outcome
 in_access rn brought acts state body = with_level (λ level held rest. outcome_where_heeded rn brought level held rest (acts level held rest)) state body
 
@@ -202,7 +202,7 @@ abbrev pub half_outcome : Password → Level → Option Half → ℕ → Held �
 half_outcome password level None value held body = keep_half level password value held body
 half_outcome password level (Some half) value held body = whole_outcome password level (whole_of half.value value) held body
 
--- ... where the value comes under a cover
+-- a half of a password that comes under a cover: it is kept as a first half, or completes the password
 abbrev pub password_outcome : Password → ℕ → Level → Held → BodyValue → Outcome
 password_outcome password covered level held body =
     uncover level held body covered held.cover (λ bare value. half_outcome password level bare.half value bare body)

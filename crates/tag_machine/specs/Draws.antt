@@ -31,7 +31,7 @@ close session body = silent ReadyState (body_after_inversion session body)
 abbrev pub tag_back : ℕ → ℕ → BodyValue → TagValue
 tag_back session q body = record { state = ArbitrateState session q 0; body = body }
 
--- ... without a reply
+-- BACK, without a reply
 abbrev pub back : ℕ → ℕ → BodyValue → Outcome
 back session q body = silent (ArbitrateState session q 0) body
 

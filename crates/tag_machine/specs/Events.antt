@@ -27,7 +27,7 @@ after_timeout other body = tag_at other body
 abbrev pub tag_without_power : BodyValue → TagValue
 tag_without_power body = tag_at UnpoweredState (record body { flags = flags_after_power_loss body.flags })
 
--- ... unless the tag is killed, which it stays
+-- power is lost, unless the tag is killed, which it stays
 abbrev pub after_off : StateValue → BodyValue → TagValue
 after_off KilledState body = tag_at KilledState body
 after_off other body = tag_without_power body

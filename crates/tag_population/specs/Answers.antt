@@ -21,7 +21,7 @@ pub record AnswersValue : Type 0 where
 abbrev pub answer_of : Replied → AnswerValue
 answer_of replied = record { number = replied.number; extended = replied.sent.extended; bits = bits_sent (Some replied.sent) }
 
--- ... all that they sent
+-- what tags sent, as answers
 abbrev pub answers_of : List Replied → List AnswerValue
 answers_of replies = map answer_of replies
 
@@ -33,7 +33,7 @@ answer_value_of answer = record { number = answer.number; extended = answer.exte
 abbrev pub answer_kept : List Bool → Kept → AnswerValue
 answer_kept bits kept = record { number = kept.number; extended = kept.extended; bits = take (kept.end - kept.start) (drop kept.start bits) }
 
--- ... all that are kept
+-- all answers that are kept
 abbrev pub answers_kept : List Bool → List Kept → List AnswerValue
 answers_kept bits kept = map (answer_kept bits) kept
 

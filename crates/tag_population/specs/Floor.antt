@@ -59,7 +59,7 @@ participation_in (SecuredState held) = Some Called
 participation_in KilledState = None
 participation_in UnpoweredState = None
 
--- ... for each tag
+-- how each tag takes part in its state
 abbrev pub participations_of : List TagValue → List (Option Participation)
 participations_of tags = map (λ tag. participation_in tag.state) tags
 

@@ -36,7 +36,7 @@ reach_of other = CalledOnly
 abbrev pub outcome_reached : Bool → Bool → Command → TagValue → Outcome
 outcome_reached reached misses command tag = if reached then outcome_unless misses command tag else silent tag.state tag.body
 
--- ... for each of the tags that are numbered from a number on, and take part so
+-- what comes of a command for each of the tags that are numbered from a number on, and take part so
 abbrev pub reached_from : ℕ → Command → Entry → List (Option Participation) → List TagValue → List Outcome
 reached_from number command entry [] tags = []
 reached_from number command entry (part ∷ parts) [] = []
@@ -47,7 +47,7 @@ reached_from number command entry (part ∷ parts) (tag ∷ tags) =
 abbrev pub steps_of : Reach → Option Participation → ℕ
 steps_of reach part = if is_reached reach part then 1 + steps_back part else 0
 
--- ... of all
+-- how many steps it takes to have all tags that are reached hear a command
 abbrev pub reach_steps : Reach → List (Option Participation) → ℕ
 reach_steps reach [] = 0
 reach_steps reach (part ∷ parts) = steps_of reach part + reach_steps reach parts

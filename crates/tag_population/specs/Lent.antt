@@ -11,6 +11,6 @@ use Rattle.tag_machine.specs.TagValue.{TagValue}
 abbrev pub KeepsFloor : MutBor FloorValue → Fml
 KeepsFloor lender = follows_so floor.the_row floor.the_row lender.ghost_name none (λ _ _. ⊤) (λ after. after ≡ lender.now)
 
--- ... and so is the population
+-- the population is as it was when the loan of its tag ends
 abbrev pub KeepsPopulation : MutBor (List TagValue) → Fml
 KeepsPopulation lender = follows_so population.the_row population.the_row lender.ghost_name none (λ _ _. ⊤) (λ after. after ≡ lender.now)

@@ -85,7 +85,7 @@ abbrev pub participation_on : List ℕ → Option ℕ → Option Participation
 participation_on bases None = None
 participation_on bases (Some place) = Some (participation_there bases place)
 
--- ... for each tag
+-- how each tag takes part that stands on a place, or on none
 abbrev pub participations_on : List ℕ → List (Option ℕ) → List (Option Participation)
 participations_on bases places = map (λ place. participation_on bases place) places
 

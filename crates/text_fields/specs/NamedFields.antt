@@ -43,7 +43,7 @@ pub record HaveShape {K V : Type 0} (words : Vocabulary K V) (fields : List (Lis
   pub first : fields ≡ words.name named ∷ behind
   pub filled : AreFilled (words.count named) behind
 
--- the first reason for which fields spell no value
+-- the first reason for which named fields of a line spell no value
 abbrev pub AreFaulty : {K V : Type 0} → Vocabulary K V → (V → Type 0) → List (List ℕ) → FieldsFault → Type 0
 AreFaulty words IsInRange fields Word = NameNothing words fields
 AreFaulty words IsInRange fields Shape = (¬ NameNothing words fields) × (¬ HaveShape words fields)

@@ -48,7 +48,7 @@ first_refused number next (line ∷ later) = if is_refused next line then Some n
 abbrev pub portal_fault : Scenario → Option ℕ
 portal_fault scenario = first_refused 1 2 (scenario_lines scenario)
 
--- how many lines stand before those of the tags
+-- how many lines of a scenario stand before those of its tags
 abbrev pub head_length : Version → ℕ
 head_length One = 2
 head_length Two = 3

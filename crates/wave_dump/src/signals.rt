@@ -37,7 +37,7 @@ fn same_level(one: Option<bool>, other: Option<bool>) -> bool
     }
 }
 
-/// Two texts are the same.
+/// Whether two texts of a dump are the same, so that their signal doesn't change.
 fn same_text(one: &str, other: &str) -> bool
     ensures { result ≡ same_text one.now other.now }
 {

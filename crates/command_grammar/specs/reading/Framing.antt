@@ -98,7 +98,7 @@ Keeps state count (Some refusal) bits = IsCommandRefusedAt bits refusal.0 refusa
 abbrev pub FramerStandsFor : FramerValue → List Bool → Type 0
 FramerStandsFor value bits = Keeps value.state value.pushed value.refused bits
 
--- the refusal that an answer tells
+-- the refusal of a command that the answer of a Framer tells
 abbrev pub refusal_in : Pushed → Option (ℕ × Reason)
 refusal_in pushed.More = None
 refusal_in pushed.Whole = None

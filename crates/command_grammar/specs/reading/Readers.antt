@@ -58,7 +58,7 @@ pub data Choice (A : Type 0) : Type 0 where
   none : Choice A
   fork : Choice A → Choice A → Choice A
 
--- what the next bit leaves of it
+-- what the next bit leaves of a choice between values that bits spell
 abbrev pub child : {A : Type 0} → Choice A → Bool → Choice A
 child (pick a) bit = pick a
 child none bit = none
@@ -113,7 +113,7 @@ with_value [] value t = pick value
 with_value (bit ∷ bits) value (fork zeros ones) = if bit then fork zeros (with_value bits value ones) else fork (with_value bits value zeros) ones
 with_value (bit ∷ bits) value t = if bit then fork none (with_value bits value none) else fork (with_value bits value none) none
 
--- these kinds, each by its code
+-- these kinds of commands, each by its code
 abbrev pub kinds_by_code : List CommandKind → Choice CommandKind
 kinds_by_code [] = none
 kinds_by_code (kind ∷ others) = with_value (code_of kind) kind (kinds_by_code others)

@@ -49,7 +49,7 @@ outcome_from (Gives state body) words place =
 abbrev pub take_kind : Sel → ℕ → Side → ℕ → BodyValue → Kind
 take_kind sel session target q body = (if matches sel session target body.flags then Enters session q body else Settled (silent ReadyState body))
 
--- ... in each state; a tag that was inventoried in the session closes first
+-- 6.3.2.11.2.1 Query in each state: a tag that was inventoried in the session closes first
 abbrev pub query_kind : Sel → ℕ → Side → ℕ → StateValue → BodyValue → Kind
 query_kind sel session target q ReadyState body = take_kind sel session target q body
 query_kind sel session target q (ArbitrateState own own_q slot) body = take_kind sel session target q body
@@ -65,7 +65,7 @@ abbrev pub count_kind : ℕ → ℕ → ℕ → BodyValue → Kind
 count_kind session q slot body =
     (if slot_below slot == 0 then Replies session q body else Settled (silent (ArbitrateState session q (slot_below slot)) body))
 
--- ... in each state
+-- 6.3.2.11.2.3 QueryRep in each state
 abbrev pub rep_kind : ℕ → StateValue → BodyValue → Kind
 rep_kind session ReadyState body = Settled (silent ReadyState body)
 rep_kind session (ArbitrateState own q slot) body =
@@ -142,13 +142,13 @@ pub data ArbitrateMove : Type 0 where
   -- it falls by 1, in a round of this session
   Counts : (session : ℕ) → ArbitrateMove
 
--- ... where it has this slot
+-- what a command does to a tag in arbitrate that has this slot
 abbrev pub kind_at : ArbitrateMove → ℕ → ℕ → BodyValue → ℕ → Kind
 kind_at Stays session q body slot = Settled (silent (ArbitrateState session q slot) body)
 kind_at (Leaves kind) session q body slot = kind
 kind_at (Counts other) session q body slot = count_kind other q slot body
 
--- ... by the command, in a round of this session and Q
+-- what a command does to a tag in arbitrate, in a round of this session and Q
 abbrev pub move_of : Option Command → ℕ → ℕ → BodyValue → ArbitrateMove
 move_of None own q body = Stays
 move_of (Some (commands.QueryRep session)) own q body = (if own == session then Counts session else Stays)
@@ -177,7 +177,7 @@ HasSmallQ (SecuredState held) = held.q ≤ 15
 HasSmallQ KilledState = Unit {0}
 HasSmallQ UnpoweredState = Unit {0}
 
--- ... behind a command of this kind
+-- Q stays in its range behind a command of this kind
 abbrev pub KeepsSmallQ : Kind → Type 0
 KeepsSmallQ (Settled outcome) = HasSmallQ outcome.tag.state
 KeepsSmallQ (Enters session q body) = q ≤ 15

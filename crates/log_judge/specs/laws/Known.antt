@@ -75,14 +75,14 @@ abbrev pub want_of_answer : Option Seen → Want
 want_of_answer None = Nothing
 want_of_answer (Some seen) = Exactly seen
 
--- ... by the kind of the command
+-- what has to be answered to a command of this kind
 abbrev pub want_of_kind : Kind → Want
 want_of_kind (Settled outcome) = want_of_answer (seen_of outcome.answer)
 want_of_kind (Enters session q body) = (if q == 0 then AnyRn16 else NothingOrAnyRn16)
 want_of_kind (Replies session q body) = AnyRn16
 want_of_kind (Gives state body) = AnyHandle
 
--- ... in arbitrate, where the slot may be any up to this
+-- what has to be answered in arbitrate, where the slot may be any up to this
 abbrev pub want_of_move : ArbitrateMove → ℕ → Want
 want_of_move Stays most = Nothing
 want_of_move (Leaves kind) most = want_of_kind kind

@@ -25,7 +25,7 @@ number_of_reply (Words words) = 0
 number_of_reply Header = 0
 number_of_reply (Error code) = 0
 
--- ... of what was seen, 0 of nothing
+-- the number of an RN16 or of a handle that was seen, 0 where nothing was
 abbrev pub number_seen : Option Seen → ℕ
 number_seen None = 0
 number_seen (Some seen) = number_of_reply seen.reply
@@ -40,7 +40,7 @@ abbrev pub IsLegalEntry : LogEntry → Type 0
 IsLegalEntry (Exchange heard seen) = IsLegalExchange heard seen
 IsLegalEntry (Befalls event) = Unit {0}
 
--- ... of each entry of a log
+-- the numbers of each entry of a log are in their ranges
 abbrev pub IsLegalLog : List LogEntry → Type 0
 IsLegalLog log = AllByRecursion IsLegalEntry log
 

@@ -15,11 +15,11 @@ use Rattle.tag_machine.specs.Inventory.{body_after_close, slot_below, q_after_ad
 abbrev pub draws_to_enter : ℕ → BodyValue → ℕ
 draws_to_enter q body = (if slot_of_draw q body == 0 then 2 else 1)
 
--- a tag that a Query speaks to does ENTER
+-- how many words a tag draws at a Query: as many as at ENTER where it speaks to the tag, else none
 abbrev pub draws_to_take_part : Sel → ℕ → Side → ℕ → BodyValue → ℕ
 draws_to_take_part sel session target q body = (if matches sel session target body.flags then draws_to_enter q body else 0)
 
--- ... a Query, in each state
+-- how many words a tag draws at a Query, in each state
 abbrev pub query_draws : Sel → ℕ → Side → ℕ → StateValue → BodyValue → ℕ
 query_draws sel session target q ReadyState body = draws_to_take_part sel session target q body
 query_draws sel session target q (ArbitrateState own own_q slot) body = draws_to_take_part sel session target q body

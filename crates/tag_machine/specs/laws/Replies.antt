@@ -55,7 +55,7 @@ IsReadReply count (Epc pc epc) = ⊥
 IsReadReply count (Handle rn) = ⊥
 IsReadReply count Header = ⊥
 
--- ... with the handle that the Read carries
+-- the answer to a Read of so many words carries the handle of the Read
 pub record IsReadAnswer (count rn : ℕ) (state : StateValue) (sent : Sent) : Type 0 where
   pub number : rn_or_handle_of state ≡ Some rn
   pub reply : IsReadReply count sent.reply
@@ -68,7 +68,7 @@ IsHeaderOrError Header = Unit {0}
 IsHeaderOrError (Error code) = Unit {0}
 IsHeaderOrError other = ⊥
 
--- ... with the handle that the command carries
+-- the answer to a command that changes memory or locks, or kills, carries the handle of the command
 pub record IsDelayedAnswer (rn : ℕ) (state : StateValue) (sent : Sent) : Type 0 where
   pub number : rn_or_handle_of state ≡ Some rn
   pub reply : IsHeaderOrError sent.reply

@@ -13,7 +13,7 @@ abbrev pub end_line : Bool → List ℕ
 end_line true = codes "end quiet"
 end_line false = codes "end limit"
 
--- the lines of a summary
+-- the lines of the summary that `gen` writes
 abbrev pub summary_lines : Summary → List (List ℕ)
 summary_lines summary =
     (codes "tags " ++ decimal summary.tags) ∷ (codes "listed " ++ decimal summary.listed) ∷ (codes "distinct " ++ decimal summary.distinct)

@@ -44,7 +44,7 @@ impl Page {
         self.bytes.remaining_capacity()
     }
 
-    /// Adds bytes for which there is room.
+    /// Adds bytes for which the page has room.
     fn add(&mut self, piece: &[u8])
         requires { length self.old + length piece.now ≤ 4096 }
         ensures { self.new ≡ self.old ++ piece.now }
