@@ -24,10 +24,6 @@ pub nothing_more : (fields : List (List ℕ)) → AreFilled 0 fields → fields 
 nothing_more [] are = refl
 nothing_more (field ∷ fields) are = let number = are.number in absurd (omega arith)
 
--- a field with others behind it
-abbrev behind : List ℕ → List (List ℕ) → List (List ℕ)
-behind field fields = field ∷ fields
-
 -- a field is there, and behind it one less
 pub some_field : (count : ℕ) (fields : List (List ℕ)) → AreFilled (suc count) fields
     → ((a : List ℕ) (rest : List (List ℕ)) → fields ≡ a ∷ rest → Filled a → AreFilled count rest → ⊥) → ⊥
@@ -44,29 +40,29 @@ have_1 fields are wanting =
 pub have_2 : (fields : List (List ℕ)) → AreFilled 2 fields
     → ((a b : List ℕ) → fields ≡ a ∷ b ∷ [] → Filled a → Filled b → ⊥) → ⊥
 have_2 fields are wanting =
-    some_field 1 fields are (λ a rest is ha more. have_1 rest more (λ b are_these. wanting a b (is ∙ ap (behind a) are_these) ha))
+    some_field 1 fields are (λ a rest is ha more. have_1 rest more (λ b are_these. wanting a b (is ∙ ap (λ (others : List (List ℕ)). a ∷ others) are_these) ha))
 
 pub have_3 : (fields : List (List ℕ)) → AreFilled 3 fields
     → ((a b c : List ℕ) → fields ≡ a ∷ b ∷ c ∷ [] → Filled a → Filled b → Filled c → ⊥) → ⊥
 have_3 fields are wanting =
-    some_field 2 fields are (λ a rest is ha more. have_2 rest more (λ b c are_these. wanting a b c (is ∙ ap (behind a) are_these) ha))
+    some_field 2 fields are (λ a rest is ha more. have_2 rest more (λ b c are_these. wanting a b c (is ∙ ap (λ (others : List (List ℕ)). a ∷ others) are_these) ha))
 
 pub have_4 : (fields : List (List ℕ)) → AreFilled 4 fields
     → ((a b c d : List ℕ) → fields ≡ a ∷ b ∷ c ∷ d ∷ [] → Filled a → Filled b → Filled c → Filled d → ⊥) → ⊥
 have_4 fields are wanting =
-    some_field 3 fields are (λ a rest is ha more. have_3 rest more (λ b c d are_these. wanting a b c d (is ∙ ap (behind a) are_these) ha))
+    some_field 3 fields are (λ a rest is ha more. have_3 rest more (λ b c d are_these. wanting a b c d (is ∙ ap (λ (others : List (List ℕ)). a ∷ others) are_these) ha))
 
 pub have_5 : (fields : List (List ℕ)) → AreFilled 5 fields
     → ((a b c d e : List ℕ) → fields ≡ a ∷ b ∷ c ∷ d ∷ e ∷ [] → Filled a → Filled b → Filled c → Filled d → Filled e → ⊥) → ⊥
 have_5 fields are wanting =
-    some_field 4 fields are (λ a rest is ha more. have_4 rest more (λ b c d e are_these. wanting a b c d e (is ∙ ap (behind a) are_these) ha))
+    some_field 4 fields are (λ a rest is ha more. have_4 rest more (λ b c d e are_these. wanting a b c d e (is ∙ ap (λ (others : List (List ℕ)). a ∷ others) are_these) ha))
 
 pub have_6 : (fields : List (List ℕ)) → AreFilled 6 fields
     → ((a b c d e f : List ℕ) → fields ≡ a ∷ b ∷ c ∷ d ∷ e ∷ f ∷ [] → Filled a → Filled b → Filled c → Filled d → Filled e → Filled f → ⊥) → ⊥
 have_6 fields are wanting =
-    some_field 5 fields are (λ a rest is ha more. have_5 rest more (λ b c d e f are_these. wanting a b c d e f (is ∙ ap (behind a) are_these) ha))
+    some_field 5 fields are (λ a rest is ha more. have_5 rest more (λ b c d e f are_these. wanting a b c d e f (is ∙ ap (λ (others : List (List ℕ)). a ∷ others) are_these) ha))
 
 pub have_7 : (fields : List (List ℕ)) → AreFilled 7 fields
     → ((a b c d e f g : List ℕ) → fields ≡ a ∷ b ∷ c ∷ d ∷ e ∷ f ∷ g ∷ [] → Filled a → Filled b → Filled c → Filled d → Filled e → Filled f → Filled g → ⊥) → ⊥
 have_7 fields are wanting =
-    some_field 6 fields are (λ a rest is ha more. have_6 rest more (λ b c d e f g are_these. wanting a b c d e f g (is ∙ ap (behind a) are_these) ha))
+    some_field 6 fields are (λ a rest is ha more. have_6 rest more (λ b c d e f g are_these. wanting a b c d e f g (is ∙ ap (λ (others : List (List ℕ)). a ∷ others) are_these) ha))
