@@ -7,3 +7,4 @@ pub mod FirstFault
 pub mod OneText
 pub mod SomeText
 pub mod AnsweredLines
+pub mod HandedOn

@@ -1,6 +1,5 @@
 -- The first reason for which a line may not stand here, by what is known of it.
-use Rattle.std.proofs.Common.{◌≡◌, inl, inr, ℕ, List, Result, Ok, Err, IfErr, subst, sym}
-use Rattle.std.specs.Prelude.{IsErrAnd}
+use Rattle.std.proofs.Common.{◌≡◌, inl, inr, ℕ, List}
 use Rattle.scenario_lines.specs.declared.keywords.Keyword.{Keyword}
 use Rattle.scenario_lines.specs.declared.line.Line.{Line}
 use Rattle.scenario_lines.specs.LineFaults.{BeginsWithKeyword, IsFaultyLine, SpellsLine}
@@ -23,8 +22,3 @@ module _ (standing : ScenarioStanding) (fields : List (List ℕ)) (keyword : Key
     record { keyword = keyword; begins = begins; stands = stands },
     inr (record { keyword = keyword; begins = begins; room = room }, inr (record { line = line; spells = spells; disagrees = disagrees })),
   )
-
--- what holds of the fault holds of the answer
-pub of_fault : {T F : Type 0} (P : F → Type 0) (result : Result T F) (fault : F) → IsErrAnd result (λ it. it ≡ fault) → P fault → IfErr result P
-of_fault P (Ok value) fault is holds = tt
-of_fault P (Err it) fault is holds = subst P (sym is) holds

@@ -6,7 +6,7 @@ use Rattle.checked_lines.specs.laws.ReadingOn.{NextLine}
 use Rattle.scenario.specs.Faults.{IsRefused}
 use Rattle.scenario.specs.ReaderAnswers.{IsUnfinished, SaysScenario, StandsFor, standing_of}
 use Rattle.scenario.proofs.Reader.{all_said, end_refused, line_refused, read_more, read_none}
-use Rattle.scenario.proofs.Refusals.{of_fault}
+use Rattle.checked_lines.specs.laws.HandedOn.{fault_handed_on}
 use Rattle.scenario.proofs.reading.read_lines.Goals as goal
 
 pub loop-line-init : goal.loop-line-init
@@ -16,7 +16,7 @@ pub returns-in_err-take-clause-refused : goal.returns-in_err-take-clause-refused
 returns-in_err-take-clause-refused c =
     let next : NextLine (lines_of c.loop-line.rest.now) = record { line = c.in-Some.line.now; rest = c.in-Some.behind.now; cut = c.in-Some.ensures.lines } in
     let fault = c.in_err-take.field-0.0 in
-    of_fault (IsRefused c.args.text.now) c.from_residual.result fault c.from_residual.ensures.1
+    fault_handed_on c.from_residual.result fault (IsRefused c.args.text.now) c.from_residual.ensures.1
     (line_refused c.args.text.now c.loop-line.rest.now (standing_of c.loop-line.progress) c.loop-line.number next fault c.loop-line.invariant
     c.in_err-take.ensures.refused)
 

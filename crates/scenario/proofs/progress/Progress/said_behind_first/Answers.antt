@@ -8,7 +8,8 @@ use Rattle.scenario_lines.specs.Spelling.{keyword_of}
 use Rattle.scenario.specs.Faults.{IsFaultyAt}
 use Rattle.scenario.specs.Standing.{HasRoomForLine, MayStand}
 use Rattle.scenario.specs.ReaderAnswers.{standing_of}
-use Rattle.scenario.proofs.Refusals.{of_fault, says_nothing, says_otherwise}
+use Rattle.checked_lines.specs.laws.HandedOn.{fault_handed_on}
+use Rattle.scenario.proofs.Refusals.{says_nothing, says_otherwise}
 use Rattle.scenario.proofs.progress.Progress.said_behind_first.Goals as goal
 
 pub returns-in_default-clause-refused : goal.returns-in_default-clause-refused
@@ -23,7 +24,7 @@ returns-in_err-said-clause-refused c =
     let begins = subst (λ f. BeginsWithKeyword f keyword) c.in-Some.ensures.value c.keyword-keyword.ensures.value in
     let stands : MayStand standing keyword = search rules in
     let room : HasRoomForLine standing keyword = search rules in
-    of_fault (IsFaultyAt standing fields) c.from_residual.result reason c.from_residual.ensures.1
+    fault_handed_on c.from_residual.result reason (IsFaultyAt standing fields) c.from_residual.ensures.1
     (says_nothing standing fields keyword begins stands room reason (subst (λ f. IsFaultyLine f reason) c.in-Some.ensures.value c.in_err-said.ensures.refused))
 
 pub returns-in_err-agree-clause-refused : goal.returns-in_err-agree-clause-refused
@@ -36,7 +37,7 @@ returns-in_err-agree-clause-refused c =
     let stands : MayStand standing keyword = search rules in
     let room : HasRoomForLine standing keyword = search rules in
     let cause = c.from_residual-in_err-agree in
-    of_fault (IsFaultyAt standing fields) cause.result fault cause.ensures.1
+    fault_handed_on cause.result fault (IsFaultyAt standing fields) cause.ensures.1
     (says_otherwise standing fields keyword begins stands room c.in_ok-said.said fault (subst (λ f. SpellsLine f c.in_ok-said.said) c.in-Some.ensures.value c.in_ok-said.ensures.ok)
     c.in_err-agree.ensures.disagrees)
 
