@@ -1,7 +1,7 @@
 -- How many tags groups have, and of how many exchanges something is said.
 use Rattle.std.proofs.Common.{◌≡◌, ◌+◌, ℕ, zero, suc, List, [], ◌∷◌, ◌++◌, length, ap, refl, sym, ◌∙◌}
 use Rattle.air_events.specs.declared.Entry.{Entry}
-use Rattle.scenario.specs.AirLines.{last_entry}
+use Rattle.scenario.specs.AirLinesSoFar.{last_entry}
 use Rattle.std.proofs.lemmas.List.{length-append}
 use Rattle.scenario.specs.declared.values.TagGroup.{TagGroup}
 use Rattle.scenario.specs.Groups.{copies_of, tags_of}

@@ -12,10 +12,10 @@ use Rattle.scenario_lines.specs.declared.line.Happening.TheVariants as happening
 use Rattle.scenario_lines.specs.declared.line.Line.{Line}
 use Rattle.scenario_lines.specs.declared.line.Line.TheVariants as lines
 use Rattle.scenario.specs.Limits.{most_air_lines, most_ops, most_steps, most_tags_of}
-use Rattle.scenario.specs.AirLines.{ChoosesOnce, KeepsOrder, MayFollow}
+use Rattle.scenario.specs.AirLinesSoFar.{ChoosesOnce, KeepsOrder, MayFollow}
 use Rattle.scenario.specs.Draft.{DraftValue, tag_count}
 use Rattle.scenario.specs.Standing.{HasRoomForLine, IsOfVersion, MayCopy, MayStand, NamesTag, ScenarioStanding, begun, linked, start, within}
-use Rattle.scenario.specs.StepLines.{IsBareRound, steps_of}
+use Rattle.scenario.specs.StepLinesSoFar.{IsBareRound, steps_of}
 
 -- what has to hold in one case alone
 in_case : {A B : Type 0} → Decided A → Decided B → Decided (A → B)

@@ -24,8 +24,8 @@ use Rattle.scenario.specs.declared.values.Step.TheVariants as steps
 use Rattle.scenario.specs.Limits.{most_tags_of, most_air_lines, most_ops, most_steps}
 use Rattle.scenario.specs.Draft.{DraftValue, HeadValue, new_draft, draft_after, tag_count}
 use Rattle.scenario.specs.Standing.{ScenarioStanding, start, begun, first_head, head_size, linked, second_head, within, ended, standing_after, MayStandNext, LinesLead, HasRoomForLine, MayStand, IsOfVersion, MayCopy, NamesTag}
-use Rattle.scenario.specs.AirLines.{AirLinesValue, at_exchange, with_said, with_happening, MayFollow, KeepsOrder, ChoosesOnce}
-use Rattle.scenario.specs.StepLines.{IsBareRound, StepLinesValue, steps_of, with_last, with_step}
+use Rattle.scenario.specs.AirLinesSoFar.{AirLinesValue, at_exchange, with_said, with_happening, MayFollow, KeepsOrder, ChoosesOnce}
+use Rattle.scenario.specs.StepLinesSoFar.{IsBareRound, StepLinesValue, steps_of, with_last, with_step}
 use Rattle.scenario.specs.Faults.{DisagreesBy, IsFirstUnmet}
 use Rattle.scenario.proofs.Counts.{tags_more}
 use Rattle.scenario.proofs.Settled.{not_empty, same_count}

@@ -19,11 +19,11 @@ use Rattle.scenario.specs.EntryLines.{air_lines}
 use Rattle.scenario.specs.Groups.{tags_of}
 use Rattle.scenario.specs.Limits.{IsCount, IsGroup, IsStep, most_tags_of}
 use Rattle.scenario.specs.ScenarioText.{group_line, only_lines, step_lines}
-use Rattle.scenario.specs.AirLines.{entries_of}
+use Rattle.scenario.specs.AirLinesSoFar.{entries_of}
 use Rattle.scenario.specs.Draft.{DraftValue, tag_count}
 use Rattle.scenario.specs.Faults.{IsFirstScenarioFault, IsRefused, LeadsBy, ScenarioMayEnd, scenario_rules}
 use Rattle.scenario.specs.Standing.{ScenarioStanding, ended, start, within}
-use Rattle.scenario.specs.StepLines.{steps_of}
+use Rattle.scenario.specs.StepLinesSoFar.{steps_of}
 use Rattle.scenario.specs.ReaderAnswers.{IsNotTaken, IsUnfinished, SaysScenario, StandsFor}
 use Rattle.checked_lines.specs.declared.fault.FaultReason.{FaultReason}
 use Rattle.checked_lines.specs.declared.fault.Unread.{Unread}

@@ -10,7 +10,7 @@ use Rattle.scenario_lines.specs.LineFaults.{IsFaultyLine, SpellsLine}
 use Rattle.scenario_lines.specs.Spelling.{keyword_of, line_text}
 use Rattle.checked_lines.specs.declared.fault.FaultReason.{FaultReason}
 use Rattle.checked_lines.specs.declared.fault.FaultReason.TheVariants.{Word, Order, Limit, Number, Copies, Tag, Twice}
-use Rattle.scenario.specs.AirLines.{ChoosesOnce, KeepsOrder}
+use Rattle.scenario.specs.AirLinesSoFar.{ChoosesOnce, KeepsOrder}
 use Rattle.scenario.specs.Draft.{DraftValue, tag_count}
 use Rattle.scenario.specs.Faults.{Disagrees, DisagreesAt, DisagreesBy, IsFirstUnmet, HasRoomFor, IsFaultyAt, IsFaultyInScenario, LeadsBy, MayBegin, scenario_rules}
 use Rattle.scenario.specs.Standing.{Agrees, AgreesWith, IsOfVersion, MayCopy, MayStand, MayStandNext, NamesTag, ScenarioStanding, ended, standing_after, start, within}

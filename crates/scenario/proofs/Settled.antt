@@ -32,9 +32,9 @@ use Rattle.scenario.specs.Limits.{IsCount, IsDefault, IsEntry, IsGroup, IsOpList
 use Rattle.scenario.specs.ScenarioText.{group_line, head_lines, only_lines, operation_lines, scenario_lines, step_lines}
 use Rattle.air_events.specs.Entries.{Rises, no_entry}
 use Rattle.scenario.specs.Draft.{draft_after, DraftValue, HeadValue, draft_with_group, draft_with_step, new_draft, scenario_of, tag_count}
-use Rattle.scenario.specs.AirLines.{AirLinesValue, ChoosesOnce, MayFollow, entries_of, last_entry, at_exchange, with_happening, with_said}
+use Rattle.scenario.specs.AirLinesSoFar.{AirLinesValue, ChoosesOnce, MayFollow, entries_of, last_entry, at_exchange, with_happening, with_said}
 use Rattle.scenario.specs.Standing.{MayStandNext, LinesLead, NamesTag, ScenarioStanding, standing_after, begun, ended, first_head, linked, second_head, start, within}
-use Rattle.scenario.specs.StepLines.{StepLinesValue, steps_of, with_last, with_round, with_step}
+use Rattle.scenario.specs.StepLinesSoFar.{StepLinesValue, steps_of, with_last, with_round, with_step}
 use Rattle.scenario.proofs.Counts.{tags_more}
 
 -- the lines of a draft, without the end

@@ -33,10 +33,10 @@ use Rattle.scenario.specs.EntryLines.{air_lines, choice_lines, entry_lines}
 use Rattle.scenario.specs.ScenarioText.{group_line, head_lines, only_lines, operation_lines, scenario_lines, step_lines}
 use Rattle.scenario.specs.Limits.{IsDefault, IsEntry, IsGroup, IsOpList, IsScenario, IsStep, SaysSomething, most_air_lines, most_ops, most_steps, most_tags_of}
 use Rattle.air_events.specs.Entries.{Rises, no_entry}
-use Rattle.scenario.specs.AirLines.{ChoosesOnce, entries_of, with_said}
+use Rattle.scenario.specs.AirLinesSoFar.{ChoosesOnce, entries_of, with_said}
 use Rattle.scenario.specs.Draft.{DraftValue, HeadValue, draft_with_step, new_draft, scenario_of, tag_count}
 use Rattle.scenario.specs.Standing.{MayStandNext, IsSaid, LinesLead, ScenarioStanding, standing_after, begun, ended, linked, start, within}
-use Rattle.scenario.specs.StepLines.{steps_of}
+use Rattle.scenario.specs.StepLinesSoFar.{steps_of}
 use Rattle.scenario.proofs.Counts.{tags_more}
 use Rattle.scenario.proofs.Leading.{leads_on}
 use Rattle.scenario.proofs.Settled.{last_one}

@@ -11,8 +11,8 @@ use Rattle.scenario.specs.declared.values.Step.TheVariants as steps
 use Rattle.scenario.specs.declared.values.TagGroup.{TagGroup}
 use Rattle.scenario.specs.declared.values.Scenario.{Scenario}
 use Rattle.scenario.specs.Groups.{tags_of}
-use Rattle.scenario.specs.AirLines.{AirLinesValue, entries_of, no_air_lines, with_air_line}
-use Rattle.scenario.specs.StepLines.{StepLinesValue, no_step_lines, steps_of, with_only, with_op, with_round, with_step}
+use Rattle.scenario.specs.AirLinesSoFar.{AirLinesValue, entries_of, no_air_lines, with_air_line}
+use Rattle.scenario.specs.StepLinesSoFar.{StepLinesValue, no_step_lines, steps_of, with_only, with_op, with_round, with_step}
 
 -- what the lines of a scenario's head say, which stand before all others
 pub record HeadValue : Type 0 where

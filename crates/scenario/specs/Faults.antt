@@ -11,7 +11,7 @@ use Rattle.scenario_lines.specs.LineFaults.{BeginsWithKeyword, IsFaultyLine, Spe
 use Rattle.checked_lines.specs.declared.fault.FaultReason.{FaultReason}
 use Rattle.checked_lines.specs.declared.fault.FaultReason.TheVariants.{Extra, End, Version, Word, Order, Limit, Number, Copies, Tag, Twice}
 use Rattle.checked_lines.specs.declared.fault.Unread.{Unread}
-use Rattle.scenario.specs.AirLines.{ChoosesOnce, KeepsOrder}
+use Rattle.scenario.specs.AirLinesSoFar.{ChoosesOnce, KeepsOrder}
 use Rattle.scenario.specs.Draft.{DraftValue, tag_count}
 use Rattle.scenario.specs.Standing.{ScenarioStanding, start, within, ended, HasRoomForLine, IsOfVersion, MayCopy, MayStand, MayStandNext, NamesTag, standing_after}
 

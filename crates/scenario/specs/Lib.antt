@@ -3,9 +3,9 @@ pub mod EntryLines
 pub mod Limits
 pub mod ScenarioText
 pub mod Upgraded
-pub mod TagLines
-pub mod AirLines
-pub mod StepLines
+pub mod TagLinesSoFar
+pub mod AirLinesSoFar
+pub mod StepLinesSoFar
 pub mod Draft
 pub mod Standing
 pub mod Faults

@@ -1,5 +1,5 @@
 -- Profile: which scenarios have a text.
-use Rattle.std.specs.Prelude.{◌≡◌, ◌≢◌, ℕ, ◌<◌, ◌≤◌, List, [], length, All, None, IfSome, ◌⊎◌}
+use Rattle.std.specs.Prelude.{◌≡◌, ◌≢◌, ℕ, ◌<◌, ◌≤◌, [], length, All, None, IfSome, ◌⊎◌}
 use Rattle.air_events.specs.declared.Several.{Several}
 use Rattle.air_events.specs.declared.Several.TheVariants.{Break}
 use Rattle.air_events.specs.TagNumbers.{most_tags}

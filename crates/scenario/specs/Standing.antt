@@ -15,8 +15,8 @@ use Rattle.scenario_lines.specs.LineForm.{IsLine}
 use Rattle.scenario_lines.specs.TagForm.{epc_length}
 use Rattle.scenario.specs.declared.values.Scenario.{Scenario}
 use Rattle.scenario.specs.Limits.{most_tags_of, most_air_lines, most_ops, most_steps}
-use Rattle.scenario.specs.AirLines.{ChoosesOnce, KeepsOrder}
-use Rattle.scenario.specs.StepLines.{IsBareRound, steps_of}
+use Rattle.scenario.specs.AirLinesSoFar.{ChoosesOnce, KeepsOrder}
+use Rattle.scenario.specs.StepLinesSoFar.{IsBareRound, steps_of}
 use Rattle.scenario.specs.Draft.{DraftValue, HeadValue, draft_after, new_draft, scenario_of, tag_count}
 
 -- where a scenario stands after some of its lines

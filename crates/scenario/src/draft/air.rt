@@ -1,6 +1,6 @@
 //! What the air lines of a scenario have said so far.
 ghost use Rattle.std.specs.Prelude.{◌≡◌, ◌<◌, ◌≤◌, ◌^◌, ◌↔◌, ◌++◌, length, IsTrue, IfOk, OnOk, OnErr};
-ghost use Rattle.scenario.specs.AirLines.{ChoosesOnce, KeepsOrder, at_exchange, entries_of, last_entry, no_air_lines, with_air_line, with_said};
+ghost use Rattle.scenario.specs.AirLinesSoFar.{ChoosesOnce, KeepsOrder, at_exchange, entries_of, last_entry, no_air_lines, with_air_line, with_said};
 ghost use Rattle.scenario.specs.Limits.{most_air_lines};
 
 use crate::draft::latest_entry::LatestEntry;
@@ -28,7 +28,7 @@ pub(crate) struct AirLines {
 }
 
 impl Model for AirLines {
-    ghost use Rattle.scenario.specs.AirLines.{AirLinesValue, AreFewAirLines};
+    ghost use Rattle.scenario.specs.AirLinesSoFar.{AirLinesValue, AreFewAirLines};
 
     ghost Value = { AirLinesValue };
 

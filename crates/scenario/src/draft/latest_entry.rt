@@ -1,7 +1,7 @@
 //! What is said of the exchange of the last air line, of which more may be said.
 ghost use Rattle.std.specs.Prelude.{◌≡◌, ◌<◌, ◌≤◌, ◌+◌, ◌^◌, ◌↔◌, length, None, IsTrue, OnOk};
 ghost use Rattle.air_events.specs.Entries.{no_entry};
-ghost use Rattle.scenario.specs.AirLines.{MayFollow, with_happening};
+ghost use Rattle.scenario.specs.AirLinesSoFar.{MayFollow, with_happening};
 
 use air_events::{Choice, Entry, Event};
 use bit_strings::{List, OutOfMemory};

@@ -1,7 +1,7 @@
 //! What the lines of the steps of a scenario have said so far.
 ghost use Rattle.std.specs.Prelude.{◌≡◌, ◌≢◌, ◌<◌, ◌≤◌, ◌^◌, ◌↔◌, ◌++◌, [], length, None, IsTrue, IfOk, OnOk, OnErr};
 ghost use Rattle.scenario.specs.Limits.{most_ops, most_steps, no_operations};
-ghost use Rattle.scenario.specs.StepLines.{IsBareRound, no_step_lines, steps_of, with_last, with_only, with_op, with_round, with_step};
+ghost use Rattle.scenario.specs.StepLinesSoFar.{IsBareRound, no_step_lines, steps_of, with_last, with_only, with_op, with_round, with_step};
 
 use crate::values::Step;
 use access_ops::{Op, OpList};
@@ -31,7 +31,7 @@ pub(crate) struct StepLines {
 }
 
 impl Model for StepLines {
-    ghost use Rattle.scenario.specs.StepLines.{AreFewStepLines, StepLinesValue};
+    ghost use Rattle.scenario.specs.StepLinesSoFar.{AreFewStepLines, StepLinesValue};
 
     ghost Value = { StepLinesValue };
 

@@ -38,7 +38,7 @@ impl Model for TagLines {
     ghost use Rattle.std.specs.Prelude.{◌≡◌, List, length};
     ghost use Rattle.scenario.specs.declared.values.TagGroup.{TagGroup};
     ghost use Rattle.scenario.specs.Groups.{tags_of};
-    ghost use Rattle.scenario.specs.TagLines.{AreFewTagLines};
+    ghost use Rattle.scenario.specs.TagLinesSoFar.{AreFewTagLines};
 
     ghost Value = { List TagGroup };
 

@@ -1,5 +1,5 @@
 use Rattle.std.proofs.Common.{◌<◌, length, arith, subst, sym}
-use Rattle.scenario.specs.AirLines.{AirLinesValue}
+use Rattle.scenario.specs.AirLinesSoFar.{AirLinesValue}
 use Rattle.scenario.proofs.Counts.{entries_count}
 use Rattle.scenario.proofs.draft.air.AirLines.say.Goals as goal
 
