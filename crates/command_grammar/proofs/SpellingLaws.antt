@@ -11,7 +11,7 @@ use Rattle.command_grammar.specs.declared.refusal.CommandRefusal.TheVariants as 
 use Rattle.command_grammar.specs.reading.Readers.{Stop, Short, Bad}
 use Rattle.command_grammar.specs.reading.CommandFields.{all_of}
 use Rattle.command_grammar.specs.reading.Framing.{Keeps}
-use Rattle.command_grammar.specs.declared.reader.state.State.{State}
+use Rattle.command_grammar.specs.declared.reader.command_in_progress.State.{State}
 use Rattle.command_grammar.specs.Commands.{spelling_of, SpellsCommand, Spellings, IsCommandRefusedAt, IsFinishAnswer}
 use Rattle.command_grammar.proofs.reading.WholeReading.{same_command, all_whole, all_short, all_bad, all_named}
 

@@ -7,4 +7,4 @@ mod query;
 mod query_adjust;
 mod query_rep;
 mod select;
-mod slot;
+mod slot_counter;

@@ -11,7 +11,7 @@ use Rattle.tag_machine.specs.TagValue.{TagValue}
 use Rattle.tag_population.proofs.SeatedTags.{participation_of_tag}
 use Rattle.tag_population.specs.Answers.{AnswersValue, AnswerValue, answer_of, answers_of}
 use Rattle.tag_population.specs.Floor.{floor_with, is_reached, participation_in, participations_of, no_tag, FloorValue}
-use Rattle.tag_population.specs.Hearing.{HasHeard, IsReady, outcome_reached, reach_of, reach_steps, reached_from, steps_of}
+use Rattle.tag_population.specs.Hearing.{HasHeard, IsReady, outcome_reached, reach_of, reach_steps, reached_from, steps_to_hear}
 use Rattle.tag_population.specs.Waiting.{participation_at}
 use Rattle.tag_population.specs.declared.waiting.Participation.{Participation}
 
@@ -48,7 +48,7 @@ pub record HearsNext (s : Sending) (number : ℕ) (now after : FloorValue) (answ
   pub floor_is : after ≡ floor_with now number (came s number).tag
   pub items : more.items ≡ answers.items ++ answers_of (reply_of number (came s number).answer)
   pub room : more.tags ≡ answers.tags
-  pub counts : stepped ≤ steps + steps_of (reach_of s.command) (participation_at s.before.parts number)
+  pub counts : stepped ≤ steps + steps_to_hear (reach_of s.command) (participation_at s.before.parts number)
 
 abbrev no_outcome : Outcome
 no_outcome = silent no_tag.state no_tag.body
@@ -104,7 +104,7 @@ module _ (s : Sending) (ready : IsReady (reach_of s.command) s.before) where
       λ other apart. rw (tags, parts) (get_or-set_other now.tags number other tag no_tag apart, get_or-set_other now.parts number other (participation_in tag.state) None apart) in
       let replied = reply_of number (came s number).answer in
       let rest = replies_from (number + 1) (drop (number + 1) (outcomes s)) in
-      let fewer : reach_steps (reach_of s.command) (drop number s.before.parts) ≡ steps_of (reach_of s.command) (participation_at s.before.parts number) + reach_steps (reach_of s.command) (drop (number + 1) s.before.parts) =
+      let fewer : reach_steps (reach_of s.command) (drop number s.before.parts) ≡ steps_to_hear (reach_of s.command) (participation_at s.before.parts number) + reach_steps (reach_of s.command) (drop (number + 1) s.before.parts) =
       rw (drop-cons s.before.parts number None (rw ready.whole next.within), add-one number) refl in
       record {
         inside = omega (arith, next.within);

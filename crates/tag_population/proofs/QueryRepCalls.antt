@@ -19,7 +19,7 @@ use Rattle.tag_machine.specs.Step.{step}
 use Rattle.tag_machine.specs.TagValue.{StateValue, ArbitrateState, ReplyState, AcknowledgedState, OpenState, SecuredState, BodyValue, TagValue}
 use Rattle.tag_population.proofs.SeatedTags.{length-tags_of, tag_at, participation_of_tag, steps_back_most}
 use Rattle.tag_population.specs.Floor.{tag_seated, seated_tags, participation_in, participations_of, is_reached, no_tag, calling, counted_floor, steps_back, FloorValue}
-use Rattle.tag_population.specs.Hearing.{AreCalledFor, hearing_from, outcome_reached, reach_of, reach_steps, reached_from, steps_of}
+use Rattle.tag_population.specs.Hearing.{AreCalledFor, hearing_from, outcome_reached, reach_of, reach_steps, reached_from, steps_to_hear}
 use Rattle.tag_population.specs.declared.floor.Reach.{Reach}
 use Rattle.tag_population.specs.declared.floor.Reach.TheVariants.{CalledOnly}
 use Rattle.tag_population.proofs.SlotPlaces.{same_waits}
@@ -37,7 +37,7 @@ pub all_steps_most : (reach : Reach) (parts : List (Option Participation)) → r
 all_steps_most reach [] = omega arith
 all_steps_most reach (part ∷ parts) = omega (arith, steps_most (is_reached reach part) part, all_steps_most reach parts)
 
-one_called : (part : Option Participation) → steps_of CalledOnly part + steps_back part ≤ 1
+one_called : (part : Option Participation) → steps_to_hear CalledOnly part + steps_back part ≤ 1
 one_called None = omega arith
 one_called (Some (Waits session slot)) = omega arith
 one_called (Some Called) = omega arith
@@ -47,7 +47,7 @@ called_most [] = omega arith
 called_most (part ∷ parts) = omega (arith, one_called part, called_most parts)
 
 called-set : (parts : List (Option Participation)) (number : ℕ) → number < length parts
-    → reach_steps CalledOnly (set parts number (Some Called)) + steps_of CalledOnly (participation_at parts number) ≡ reach_steps CalledOnly parts + 1
+    → reach_steps CalledOnly (set parts number (Some Called)) + steps_to_hear CalledOnly (participation_at parts number) ≡ reach_steps CalledOnly parts + 1
 called-set [] number within = absurd (omega (arith, within))
 called-set (part ∷ parts) zero within = omega arith
 called-set (part ∷ parts) (suc number) within = omega (arith, called-set parts number (omega (arith, within)))
@@ -208,7 +208,7 @@ pub due_smaller : (session due : ℕ) (called more : List (Option Participation)
 due_smaller session due called more is put =
     let within = participation_inside called due (Waits session 1) is in
     let counts = called-set called due within in
-    let none : steps_of CalledOnly (participation_at called due) ≡ 0 = ap (λ (p : Option Participation). steps_of CalledOnly p) is in
+    let none : steps_to_hear CalledOnly (participation_at called due) ≡ 0 = ap (λ (p : Option Participation). steps_to_hear CalledOnly p) is in
     rw put (omega (arith, counts, none, called_most (set called due (Some Called)), length-set called due (Some Called)))
 
 missed_index : (number : ℕ) (missed : List ℕ) → list_any (λ tag. tag == number) missed ≡ true → (k : ℕ) × (k < length missed) × (get_or missed k 0 ≡ number)
@@ -294,7 +294,7 @@ answers_next session (ArbitrateState own q slot) body is =
     rw (same.0, same.1) (ap (λ (b : Bool). is_some (if b then count_down session q 1 body else silent (ArbitrateState session q 1) body).answer) (eq-eqb session session refl))
 answers_next session state body is = absurd (cc)
 
-one_busy : (part : Option Participation) (busy : Bool) → (part ≡ Some Called → busy ≡ true) → steps_of CalledOnly part ≤ (if busy then 1 else 0)
+one_busy : (part : Option Participation) (busy : Bool) → (part ≡ Some Called → busy ≡ true) → steps_to_hear CalledOnly part ≤ (if busy then 1 else 0)
 one_busy None busy is = omega arith
 one_busy (Some (Waits session slot)) busy is = omega arith
 one_busy (Some Called) true is = omega arith

@@ -44,13 +44,13 @@ reached_from number command entry (part ∷ parts) (tag ∷ tags) =
     outcome_reached (is_reached (reach_of command) part) (is_missed number entry) command tag ∷ reached_from (number + 1) command entry parts tags
 
 -- how many steps it takes to write back the slot counter of a tag that is reached, and to have the tag hear a command
-abbrev pub steps_of : Reach → Option Participation → ℕ
-steps_of reach part = if is_reached reach part then 1 + steps_back part else 0
+abbrev pub steps_to_hear : Reach → Option Participation → ℕ
+steps_to_hear reach part = if is_reached reach part then 1 + steps_back part else 0
 
 -- how many steps it takes to have all tags that are reached hear a command
 abbrev pub reach_steps : Reach → List (Option Participation) → ℕ
 reach_steps reach [] = 0
-reach_steps reach (part ∷ parts) = steps_of reach part + reach_steps reach parts
+reach_steps reach (part ∷ parts) = steps_to_hear reach part + reach_steps reach parts
 
 -- the tags that aren't reached take part as their states say
 pub record IsReady (reach : Reach) (floor : FloorValue) : Type 0 where

@@ -9,9 +9,9 @@ use Rattle.bit_strings.specs.Ebv.{IsEbv, IsCutEbv}
 use Rattle.gen2_crc.specs.Crc.{crc5_of, crc16_of}
 use Rattle.command_grammar.specs.declared.reader.fields.Fields.{Fields}
 use Rattle.command_grammar.specs.declared.reader.known_bits.KnownBits.{KnownBits}
-use Rattle.command_grammar.specs.declared.reader.stage.NumberField.{NumberField}
-use Rattle.command_grammar.specs.declared.reader.stage.NumberField.TheVariants as number_fields
-use Rattle.command_grammar.specs.declared.reader.stage.Stage.TheVariants as stages
+use Rattle.command_grammar.specs.declared.reader.field_in_progress.NumberField.{NumberField}
+use Rattle.command_grammar.specs.declared.reader.field_in_progress.NumberField.TheVariants as number_fields
+use Rattle.command_grammar.specs.declared.reader.field_in_progress.Stage.TheVariants as stages
 use Rattle.command_grammar.specs.declared.refusal.Reason.{Reason}
 use Rattle.command_grammar.specs.declared.refusal.Reason.TheVariants as reasons
 use Rattle.command_grammar.specs.reading.Readers.{Stop, Bad, Reading, ◌>>=◌, reading_bits, reading_number, exactly_at, count_at, words_at, ebv_at, before, crc5_at, crc16_at}

@@ -13,16 +13,16 @@ use Rattle.command_grammar.specs.declared.kinds.CodeFront.{CodeFront}
 use Rattle.command_grammar.specs.declared.kinds.CodeFront.TheVariants as fronts
 use Rattle.command_grammar.specs.declared.fields.Field.{Field}
 use Rattle.command_grammar.specs.declared.reader.fields.Fields.{Fields}
-use Rattle.command_grammar.specs.declared.reader.stage.BitField.TheVariants as bit_fields
-use Rattle.command_grammar.specs.declared.reader.stage.PairField.TheVariants as pair_fields
-use Rattle.command_grammar.specs.declared.reader.stage.TripleField.TheVariants as triple_fields
+use Rattle.command_grammar.specs.declared.reader.field_in_progress.BitField.TheVariants as bit_fields
+use Rattle.command_grammar.specs.declared.reader.field_in_progress.PairField.TheVariants as pair_fields
+use Rattle.command_grammar.specs.declared.reader.field_in_progress.TripleField.TheVariants as triple_fields
 use Rattle.command_grammar.specs.declared.reader.check.Check.{Check}
-use Rattle.command_grammar.specs.declared.reader.stage.NumberField.{NumberField}
-use Rattle.command_grammar.specs.declared.reader.stage.Stage.{Stage}
-use Rattle.command_grammar.specs.declared.reader.stage.Stage.TheVariants as stages
-use Rattle.command_grammar.specs.declared.reader.state.Position.{Position}
-use Rattle.command_grammar.specs.declared.reader.state.Position.TheVariants as positions
-use Rattle.command_grammar.specs.declared.reader.state.State.{State}
+use Rattle.command_grammar.specs.declared.reader.field_in_progress.NumberField.{NumberField}
+use Rattle.command_grammar.specs.declared.reader.field_in_progress.Stage.{Stage}
+use Rattle.command_grammar.specs.declared.reader.field_in_progress.Stage.TheVariants as stages
+use Rattle.command_grammar.specs.declared.reader.command_in_progress.Position.{Position}
+use Rattle.command_grammar.specs.declared.reader.command_in_progress.Position.TheVariants as positions
+use Rattle.command_grammar.specs.declared.reader.command_in_progress.State.{State}
 use Rattle.command_grammar.specs.declared.refusal.Reason.{Reason}
 use Rattle.command_grammar.specs.declared.refusal.Reason.TheVariants as reasons
 use Rattle.command_grammar.specs.Commands.{command_fields_of, command_of, Spellings, SpellsCommand, IsCommandRefusedAt}

@@ -3,13 +3,13 @@ use Rattle.std.specs.Prelude.{◌≡◌, ◌≢◌, ℕ, ◌+◌, ◌/◌, ◌%�
 use Rattle.command_grammar.specs.declared.reader.fields.Fields.{Fields}
 use Rattle.command_grammar.specs.reading.FieldStages.{width_of}
 use Rattle.command_grammar.specs.declared.reader.known_bits.KnownBits.{KnownBits}
-use Rattle.command_grammar.specs.declared.reader.stage.NumberField.{NumberField}
-use Rattle.command_grammar.specs.declared.reader.stage.NumberField.TheVariants as number_fields
-use Rattle.command_grammar.specs.declared.reader.stage.TripleFront.TheVariants.{Nothing}
-use Rattle.command_grammar.specs.declared.reader.stage.Stage.{Stage}
-use Rattle.command_grammar.specs.declared.reader.stage.Stage.TheVariants as stages
-use Rattle.command_grammar.specs.declared.reader.stage.Next.{Next}
-use Rattle.command_grammar.specs.declared.reader.stage.Next.TheVariants as next
+use Rattle.command_grammar.specs.declared.reader.field_in_progress.NumberField.{NumberField}
+use Rattle.command_grammar.specs.declared.reader.field_in_progress.NumberField.TheVariants as number_fields
+use Rattle.command_grammar.specs.declared.reader.field_in_progress.TripleFront.TheVariants.{Nothing}
+use Rattle.command_grammar.specs.declared.reader.field_in_progress.Stage.{Stage}
+use Rattle.command_grammar.specs.declared.reader.field_in_progress.Stage.TheVariants as stages
+use Rattle.command_grammar.specs.declared.reader.field_in_progress.Next.{Next}
+use Rattle.command_grammar.specs.declared.reader.field_in_progress.Next.TheVariants as next
 
 -- how many bits the number has that is read next
 abbrev pub number_bits : Stage → ℕ

@@ -3,20 +3,20 @@ use Rattle.std.specs.Prelude.{ℕ, zero, suc, ◌+◌, Bool, List, [], ◌∷◌
 use Rattle.bit_strings.specs.NumbersInBits.{field_of}
 use Rattle.command_grammar.specs.declared.reader.fields.Fields.{Fields}
 use Rattle.command_grammar.specs.reading.Readers.{Reading, ◌>>=◌, bit_at, reading_bits, reading_number, Choice, child, next_at, m_values, sel_values, query_target_values, updn_values, select_target_values, mask_bank_values, bank_values, exactly_at, words_at, ebv_at, Bad}
-use Rattle.command_grammar.specs.declared.reader.stage.BitField.{BitField}
-use Rattle.command_grammar.specs.declared.reader.stage.BitField.TheVariants as bit_fields
-use Rattle.command_grammar.specs.declared.reader.stage.PairField.{PairField}
-use Rattle.command_grammar.specs.declared.reader.stage.PairField.TheVariants as pair_fields
-use Rattle.command_grammar.specs.declared.reader.stage.TripleField.{TripleField}
-use Rattle.command_grammar.specs.declared.reader.stage.TripleField.TheVariants as triple_fields
-use Rattle.command_grammar.specs.declared.reader.stage.TripleFront.{TripleFront}
-use Rattle.command_grammar.specs.declared.reader.stage.TripleFront.TheVariants.{Nothing, One, Two}
-use Rattle.command_grammar.specs.declared.reader.stage.NumberField.{NumberField}
-use Rattle.command_grammar.specs.declared.reader.stage.NumberField.TheVariants as number_fields
-use Rattle.command_grammar.specs.declared.reader.stage.Stage.{Stage}
-use Rattle.command_grammar.specs.declared.reader.stage.Stage.TheVariants as stages
-use Rattle.command_grammar.specs.declared.reader.stage.Next.{Next}
-use Rattle.command_grammar.specs.declared.reader.stage.Next.TheVariants as next
+use Rattle.command_grammar.specs.declared.reader.field_in_progress.BitField.{BitField}
+use Rattle.command_grammar.specs.declared.reader.field_in_progress.BitField.TheVariants as bit_fields
+use Rattle.command_grammar.specs.declared.reader.field_in_progress.PairField.{PairField}
+use Rattle.command_grammar.specs.declared.reader.field_in_progress.PairField.TheVariants as pair_fields
+use Rattle.command_grammar.specs.declared.reader.field_in_progress.TripleField.{TripleField}
+use Rattle.command_grammar.specs.declared.reader.field_in_progress.TripleField.TheVariants as triple_fields
+use Rattle.command_grammar.specs.declared.reader.field_in_progress.TripleFront.{TripleFront}
+use Rattle.command_grammar.specs.declared.reader.field_in_progress.TripleFront.TheVariants.{Nothing, One, Two}
+use Rattle.command_grammar.specs.declared.reader.field_in_progress.NumberField.{NumberField}
+use Rattle.command_grammar.specs.declared.reader.field_in_progress.NumberField.TheVariants as number_fields
+use Rattle.command_grammar.specs.declared.reader.field_in_progress.Stage.{Stage}
+use Rattle.command_grammar.specs.declared.reader.field_in_progress.Stage.TheVariants as stages
+use Rattle.command_grammar.specs.declared.reader.field_in_progress.Next.{Next}
+use Rattle.command_grammar.specs.declared.reader.field_in_progress.Next.TheVariants as next
 use Rattle.command_grammar.specs.declared.refusal.Reason.TheVariants as reasons
 
 -- what the first bit of two leaves of a choice, where it was read

@@ -14,9 +14,9 @@ use Rattle.command_grammar.specs.declared.reader.check.Check.{Check}
 use Rattle.command_grammar.specs.declared.kinds.CommandKind.{CommandKind}
 use Rattle.command_grammar.specs.declared.fields.Field.{Field}
 use Rattle.command_grammar.specs.declared.reader.fields.Fields.{Fields}
-use Rattle.command_grammar.specs.declared.reader.state.Position.{Position}
-use Rattle.command_grammar.specs.declared.reader.state.Position.TheVariants as positions
-use Rattle.command_grammar.specs.declared.reader.state.State.{State}
+use Rattle.command_grammar.specs.declared.reader.command_in_progress.Position.{Position}
+use Rattle.command_grammar.specs.declared.reader.command_in_progress.Position.TheVariants as positions
+use Rattle.command_grammar.specs.declared.reader.command_in_progress.State.{State}
 use Rattle.command_grammar.specs.declared.refusal.Pushed.{Pushed}
 use Rattle.command_grammar.specs.declared.refusal.Pushed.TheVariants as pushed
 use Rattle.command_grammar.specs.declared.refusal.Reason.{Reason}

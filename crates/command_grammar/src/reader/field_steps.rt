@@ -3,17 +3,17 @@ ghost use Rattle.std.specs.Prelude.{◌≡◌, ◌+◌, ◌≤◌, ◌<◌, ◌^
 ghost use Rattle.command_grammar.specs.reading.FieldStages.{stage_from, next_from, pair_from, triple_from, bit_from, number_then, words_then, width_of};
 ghost use Rattle.command_grammar.specs.reading.FieldRanges.{IsSoundNumber, IsSoundNext};
 ghost use Rattle.command_grammar.specs.declared.reader.fields.Fields.{Fields};
-ghost use Rattle.command_grammar.specs.declared.reader.stage.Stage.TheVariants as stages;
-ghost use Rattle.command_grammar.specs.declared.reader.stage.TripleFront.TheVariants.{One, Two};
+ghost use Rattle.command_grammar.specs.declared.reader.field_in_progress.Stage.TheVariants as stages;
+ghost use Rattle.command_grammar.specs.declared.reader.field_in_progress.TripleFront.TheVariants.{One, Two};
 
 use crate::choices::{
     BANK_VALUES, M_VALUES, MASK_BANK_VALUES, SEL_VALUES, query_target, select_target, updn,
 };
+use crate::reader::field_in_progress::{
+    BitField, Next, NumberField, PairField, Stage, TripleField, TripleFront,
+};
 use crate::reader::fields::{
     Fields, action_of, count_of, payload_of, pointer_of, q_of, session_of,
-};
-use crate::reader::stage::{
-    BitField, Next, NumberField, PairField, Stage, TripleField, TripleFront,
 };
 use crate::refusal::Reason;
 use bit_strings::{EbvFront, EbvStep};

@@ -7,7 +7,7 @@ ghost use Rattle.command_grammar.specs.declared.refusal.Pushed.TheVariants.{Bad}
 ghost use Rattle.command_grammar.specs.declared.refusal.Reason.{Reason};
 
 use crate::commands::Command;
-use crate::reader::state::State;
+use crate::reader::command_in_progress::State;
 use crate::refusal::{CommandRefusal, Pushed, Reason};
 use std::marker::Model;
 

@@ -3,10 +3,10 @@ ghost use Rattle.std.specs.Prelude.{◌≡◌, ◌+◌, ◌≤◌, ◌∷◌, Li
 ghost use Rattle.command_grammar.specs.reading.FieldStages.{stage_from, next_from};
 ghost use Rattle.command_grammar.specs.reading.FieldRanges.{IsSoundNext, IsEdge, next_bit};
 ghost use Rattle.command_grammar.specs.declared.reader.fields.Fields.{Fields};
-ghost use Rattle.command_grammar.specs.declared.reader.stage.Stage.TheVariants as stages;
+ghost use Rattle.command_grammar.specs.declared.reader.field_in_progress.Stage.TheVariants as stages;
 ghost use Rattle.command_grammar.specs.declared.refusal.Reason.{Reason};
 
-use crate::reader::stage::Next;
+use crate::reader::field_in_progress::Next;
 use crate::refusal::Reason;
 
 /// The bits of a number that is known, of which some were read.

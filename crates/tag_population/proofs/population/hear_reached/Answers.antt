@@ -4,7 +4,7 @@ use Rattle.tag_machine.specs.TagsInExchange.{is_missed, outcome_unless, reply_of
 use Rattle.tag_population.proofs.HeardTags.{Sending, HeardBelow, came, heard_none, heard_next, heard_to, heard_all}
 use Rattle.tag_population.specs.Answers.{AnswersValue, answers_of}
 use Rattle.tag_population.specs.Floor.{IsNextReached, floor_with, no_tag, steps_back}
-use Rattle.tag_population.specs.Hearing.{outcome_reached, reach_of, steps_of}
+use Rattle.tag_population.specs.Hearing.{outcome_reached, reach_of, steps_to_hear}
 use Rattle.tag_population.specs.Waiting.{participation_at}
 use Rattle.tag_population.proofs.population.hear_reached.Goals as goal
 
@@ -27,7 +27,7 @@ loop-number-preserved g c =
     let reached = rw left.1 at next.2 in
     let is : outcome_unless misses s.command (get_or now.tags number no_tag) ≡ came s number =
     rw (c.is_missed-misses.ensures, left.0) (ap (λ (b : Bool). outcome_reached b (is_missed number s.entry) s.command (get_or s.before.tags number no_tag)) (sym reached)) in
-    let weight : steps_of (reach_of s.command) (participation_at s.before.parts number) ≡ 1 + steps_back (participation_at now.parts number) =
+    let weight : steps_to_hear (reach_of s.command) (participation_at s.before.parts number) ≡ 1 + steps_back (participation_at now.parts number) =
     rw left.1 (ap (λ (b : Bool). if b then 1 + steps_back (participation_at s.before.parts number) else 0) reached) in
     rw c.index-from.ensures.value
     (heard_next s c.requires.ready number now c.hear.new.self c.loop-number.answers c.hear.new.answers c.loop-number.steps c.hear.new.steps at

@@ -1,6 +1,6 @@
 use Rattle.std.proofs.Common.{◌∷◌, ◌++◌, ◌+◌, ◌∙◌, [], List, Bool, subst, sym, arith}
 use Rattle.std.specs.Prelude.{Option, None, ℕ}
-use Rattle.command_grammar.specs.declared.reader.state.State.{State}
+use Rattle.command_grammar.specs.declared.reader.command_in_progress.State.{State}
 use Rattle.command_grammar.specs.declared.refusal.Reason.{Reason}
 use Rattle.command_grammar.specs.reading.Framing.{Keeps, IsOpen, HasRead, HasDigits, StateStandsFor, TakesBit}
 use Rattle.command_grammar.proofs.SpellingLaws.{stands_refused, judges_refused}

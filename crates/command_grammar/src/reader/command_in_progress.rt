@@ -1,0 +1,309 @@
+//! What was read of a command.
+ghost use Rattle.std.specs.Prelude.{◌≡◌, ◌+◌, ◌-◌, ◌*◌, ◌^◌, ◌<◌, ◌≤◌, ◌++◌, ◌∷◌, [], List, Bool, IsTrue, IsFalse, IsSome, Ok, None};
+ghost use Rattle.bit_strings.specs.NumbersInBits.{digit_of};
+ghost use Rattle.command_grammar.specs.Commands.{Judges, IsFinishAnswer, SpellsCommand, code_of, command_fields_of};
+ghost use Rattle.command_grammar.specs.reading.CommandFields.{run};
+ghost use Rattle.command_grammar.specs.reading.CheckNumbers.{IsRegisterOf, AreServed, check_kept};
+ghost use Rattle.command_grammar.specs.reading.FieldRanges.{number_bits};
+ghost use Rattle.command_grammar.specs.reading.Framing.{StateStandsFor, HasDigits, Keeps, CheckGoesAlong, IsServed, IsAtEdge, IsSoundPosition, TakesBit, refusal_in, resume};
+ghost use Rattle.command_grammar.specs.declared.reader.command_in_progress.Position.TheVariants as positions;
+ghost use Rattle.command_grammar.specs.declared.commands.Command.{Command};
+
+use crate::commands::Command;
+use crate::fields::Field;
+use crate::kinds::{CodeFront, CodeStep, CommandKind, code_step};
+use crate::reader::check::Check;
+use crate::reader::field_in_progress::{Next, Stage};
+use crate::reader::field_steps::take_number;
+use crate::reader::fields::Fields;
+use crate::refusal::{CommandRefusal, Pushed, Reason};
+
+/// Where the next bit stands.
+#[derive(Clone, Copy)]
+pub(crate) enum Position {
+    /// In the command code.
+    Code(CodeFront),
+    /// Behind the command.
+    Whole,
+    /// In a field.
+    Within(Stage),
+}
+
+/// What was read of a command, where no bit was refused. It keeps no bits but those of a mask and of
+/// words.
+#[derive(Drop)]
+pub(crate) struct State {
+    /// The command, once its code was read.
+    kind: CommandKind,
+    /// Its check number, from the code on.
+    check: Check,
+    position: Position,
+    /// How many bits are still to come of the number that is being read, or 0.
+    left: u32,
+    /// What the bits read of this number are.
+    value: u32,
+    /// The fields behind the one that is being read.
+    behind: &'static [Field],
+    fields: Fields,
+}
+
+impl State {
+    /// The state before the first bit of a command.
+    pub(crate) fn new() -> State
+        ensures stands { StateStandsFor result [] }
+        ensures digits { HasDigits result [] }
+        ensures sound { IsSoundPosition result.position result.fields }
+    {
+        State {
+            kind: CommandKind::Nak,
+            check: Check::Over,
+            position: Position::Code(CodeFront::Nothing),
+            left: 0,
+            value: 0,
+            behind: &[],
+            fields: Fields::new(),
+        }
+    }
+
+    /// Takes a bit of a number but the last one, as most bits are, and gives whether it did.
+    #[inline(always)]
+    pub(crate) fn take_digit(&mut self, bit: bool) -> bool
+        requires { 2 ≤ self.old.left → self.old.value < 2 ^ 30 }
+        ensures taken { IsTrue result → self.new
+            ≡ record self.old { left = self.old.left - 1; value = 2 * self.old.value + digit_of bit } }
+        ensures left { IsTrue result → 2 ≤ self.old.left }
+        ensures last { IsFalse result → self.old.left ≤ 1 }
+        ensures same { IsFalse result → self.new ≡ self.old }
+    {
+        if self.left <= 1 {
+            return false;
+        }
+        self.value = self.with(bit);
+        self.left -= 1;
+        true
+    }
+
+    /// Takes a bit inside another field, or of the code, and gives whether it did.
+    #[inline(always)]
+    pub(crate) fn take_inside(&mut self, bit: bool) -> bool
+        requires sound { IsSoundPosition self.old.position self.old.fields }
+        requires digits { (read : List Bool) × HasDigits self.old read }
+        ensures stands { IsTrue result → (front : List Bool) → StateStandsFor self.old front
+            → StateStandsFor self.new (front ++ bit ∷ []) }
+        ensures none { IsTrue result → self.old.left ≡ 0 }
+        ensures digits { IsTrue result → HasDigits self.new [] }
+        ensures sound { IsTrue result → IsSoundPosition self.new.position self.new.fields }
+        ensures edge { IsFalse result → self.old.left ≡ 0 → IsAtEdge self.old.position bit }
+        ensures same { IsFalse result → self.new ≡ self.old }
+    {
+        match &mut self.position {
+            Position::Within(stage) => {
+                if !stage.take_inside(bit, &mut self.fields) {
+                    return false;
+                }
+                self.check.push(bit);
+                true
+            }
+            Position::Code(front) => match code_step(*front, bit) {
+                CodeStep::More(more) => {
+                    *front = more;
+                    true
+                }
+                CodeStep::Is(kind) => {
+                    self.begin_command(kind);
+                    true
+                }
+                CodeStep::Refused => false,
+            },
+            Position::Whole => false,
+        }
+    }
+
+    /// Takes one bit more, of those that `take_digit` and `take_inside` don't take, or says why no command goes on with it.
+    pub(crate) fn take_edge(&mut self, bit: bool) -> Option<Reason>
+        requires sound { IsSoundPosition self.old.position self.old.fields }
+        requires digits { (read : List Bool) × HasDigits self.old read }
+        requires open { (bits : List Bool) × StateStandsFor self.old bits }
+        requires last { self.old.left ≤ 1 }
+        requires edge { self.old.left ≡ 0 → IsAtEdge self.old.position bit }
+        ensures goes { (before read : List Bool) → StateStandsFor self.old before
+            → HasDigits self.old read → TakesBit result self.new (before ++ read) bit }
+        ensures digits { result ≡ None → HasDigits self.new [] }
+        ensures stopped { IsSome result → self.new.left ≡ 0 }
+        ensures sound { result ≡ None → IsSoundPosition self.new.position self.new.fields }
+    {
+        if self.left > 0 {
+            return self.take_last(bit);
+        }
+        self.take_other(bit)
+    }
+
+    /// Takes a bit of no number that `take_inside` doesn't take.
+    fn take_other(&mut self, bit: bool) -> Option<Reason>
+        requires sound { IsSoundPosition self.old.position self.old.fields }
+        requires open { (bits : List Bool) × StateStandsFor self.old bits }
+        requires none { (self.old.left ≡ 0) × (self.old.value ≡ 0) }
+        requires edge { IsAtEdge self.old.position bit }
+        ensures goes { (bits : List Bool) → StateStandsFor self.old bits
+            → TakesBit result self.new bits bit }
+        ensures digits { result ≡ None → HasDigits self.new [] }
+        ensures stopped { IsSome result → self.new.left ≡ 0 }
+        ensures sound { result ≡ None → IsSoundPosition self.new.position self.new.fields }
+    {
+        match self.position {
+            Position::Within(stage) => {
+                self.check.push(bit);
+                match stage.take(bit, &mut self.fields) {
+                    Next::Stay(next) => self.stay(next),
+                    Next::Done => self.begin(),
+                    Next::Refused(reason) => return Some(reason),
+                }
+                None
+            }
+            Position::Code(_) => Some(Reason::Code),
+            Position::Whole => Some(Reason::Extra),
+        }
+    }
+
+    /// Takes the last bit of a number, or says why no command goes on with it.
+    fn take_last(&mut self, bit: bool) -> Option<Reason>
+        requires sound { IsSoundPosition self.old.position self.old.fields }
+        requires digits { (read : List Bool) × HasDigits self.old read }
+        requires open { (bits : List Bool) × StateStandsFor self.old bits }
+        requires last { self.old.left ≡ 1 }
+        requires small { self.old.value < 2 ^ 30 }
+        ensures goes { (before read : List Bool) → StateStandsFor self.old before
+            → HasDigits self.old read → TakesBit result self.new (before ++ read) bit }
+        ensures digits { result ≡ None → HasDigits self.new [] }
+        ensures stopped { IsSome result → self.new.left ≡ 0 }
+        ensures sound { result ≡ None → IsSoundPosition self.new.position self.new.fields }
+    {
+        match self.position {
+            Position::Within(stage) => match stage {
+                Stage::Number(field) => {
+                    let value = self.with(bit);
+                    self.left = 0;
+                    self.value = 0;
+                    self.check.push_number(value, field.width());
+                    match take_number(field, value, &mut self.fields) {
+                        Next::Stay(next) => self.stay(next),
+                        Next::Done => self.begin(),
+                        Next::Refused(reason) => return Some(reason),
+                    }
+                    None
+                }
+                Stage::Bit(_)
+                | Stage::Pair(..)
+                | Stage::Triple(..)
+                | Stage::Ebv(_)
+                | Stage::Mask(_)
+                | Stage::Known(..) => unreachable!(),
+            },
+            Position::Code(_) | Position::Whole => unreachable!(),
+        }
+    }
+
+    /// The number with one bit more behind those read.
+    fn with(&self, bit: bool) -> u32
+        requires { self.now.value < 2 ^ 30 }
+        ensures { result ≡ 2 * self.now.value + digit_of bit }
+    {
+        2 * self.value + u32::from(bit)
+    }
+
+    /// This is read next.
+    fn stay(&mut self, next: Stage)
+        ensures { self.new
+            ≡ record self.old { left = number_bits next; position = positions.Within next } }
+    {
+        self.left = next.number_bits();
+        self.position = Position::Within(next);
+    }
+
+    /// The code of this command was read: its first field begins, or it is whole.
+    #[cold]
+    fn begin_command(&mut self, kind: CommandKind)
+        requires none { (self.old.left ≡ 0) × (self.old.value ≡ 0) }
+        ensures reads { (rest : List Bool)
+            → run (command_fields_of kind) kind self.old.fields (code_of kind ++ rest) rest
+            ≡ resume self.new.kind self.new.position self.new.behind.now self.new.fields
+            (code_of kind ++ rest) rest }
+        ensures counts { CheckGoesAlong self.new.position self.new.check (code_of kind) }
+        ensures serves { IsServed self.new.position self.new.check self.new.behind.now }
+        ensures digits { HasDigits self.new [] }
+        ensures sound { IsSoundPosition self.new.position self.new.fields }
+    {
+        let layout = kind.layout();
+        self.kind = kind;
+        self.check = Check::of(layout.check, layout.code);
+        self.behind = layout.fields;
+        self.begin();
+    }
+
+    /// The next field begins, or the command is whole.
+    fn begin(&mut self)
+        requires served { AreServed (check_kept self.old.check) self.old.behind.now }
+        requires none { (self.old.left ≡ 0) × (self.old.value ≡ 0) }
+        ensures reads { (bits rest : List Bool) → IsRegisterOf self.old.check bits
+            → run self.old.behind.now self.old.kind self.old.fields (bits ++ rest) rest
+            ≡ resume self.new.kind self.new.position self.new.behind.now self.new.fields
+            (bits ++ rest) rest }
+        ensures counts { (bits : List Bool) → IsRegisterOf self.old.check bits
+            → CheckGoesAlong self.new.position self.new.check bits }
+        ensures serves { IsServed self.new.position self.new.check self.new.behind.now }
+        ensures digits { HasDigits self.new [] }
+        ensures sound { IsSoundPosition self.new.position self.new.fields }
+    {
+        match self.behind {
+            [] => self.position = Position::Whole,
+            [field, behind @ ..] => {
+                self.behind = behind;
+                let stage = Stage::start(*field, &self.check);
+                self.check.start(*field);
+                self.stay(stage);
+            }
+        }
+    }
+
+    /// What the bits are.
+    pub(crate) fn judge(&self) -> Pushed
+        ensures judges { (bits : List Bool) → StateStandsFor self.now bits → Judges result bits }
+        ensures taken { refusal_in result ≡ None }
+    {
+        match self.position {
+            Position::Whole => Pushed::Whole,
+            Position::Code(_) | Position::Within(_) => Pushed::More,
+        }
+    }
+
+    /// Answers with the command that the bits are, or with `refused`, or with `Short`. It stands for no bits
+    /// afterwards.
+    pub(crate) fn finish(
+        &mut self,
+        pushed: u32,
+        refused: Option<(u32, Reason)>,
+        answer: &mut Result<Command, CommandRefusal>,
+    )
+        ensures finishes { (bits : List Bool) → Keeps self.old pushed refused bits
+            → IsFinishAnswer answer.new bits }
+        ensures only { (bits : List Bool) (command : Command) → Keeps self.old pushed refused bits
+            → SpellsCommand command bits → answer.new ≡ Ok command }
+        ensures anew { StateStandsFor self.new [] }
+        ensures digits { HasDigits self.new [] }
+        ensures sound { IsSoundPosition self.new.position self.new.fields }
+    {
+        let stopped = self.position;
+        self.position = Position::Code(CodeFront::Nothing);
+        self.left = 0;
+        self.value = 0;
+        match refused {
+            Some((place, reason)) => *answer = Err(CommandRefusal::At(place, reason)),
+            None => match stopped {
+                Position::Whole => self.fields.answer(self.kind, answer),
+                Position::Code(_) | Position::Within(_) => *answer = Err(CommandRefusal::Short(
+                    pushed,
+                )),
+            },
+        }
+    }
+}
