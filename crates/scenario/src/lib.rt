@@ -4,12 +4,12 @@
 //! scenario can have there, with the first reason that applies.
 #![tactic(auto)]
 
+mod copies_and_upgrades;
 mod draft;
 mod printing;
 mod progress;
 mod reading;
 mod round_trip;
-mod scenario_laws;
 mod text_laws;
 mod upgrading;
 mod values;
@@ -17,11 +17,11 @@ mod values;
 pub use access_ops::{Op, OpList};
 pub use air_events::{Choice, Entry, Event, Several};
 pub use checked_lines::{FaultReason, FaultyLine, Unread, fault_text};
+pub use copies_and_upgrades::{copies_are_tags, upgraded_scenarios_are_legal};
 pub use printing::print_scenario;
 pub use q_round::RoundSpec;
 pub use reading::read_scenario;
 pub use round_trip::{print_and_read, read_and_print};
-pub use scenario_laws::{copies_are_tags, upgraded_scenarios_are_legal};
 pub use scenario_lines::{TagSpec, Version};
 pub use text_laws::{
     faulty_lines_begin_no_text, lines_begin_a_scenario, lines_say_a_scenario,
