@@ -20,7 +20,7 @@ pub struct SymbolBefore {
 /// The levels of four symbols, one behind the other: those of their halves, of which one in phase 0 is `$high` and one in phase 1 `$low`. The
 /// phase at the start of the first symbol and their bits are the digits of the row's number.
 macro_rules! four_symbols {
-    (phase $high:expr, $low:expr) => {
+    ($high:expr, $low:expr) => {
         [
             [$high, $high, $low, $low, $high, $high, $low, $low],
             [$high, $high, $low, $low, $high, $high, $high, $low],
@@ -38,24 +38,37 @@ macro_rules! four_symbols {
             [$high, $low, $low, $high, $high, $high, $high, $low],
             [$high, $low, $low, $high, $high, $low, $low, $low],
             [$high, $low, $low, $high, $high, $low, $low, $high],
+            [$low, $low, $high, $high, $low, $low, $high, $high],
+            [$low, $low, $high, $high, $low, $low, $low, $high],
+            [$low, $low, $high, $high, $high, $low, $low, $low],
+            [$low, $low, $high, $high, $high, $low, $low, $high],
+            [$low, $low, $low, $high, $high, $high, $low, $low],
+            [$low, $low, $low, $high, $high, $high, $high, $low],
+            [$low, $low, $low, $high, $high, $low, $low, $low],
+            [$low, $low, $low, $high, $high, $low, $low, $high],
+            [$low, $high, $high, $high, $low, $low, $high, $high],
+            [$low, $high, $high, $high, $low, $low, $low, $high],
+            [$low, $high, $high, $high, $high, $low, $low, $low],
+            [$low, $high, $high, $high, $high, $low, $low, $high],
+            [$low, $high, $high, $low, $low, $low, $high, $high],
+            [$low, $high, $high, $low, $low, $low, $low, $high],
+            [$low, $high, $high, $low, $low, $high, $high, $high],
+            [$low, $high, $high, $low, $low, $high, $high, $low],
         ]
-    };
-    ($high:expr, $low:expr) => {
-        [four_symbols!(phase $high, $low), four_symbols!(phase $low, $high)]
     };
 }
 
 /// The levels of four symbols with M = 2.
-const FOUR_SYMBOLS_2: [[[[bool; 2]; 8]; 16]; 2] = four_symbols!([true, false], [false, true]);
+const FOUR_SYMBOLS_2: [[[bool; 2]; 8]; 32] = four_symbols!([true, false], [false, true]);
 
 /// The levels of four symbols with M = 4.
-const FOUR_SYMBOLS_4: [[[[bool; 4]; 8]; 16]; 2] = four_symbols!(
+const FOUR_SYMBOLS_4: [[[bool; 4]; 8]; 32] = four_symbols!(
     [true, false, true, false],
     [false, true, false, true]
 );
 
 /// The levels of four symbols with M = 8.
-const FOUR_SYMBOLS_8: [[[[bool; 8]; 8]; 16]; 2] = four_symbols!(
+const FOUR_SYMBOLS_8: [[[bool; 8]; 8]; 32] = four_symbols!(
     [true, false, true, false, true, false, true, false],
     [false, true, false, true, false, true, false, true]
 );
@@ -147,9 +160,9 @@ fn four_symbols(m: u32, start: bool, number: u16) -> &'static [bool]
 {
     let row = 16 * (start as usize) + (number % 16) as usize;
     match m {
-        2 => FOUR_SYMBOLS_2.as_flattened()[row].as_flattened(),
-        4 => FOUR_SYMBOLS_4.as_flattened()[row].as_flattened(),
-        _ => FOUR_SYMBOLS_8.as_flattened()[row].as_flattened(),
+        2 => FOUR_SYMBOLS_2[row].as_flattened(),
+        4 => FOUR_SYMBOLS_4[row].as_flattened(),
+        _ => FOUR_SYMBOLS_8[row].as_flattened(),
     }
 }
 

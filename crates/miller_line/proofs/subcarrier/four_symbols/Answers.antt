@@ -1,16 +1,11 @@
 -- The rows of each table are the blocks of four bits, in the order of their numbers.
-use Rattle.std.proofs.Common.{◌≡◌, ◌∙◌, ◌+◌, ◌*◌, ◌%◌, ℕ, List, Bool, [], get_or, ap, sym, refl, rules}
+use Rattle.std.proofs.Common.{◌≡◌, ◌∙◌, List, Bool, [], ap, sym, refl, rules}
 use Rattle.std.specs.List.{flat_map}
 use Rattle.line_code.proofs.Rows.{row_at}
 use Rattle.bit_strings.specs.NumbersInBits.{field_of}
 use Rattle.miller_line.specs.FourSymbols.{symbols}
 use Rattle.miller_line.specs.declared.subcarrier.TheConstants.{FOUR_SYMBOLS_2, FOUR_SYMBOLS_4, FOUR_SYMBOLS_8}
 use Rattle.miller_line.proofs.subcarrier.four_symbols.Goals as goal
-use mir.Val.{bool_byte}
-
--- the number of a row of both phases
-abbrev row : Bool → ℕ → ℕ
-row start number = 16 * bool_byte start + number % 16
 
 -- the levels of a row that has them by halves
 abbrev halves : List (List Bool) → List Bool
@@ -20,17 +15,17 @@ pub returns-in-2 : goal.returns-in-2
 unfolding field_of
 returns-in-2 c =
     let a = c.args in
-    c.as_flattened-in-2.ensures.value ∙ ap (λ (rows : List (List (List Bool))). halves (get_or rows (row a.start a.number) [])) c.as_flattened.ensures.value ∙ row_at halves (symbols 2) (flat_map (λ rows. rows) FOUR_SYMBOLS_2) [] refl a.start a.number ∙ ap (λ m. symbols m a.start (field_of a.number 4)) (sym c.in-2.is)
+    c.as_flattened.ensures.value ∙ row_at halves (symbols 2) FOUR_SYMBOLS_2 [] refl a.start a.number ∙ ap (λ m. symbols m a.start (field_of a.number 4)) (sym c.in-2.is)
 
 pub returns-in-4 : goal.returns-in-4
 unfolding field_of
 returns-in-4 c =
     let a = c.args in
-    c.as_flattened-in-4-2.ensures.value ∙ ap (λ (rows : List (List (List Bool))). halves (get_or rows (row a.start a.number) [])) c.as_flattened-in-4.ensures.value ∙ row_at halves (symbols 4) (flat_map (λ rows. rows) FOUR_SYMBOLS_4) [] refl a.start a.number ∙ ap (λ m. symbols m a.start (field_of a.number 4)) (sym c.in-4.is)
+    c.as_flattened-in-4.ensures.value ∙ row_at halves (symbols 4) FOUR_SYMBOLS_4 [] refl a.start a.number ∙ ap (λ m. symbols m a.start (field_of a.number 4)) (sym c.in-4.is)
 
 pub returns-in_default : goal.returns-in_default
 unfolding field_of
 returns-in_default c =
     let a = c.args in
     let eight : a.m ≡ 8 = search rules in
-    c.as_flattened-in_default-2.ensures.value ∙ ap (λ (rows : List (List (List Bool))). halves (get_or rows (row a.start a.number) [])) c.as_flattened-in_default.ensures.value ∙ row_at halves (symbols 8) (flat_map (λ rows. rows) FOUR_SYMBOLS_8) [] refl a.start a.number ∙ ap (λ m. symbols m a.start (field_of a.number 4)) (sym eight)
+    c.as_flattened-in_default.ensures.value ∙ row_at halves (symbols 8) FOUR_SYMBOLS_8 [] refl a.start a.number ∙ ap (λ m. symbols m a.start (field_of a.number 4)) (sym eight)
