@@ -2,17 +2,14 @@
 use Rattle.std.proofs.Common.{◌≡◌, ◌<◌, ◌≤◌, ◌^◌, ℕ, List, [], ◌∷◌, length, refl, arith}
 use Rattle.std.specs.Fmt.{decimal}
 use Rattle.command_fields.specs.declared.choices.Bank.{Bank}
-use Rattle.command_fields.specs.declared.choices.Sel.{Sel}
-use Rattle.command_fields.specs.declared.choices.Sel.TheVariants as sels
-use Rattle.command_fields.specs.declared.choices.UpDn.{UpDn}
-use Rattle.command_fields.specs.declared.choices.UpDn.TheVariants.{Up, Same, Down}
 use Rattle.command_grammar.specs.Commands.{IsLegalCommand, IsWord, all_kinds}
 use Rattle.command_grammar.specs.declared.commands.Command.{Command}
 use Rattle.command_grammar.specs.declared.commands.Command.TheVariants.{QueryRep, Ack, Query, QueryAdjust, Select, Nak, ReqRn, Read, Write, Kill, Lock, Access, BlockWrite, BlockErase}
 use Rattle.command_grammar.specs.declared.kinds.CommandKind.{CommandKind}
 use Rattle.command_grammar.specs.declared.kinds.CommandKind.TheVariants as kinds
 use Rattle.wire_text.specs.CommandText.{IsCommandBehind, bank_word, command_name, commands, flag_word, mask_bank_word, payload_digits, sel_word, side_word, updn_word}
-use Rattle.wire_text.specs.NameLists.{EachFound, command_found}
+use Rattle.wire_text.specs.NameLists.{command_found}
+use Rattle.wire_text.specs.FieldNames.{all_sels, all_updns, sel_found, updn_found}
 use Rattle.wire_text.proofs.CommandTexts.{commands_are}
 use Rattle.wire_text.proofs.CommandsToldApart.{block_of_list, list_of_block}
 use Rattle.scenario_lines.specs.Spelling.{flag_text}
@@ -24,20 +21,6 @@ use Rattle.text_fields.specs.CodeNames.{code_word}
 use Rattle.text_fields.specs.Hexadecimal.{hex_word, hex_words}
 use Rattle.text_fields.specs.WordLists.{IsWordList}
 use Rattle.bench_lines.proofs.VocabularyDecided.{AreDecided}
-
-abbrev all_sels : List Sel
-all_sels = sels.All00 ∷ sels.All01 ∷ sels.NotSl ∷ sels.Sl ∷ []
-
-sel_found : EachFound sel_word all_sels
-sel_found sels.All00 = refl
-sel_found sel = refl
-
-abbrev all_updns : List UpDn
-all_updns = Up ∷ Same ∷ Down ∷ []
-
-updn_found : EachFound updn_word all_updns
-updn_found Up = refl
-updn_found updn = refl
 
 -- behind the name of this command, the fields spell one
 abbrev HasCommand : CommandKind → List (List ℕ) → Type 0

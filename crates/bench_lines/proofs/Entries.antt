@@ -1,6 +1,6 @@
 -- The entries of a log, as they are read.
 use Rattle.std.proofs.Common.{◌≡◌, ◌≢◌, ◌<◌, ◌+◌, ℕ, List, [], ◌∷◌, ◌++◌, arith, refl, sym, subst}
-use Rattle.std.specs.Prelude.{IfErr, IsErrAnd, Option, Result, Ok, Err}
+use Rattle.std.specs.Prelude.{Option}
 use Rattle.checked_lines.specs.laws.ReadingOn.{HasReadTo, all_read, extra_read, fault_read, one_read, unended_read}
 use Rattle.command_grammar.specs.declared.commands.Command.{Command}
 use Rattle.log_judge.specs.Log.{LogEntry, LoggedTag, Seen, Exchange, line_count, lines_in}
@@ -108,8 +108,3 @@ pub event_read : (bytes : List ℕ) (tag : LoggedTag) (log : List LogEntry) (ent
 event_read bytes tag log entry count left counted one so_far =
     let lines = lines_pushed log entry in
     renumbered bytes (within tag (log ++ entry ∷ [])) (3 + (count + 1)) (3 + lines_in (log ++ entry ∷ [])) left (omega (arith, lines, counted, one)) so_far
-
--- a fault that is handed on
-pub handed_on : {T F : Type 0} (result : Result T F) (cause : F) (P : F → Type 0) → IsErrAnd result (λ fault. fault ≡ cause) → P cause → IfErr result P
-handed_on (Ok value) cause P is holds = absurd is
-handed_on (Err fault) cause P is holds = subst P (sym is) holds

@@ -1,27 +1,16 @@
 -- The events of a probe are told apart.
-use Rattle.std.proofs.Common.{◌≡◌, ℕ, List, [], ap, get_or, arith, refl, sym, ◌∙◌}
+use Rattle.std.proofs.Common.{◌≡◌, ℕ, List, [], ap, refl, sym, ◌∙◌}
 use Rattle.air_events.specs.declared.Event.{Event}
 use Rattle.air_events.specs.declared.Event.TheVariants as events
 use Rattle.wire_text.specs.CommandText.{flag_word}
 use Rattle.wire_text.proofs.CommandFieldTexts.{flag_is}
 use Rattle.wire_text.proofs.CommandsToldApart.{flag_told}
-use Rattle.scenario_lines.specs.declared.keywords.EventKind.{EventKind}
-use Rattle.scenario_lines.specs.declared.keywords.EventKind.TheVariants as kinds
 use Rattle.scenario_lines.specs.Names.{event_kind, event_word}
+use Rattle.scenario_lines.proofs.ToldNames.{event_word_told}
 use Rattle.text_fields.specs.NamedFields.{AreFilled, AreSpelling}
 use Rattle.text_fields.proofs.FilledFields.{none_filled, one_more}
 use Rattle.text_fields.proofs.NamedFieldLaws.{IsVocabulary, same_behind}
 use Rattle.bench_lines.specs.ProbeLine.{IsProbeEvent, probe_event_fields, other_event_fields, probe_events}
-
-kind_told : (one other : EventKind) → event_word one ≡ event_word other → one ≡ other
-kind_told kinds.Timeout kinds.Timeout same = refl
-kind_told kinds.Off kinds.Off same = refl
-kind_told kinds.On kinds.On same = refl
-kind_told kinds.Expire kinds.Expire same = refl
-kind_told one other same =
-    let first = ap (λ (text : List ℕ). get_or text 0 0) same in
-    let second = ap (λ (text : List ℕ). get_or text 1 0) same in
-    absurd (omega arith)
 
 filled : (event : Event) → AreFilled (probe_event_fields (event_kind event)) (other_event_fields event)
 filled events.Timeout = none_filled
@@ -30,7 +19,7 @@ filled events.On = none_filled
 filled (events.Expire flag) = one_more 0 (flag_word flag) [] (flag_is flag).filled none_filled
 
 pub events_are : IsVocabulary probe_events IsProbeEvent
-events_are = record { told = kind_told; filled = λ event is. filled event }
+events_are = record { told = event_word_told; filled = λ event is. filled event }
 
 others_told : (one other : Event) → event_kind one ≡ event_kind other → other_event_fields one ≡ other_event_fields other → one ≡ other
 others_told events.Timeout events.Timeout kind same = refl
@@ -44,4 +33,4 @@ pub event_told : (fields : List (List ℕ)) (one other : Event) → AreSpelling 
 event_told fields one other is is' =
     let same = same_behind (event_word (event_kind one)) (event_word (event_kind other)) (other_event_fields one) (other_event_fields other)
     (sym is.spelling ∙ is'.spelling) in
-    others_told one other (kind_told (event_kind one) (event_kind other) same.0) same.1
+    others_told one other (event_word_told (event_kind one) (event_kind other) same.0) same.1

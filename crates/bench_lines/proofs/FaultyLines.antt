@@ -1,7 +1,8 @@
 -- The faults of a line as its reader tells them.
-use Rattle.std.proofs.Common.{◌≡◌, ◌≤◌, ℕ, List, ◌∷◌, sym, subst, inl}
-use Rattle.std.specs.Prelude.{IfErr, IsErrAnd, Result, Ok, Err}
+use Rattle.std.proofs.Common.{◌≡◌, ◌≤◌, ℕ, List, ◌∷◌, inl}
+use Rattle.std.specs.Prelude.{IfErr, IsErrAnd, Result}
 use Rattle.text_fields.specs.declared.fields_fault.FieldsFault.{FieldsFault}
+use Rattle.checked_lines.specs.laws.HandedOn.{fault_handed_on}
 use Rattle.bench_lines.specs.declared.probe_line.LineWord.{LineWord}
 use Rattle.bench_lines.specs.declared.probe_line.LineWord.TheVariants as words
 use Rattle.text_fields.specs.declared.fields_fault.FieldsFault.TheVariants as reasons
@@ -13,16 +14,11 @@ use Rattle.bench_lines.specs.Stimuli.{Stimulus}
 use Rattle.bench_lines.specs.ProbeLine.{SpellsProbeLine, line_word}
 use Rattle.bench_lines.proofs.LineTexts.{stimulus_is_no_end, word_or_word}
 
--- a fault that is handed on
-kept : {T : Type 0} (result : Result T FieldsFault) (cause : FieldsFault) (P : FieldsFault → Type 0) → IsErrAnd result (λ fault. fault ≡ cause) → P cause → IfErr result P
-kept (Ok value) cause P is holds = absurd is
-kept (Err fault) cause P is holds = subst P (sym is) holds
-
 -- behind a word
 pub faulty_behind : {T : Type 0} (result : Result T FieldsFault) (cause : FieldsFault) (fields others : List (List ℕ)) (word : LineWord) → IsErrAnd result (λ fault. fault ≡ cause)
     → fields ≡ line_word word ∷ others → AreFaultyBehind word others cause → IfErr result (IsFaultyProbeLine fields)
 faulty_behind result cause fields others word is first faulty =
-    kept result cause (IsFaultyProbeLine fields) is (inl (record { word = word; begins = record { others = others; first = first }; behind = faulty }))
+    fault_handed_on result cause (IsFaultyProbeLine fields) is (inl (record { word = word; begins = record { others = others; first = first }; behind = faulty }))
 
 -- another word
 pub begins_with_bits : (fields others : List (List ℕ)) → fields ≡ line_word words.Bits ∷ others → ¬ BeginsWithWord fields words.End

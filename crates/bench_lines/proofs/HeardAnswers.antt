@@ -15,6 +15,7 @@ use Rattle.tag_machine.specs.declared.any_tag.Answered.TheVariants.{Silent, Plai
 use Rattle.tag_machine.specs.Answers.{Outcome, Sent, bits_sent}
 use Rattle.tag_machine.specs.declared.any_tag.Heard.{Heard}
 use Rattle.tag_machine.specs.Hearing.{GivesOutcome}
+use Rattle.log_judge.proofs.HeardAnswers.{some_expected}
 use Rattle.bench_lines.specs.ProbeAnswers.{probe_answer_line, answer_preamble_word}
 use Rattle.bench_lines.specs.UnreadAnswers.{IsHeardAnswer}
 
@@ -46,12 +47,6 @@ answer_told None extended expect bits number reply is only = absurd (no_mark ext
 answer_told (Some sent) extended expect bits number reply is only =
     ap (λ (r : Reply). line_with (codes "answer" ∷ decimal number ∷ answer_preamble_word extended ∷ reply_line r ∷ [])) (only sent.reply is.bits_are)
     ∙ ap (λ (e : Bool). line_with (codes "answer" ∷ decimal number ∷ answer_preamble_word e ∷ reply_line sent.reply ∷ [])) (sym (same_mark extended sent.extended is.mark))
-
--- what is sent is expected
-some_expected : (expect : Option Expect) (sent : Sent) (bits : List Bool) → bits ≡ bits_sent (Some sent)
-    → IsSomeAnd expect (λ it. Carries it sent.handle × AnswersExpected sent.reply it (bits_sent (Some sent))) → IsSomeAnd expect (λ it. AnswersExpected sent.reply it bits)
-some_expected None sent bits is expected = expected
-some_expected (Some it) sent bits is expected = subst (λ (b : List Bool). AnswersExpected sent.reply it b) (sym is) expected.1
 
 pub answer_expected : (answer : Option Sent) (expect : Option Expect) (bits : List Bool) → bits ≡ bits_sent answer
     → ((sent : Sent) → answer ≡ Some sent → IsSomeAnd expect (λ it. Carries it sent.handle × AnswersExpected sent.reply it (bits_sent (Some sent))))

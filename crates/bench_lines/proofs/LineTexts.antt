@@ -11,6 +11,8 @@ use Rattle.text_fields.proofs.NamedFieldLaws.{one_fault as one_named_fault, same
 use Rattle.command_grammar.specs.declared.commands.Command.{Command}
 use Rattle.command_grammar.specs.declared.kinds.CommandKind.{CommandKind}
 use Rattle.command_grammar.specs.declared.kinds.CommandKind.TheVariants as kinds
+use Rattle.wire_text.specs.NameLists.{EachFound}
+use Rattle.wire_text.proofs.NameLists.{told}
 use Rattle.wire_text.specs.CommandText.{IsCommandText, IsFaultyCommand, command_kind, command_name, other_command_fields}
 use Rattle.bench_lines.specs.declared.probe_line.LineWord.{LineWord}
 use Rattle.bench_lines.specs.declared.probe_line.LineWord.TheVariants as words
@@ -29,11 +31,15 @@ pub record Known : Type 0 where
   pub bits_told : (one other : List Bool) → binary one ≡ binary other → one ≡ other
 
 -- the words are told apart,
+abbrev pub all_words : List LineWord
+all_words = words.Bits ∷ words.Event ∷ words.End ∷ []
+
+pub word_found : EachFound line_word all_words
+word_found words.Bits = refl
+word_found word = refl
+
 word_told : (one other : LineWord) → line_word one ≡ line_word other → one ≡ other
-word_told words.Bits words.Bits same = refl
-word_told words.Event words.Event same = refl
-word_told words.End words.End same = refl
-word_told one other same = cc
+word_told = told line_word all_words word_found
 
 -- ... and from the names of commands
 no_bits : (kind : CommandKind) → command_name kind ≡ codes "bits" → ⊥

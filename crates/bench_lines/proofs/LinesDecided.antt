@@ -41,6 +41,7 @@ use Rattle.bench_lines.proofs.CommandsDecided.{commands_decided}
 use Rattle.bench_lines.proofs.RepliesDecided.{replies_decided}
 use Rattle.bench_lines.proofs.VocabularyDecided.{AreDecided, SpellOrAreFaulty, spell_or_are_faulty}
 use Rattle.bench_lines.specs.SeenLine.{AreFaultySeen, SpellSeen, seen_mark_word}
+use Rattle.bench_lines.proofs.LineTexts.{all_words, word_found}
 
 -- an event: its kind, and the flag of an expiry
 abbrev HasEvent : EventKind → List (List ℕ) → Type 0
@@ -123,13 +124,6 @@ worded_or_faulty : (word : LineWord) (others : List (List ℕ)) → SaysOrIsFaul
 worded_or_faulty words.Bits others = bits_or_faulty others
 worded_or_faulty words.Event others = event_or_faulty others (spell_or_are_faulty probe_events IsProbeEvent events_decided others)
 worded_or_faulty words.End others = end_or_faulty others
-
-abbrev all_words : List LineWord
-all_words = words.Bits ∷ words.Event ∷ words.End ∷ []
-
-word_found : EachFound line_word all_words
-word_found words.Bits = refl
-word_found word = refl
 
 pub says_or_is_faulty : (fields : List (List ℕ)) → SaysOrIsFaulty fields
 says_or_is_faulty [] =

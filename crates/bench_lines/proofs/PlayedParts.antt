@@ -11,6 +11,7 @@ use Rattle.tag_machine.specs.declared.any_tag.AnyTag.{AnyTag}
 use Rattle.tag_machine.specs.Hearing.{tag_value_of}
 use Rattle.tag_machine.specs.TagValue.{TagValue}
 use Rattle.text_fields.specs.Lines.{text_with}
+use Rattle.checked_lines.specs.laws.HandedOn.{handed_on}
 use Rattle.bench_lines.specs.Stimuli.{Stimulus, StimulusEffect}
 use Rattle.bench_lines.specs.ProbeAnswers.{HasEffect, TellsEffects, first_number, last_text, probe_lines_behind, outcome_of_effect, probe_text_from}
 use Rattle.bench_lines.specs.Played.{AddsFrontOf, HasPlayed, WritesFrontOf, StopsIn, TellsNext, WritesPart}
@@ -206,11 +207,6 @@ last_told (Err fault) begun to after faults told ok steady failed =
       told = append-nil (told.sent ++ to.waiting) ∙ told.tells.told;
     } in
     stopped begun to.waiting to.written after faults fault (part_of begun to.written after told.sent to.waiting [] told.added tells) failed
-
--- a fault that is handed on
-pub handed_on : {T : Type 0} (result : Result T PlayFault) (cause : PlayFault) (P : Result T PlayFault → Type 0) → IsErrAnd result (λ fault. fault ≡ cause) → P (Err cause) → P result
-handed_on (Ok value) cause P is holds = absurd is
-handed_on (Err fault) cause P is holds = subst (λ (f : PlayFault). P (Err f)) (sym is) holds
 
 -- where there is no memory, nothing of what waits is written
 pub no_memory : (waiting : List ℕ) (written : Option (List ℕ)) (faults faults' : ℕ) → faults' ≡ faults → StopsIn waiting written written faults faults' OutOfMemory

@@ -1,6 +1,6 @@
 -- Fields spell a reply, or there is a reason for which they spell none.
 use Rattle.std.proofs.Common.{◌≡◌, ◌<◌, ◌^◌, ℕ, List, [], ◌∷◌, refl}
-use Rattle.wire_text.specs.NameLists.{EachFound}
+use Rattle.wire_text.specs.FieldNames.{all_reply_kinds, reply_found}
 use Rattle.reply_grammar.specs.declared.expected.Reply.{Reply}
 use Rattle.reply_grammar.specs.declared.expected.Reply.TheVariants.{Rn16, Epc, Handle, Words, Header, Error}
 use Rattle.wire_text.specs.ReplyText.{IsReplyBehind, IsReplyForm, replies, reply_name}
@@ -20,13 +20,6 @@ IsByte number = number < 2 ^ 8
 
 byte_decided : (field : List ℕ) → Decided (Spelled hex_byte IsByte field)
 byte_decided field = below_decided (λ n. field ≡ hex_byte n) (λ n. text_decided field (hex_byte n)) (2 ^ 8)
-
-abbrev all_kinds : List ReplyKind
-all_kinds = kinds.Rn16 ∷ kinds.Epc ∷ kinds.Handle ∷ kinds.Words ∷ kinds.Header ∷ kinds.Error ∷ []
-
-reply_found : EachFound reply_name all_kinds
-reply_found kinds.Rn16 = refl
-reply_found kind = refl
 
 -- behind the name of this reply, the fields spell one
 abbrev HasReply : ReplyKind → List (List ℕ) → Type 0
@@ -69,4 +62,4 @@ reply_behind kinds.Error fields =
     same_answer (λ found. (Error found.0.0, record { same_kind = refl; in_range = found.1.0; spelling = found.2 })) (there_of kinds.Error fields) (then byte_decided end fields)
 
 pub replies_decided : AreDecided replies IsReplyForm
-replies_decided = record { is = replies_are; names = named_decided reply_name all_kinds reply_found; behind = reply_behind }
+replies_decided = record { is = replies_are; names = named_decided reply_name all_reply_kinds reply_found; behind = reply_behind }

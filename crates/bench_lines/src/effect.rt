@@ -12,7 +12,7 @@ use text_fields::Digits;
 
 /// What a line does to the tag, where a command that it hears stands in the room that was lent.
 #[derive(Drop)]
-pub enum SaidEffect {
+pub(crate) enum SaidEffect {
     /// It hears the command that stands in the room.
     Hears,
     /// This befalls it.
@@ -44,7 +44,11 @@ fn effect_of_bits(digits: Digits<'_>, bits: &mut Bits, command: &mut Command) ->
 
 /// What is done to the tag, where bits are looked at. The room has the command that is sent, and then the one that the tag hears; the room
 /// for bits is lent.
-pub fn effect_of(stimulus: SaidStimulus<'_>, bits: &mut Bits, command: &mut Command) -> SaidEffect
+pub(crate) fn effect_of(
+    stimulus: SaidStimulus<'_>,
+    bits: &mut Bits,
+    command: &mut Command,
+) -> SaidEffect
     requires legal { IsProbeLine (Does (stimulus_with stimulus command.old)) }
     requires room { most_line_bits ≤ bits.old.capacity }
     ensures effect { HasEffect (stimulus_with stimulus.entry command.old)

@@ -1,5 +1,5 @@
 //! A log, judged as its text is read.
-ghost use Rattle.std.specs.Prelude.{◌≡◌, ◌↔◌, ℕ, List, [], IfErr, IfOk, IsTrue};
+ghost use Rattle.std.specs.Prelude.{◌≡◌, ◌↔◌, [], IfErr, IfOk, IsTrue};
 ghost use Rattle.log_judge.specs.Answers.{verdict_in};
 ghost use Rattle.log_judge.specs.Judging.{HasHeard};
 ghost use Rattle.log_judge.specs.Log.{LoggedTag};

@@ -21,7 +21,6 @@ mod stimuli;
 mod verdict_printing;
 
 pub use checked_lines::{FaultReason, FaultyLine, Unread, fault_text};
-pub use effect::{SaidEffect, effect_of};
 pub use judging::judge_log;
 pub use log_laws::{
     log_texts_are_not_faulty, log_texts_have_one_fault, log_texts_have_one_verdict,
@@ -33,6 +32,4 @@ pub use probe_laws::{
     line_laws, probe_texts_are_not_faulty, probe_texts_have_one_fault, probes_are_told_apart,
     probes_have_one_text, stimuli_have_one_effect,
 };
-pub use probe_line::{LineWord, SaidLine, SaidStimulus};
-pub use probe_reading::{read_behind, read_probe_line, read_tag_line};
 pub use verdict_printing::push_verdict;

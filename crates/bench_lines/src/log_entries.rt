@@ -14,6 +14,7 @@ ghost use Rattle.bench_lines.specs.ReadEntries.{HasHeardEntry, HasReadEntry, Has
 use crate::effect::{SaidEffect, effect_of};
 use crate::log_reading::{read_next, read_seen};
 use crate::probe_line::SaidLine;
+use crate::probe_reading::fault_behind;
 use air_events::Event;
 use bit_strings::{Bits, OutOfMemory};
 use checked_lines::{FaultReason, FaultyLine};
@@ -104,20 +105,6 @@ impl Rooms {
             SaidEntry::Befalls(event) => judge.befall(event),
             SaidEntry::End => judge,
         }
-    }
-}
-
-/// The number of the first line of a log behind that of the tag, counted from 1.
-const FIRST_NUMBER: u32 = 3;
-
-/// A fault of the line of a log that stands behind that of the tag and so many more.
-fn fault_behind(count: u32, reason: FaultReason) -> FaultyLine
-    requires { count ≤ 70001 }
-    ensures { result ≡ record { line = 3 + count; reason = reason } }
-{
-    FaultyLine {
-        line: FIRST_NUMBER + count,
-        reason,
     }
 }
 

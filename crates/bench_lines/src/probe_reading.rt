@@ -1,5 +1,5 @@
 //! The lines of a probe or a log, read one by one.
-ghost use Rattle.std.specs.Prelude.{◌≡◌, ◌<◌, ◌≤◌, ◌↔◌, ◌⊎◌, [], ◌∷◌, length, IfOk, IfErr, IfSome, IfNone, IsOk, IsTrue, IsFalse, Some};
+ghost use Rattle.std.specs.Prelude.{◌≡◌, ◌<◌, ◌≤◌, ◌+◌, ◌↔◌, ◌⊎◌, [], ◌∷◌, length, IfOk, IfErr, IfSome, IfNone, IsOk, IsTrue, IsFalse, Some};
 ghost use Rattle.text_fields.specs.Binary.{binary};
 ghost use Rattle.text_fields.specs.Lines.{fields_of};
 ghost use Rattle.bench_lines.specs.ProbeLineFaults.{AreFaultyBits, AreFaultyEnd, BeginsWithWord, IsFaultyProbeLine};
@@ -12,7 +12,7 @@ ghost use Rattle.bench_lines.specs.ProbeText.{BeginsAsTag, HasRoom, IsFaultyBehi
 use crate::events::read_event;
 use crate::probe_laws::line_laws;
 use crate::probe_line::{LineWord, SaidLine, SaidStimulus};
-use checked_lines::FaultReason;
+use checked_lines::{FaultReason, FaultyLine};
 use command_grammar::Command;
 use scenario_lines::{TagText, read_tag};
 use text_fields::{Digits, Fields, FieldsFault, is_at_end, one_field};
@@ -23,6 +23,20 @@ pub(crate) const MOST_BITS: u32 = 8_240;
 
 /// How many lines of a probe may stand between that of the tag and the end.
 const MOST_STIMULI: u32 = 70_000;
+
+/// The number of the first line of a probe or a log behind that of the tag, counted from 1.
+pub(crate) const FIRST_NUMBER: u32 = 3;
+
+/// A fault of the line that stands behind that of the tag and so many more.
+pub(crate) fn fault_behind(count: u32, reason: FaultReason) -> FaultyLine
+    requires { count ≤ 70001 }
+    ensures { result ≡ record { line = 3 + count; reason = reason } }
+{
+    FaultyLine {
+        line: FIRST_NUMBER + count,
+        reason,
+    }
+}
 
 /// The word of this name.
 fn word_named(field: &[u8]) -> Option<LineWord>
@@ -82,7 +96,7 @@ fn read_end(others: Fields) -> Result<(), FieldsFault>
 /// # Errors
 ///
 /// The first reason for which it says nothing, whatever stands before it.
-pub fn read_probe_line<'a>(
+pub(crate) fn read_probe_line<'a>(
     line: &'a [u8],
     command: &mut Command,
 ) -> Result<SaidLine<'a>, FieldsFault>
@@ -141,7 +155,7 @@ fn is_too_much(line: &[u8], count: u32) -> bool
 ///
 /// The first reason for which it may not stand there.
 #[tactic(auto, using(crate::proofs::FaultyLines::one_too_many))]
-pub fn read_behind<'a>(
+pub(crate) fn read_behind<'a>(
     line: &'a [u8],
     count: u32,
     command: &mut Command,
@@ -202,7 +216,7 @@ fn behind_tag(line: &[u8]) -> Option<Fields<'_>>
 /// # Errors
 ///
 /// The first reason for which it says none.
-pub fn read_tag_line(line: &[u8]) -> Result<TagText<'_>, FaultReason>
+pub(crate) fn read_tag_line(line: &[u8]) -> Result<TagText<'_>, FaultReason>
     ensures ok { IfOk result (SpellsTag (fields_of line.now)) }
     ensures refused { IfErr result (IsFaultyTagLine (fields_of line.now)) }
 {

@@ -7,14 +7,11 @@ ghost use Rattle.bench_lines.specs.ProbeText.{EndProbe, IsFirstFaultBehind, SayS
 
 use crate::probe_laws::line_laws;
 use crate::probe_line::{SaidLine, SaidStimulus};
-use crate::probe_reading::{read_behind, read_probe_line};
+use crate::probe_reading::{fault_behind, read_behind, read_probe_line};
 use checked_lines::{FaultReason, FaultyLine};
 use command_grammar::Command;
 use std::marker::Model;
 use text_fields::split_line;
-
-/// The number of the first line of a probe behind that of the tag, counted from 1.
-pub(crate) const FIRST_NUMBER: u32 = 3;
 
 /// What is still done to the tag, as the lines say it that are left. A contract sees these lines.
 #[derive(Drop)]
@@ -33,17 +30,6 @@ impl<'a> Model for Stimuli<'a> {
     ghost view = { λ a. lines_of a.rest.now };
 
     ghost invariant = { λ a. (said : List Stimulus) × AreStimuli (lines_of a.rest.now) said };
-}
-
-/// A fault of the line of a probe that stands behind that of the tag and so many more.
-fn fault_behind(count: u32, reason: FaultReason) -> FaultyLine
-    requires { count ≤ 70001 }
-    ensures { result ≡ record { line = 3 + count; reason = reason } }
-{
-    FaultyLine {
-        line: FIRST_NUMBER + count,
-        reason,
-    }
 }
 
 impl<'a> Stimuli<'a> {

@@ -6,7 +6,8 @@ use Rattle.bench_lines.specs.Stimuli as said
 use Rattle.bench_lines.specs.Stimuli.{stimulus_with}
 use Rattle.text_fields.specs.Lines.{lines_of}
 use Rattle.bench_lines.specs.ReadEntries.{IsFaultOf}
-use Rattle.bench_lines.proofs.Entries.{event_read, handed_on, next_does, next_ends, next_faulty}
+use Rattle.checked_lines.specs.laws.HandedOn.{fault_handed_on}
+use Rattle.bench_lines.proofs.Entries.{event_read, next_does, next_ends, next_faulty}
 use Rattle.bench_lines.proofs.log_entries.read_entry.Goals as goal
 
 pub returns-in-Err-clause-refused : goal.returns-in-Err-clause-refused
@@ -19,7 +20,7 @@ pub returns-in_err-read_end-in-Ok-End-clause-refused : goal.returns-in_err-read_
 returns-in_err-read_end-in-Ok-End-clause-refused c = λ bytes tag log counted so_far.
     let says = rw c.in-Ok-End.field-0-is at c.in-Ok-End.ensures.ok in
     let ended_so = next_ends bytes tag log c.args.count c.args.rest.now c.in-Some.line.now c.in-Some.behind.now counted so_far c.in-Some.ensures.lines says.0 says.1 in
-    handed_on c.from_residual.result c.in_err-read_end-in-Ok-End.field-0.0 (IsFaultOf bytes) c.from_residual.ensures.1
+    fault_handed_on c.from_residual.result c.in_err-read_end-in-Ok-End.field-0.0 (IsFaultOf bytes) c.from_residual.ensures.1
     (c.in_err-read_end-in-Ok-End.ensures.refused bytes tag log ended_so)
 
 pub returns-in_ok-read_end-in-Ok-End-clause-ok : goal.returns-in_ok-read_end-in-Ok-End-clause-ok
@@ -40,7 +41,7 @@ returns-in_err-left-in-Hears-clause-refused c = λ bytes tag log counted so_far.
     let says = rw c.in-Ok-Stimulus.field-0-is at c.in-Ok-Stimulus.ensures.ok in
     let done = next_does bytes tag log (stimulus_with c.in-Ok-Stimulus.stimulus c.read_next.new.command) (said.Hears c.effect_of.new.command) c.args.count c.args.rest.now
     c.in-Some.line.now c.in-Some.behind.now counted so_far c.in-Some.ensures.lines says.0 says.1 says.2 c.in-Hears.ensures.effect in
-    handed_on c.from_residual-in_err-left-in-Hears.result c.in_err-left-in-Hears.field-0.0 (IsFaultOf bytes) c.from_residual-in_err-left-in-Hears.ensures.1
+    fault_handed_on c.from_residual-in_err-left-in-Hears.result c.in_err-left-in-Hears.field-0.0 (IsFaultOf bytes) c.from_residual-in_err-left-in-Hears.ensures.1
     (c.in_err-left-in-Hears.ensures.refused bytes tag log (Some c.effect_of.new.command) (omega (arith, counted)) done)
 
 pub returns-in_ok-left-in-Hears-clause-ok : goal.returns-in_ok-left-in-Hears-clause-ok
@@ -55,7 +56,7 @@ returns-in_err-left-in-Nothing-clause-refused c = λ bytes tag log counted so_fa
     let says = rw c.in-Ok-Stimulus.field-0-is at c.in-Ok-Stimulus.ensures.ok in
     let done = next_does bytes tag log (stimulus_with c.in-Ok-Stimulus.stimulus c.read_next.new.command) said.Nothing c.args.count c.args.rest.now
     c.in-Some.line.now c.in-Some.behind.now counted so_far c.in-Some.ensures.lines says.0 says.1 says.2 c.in-Nothing.ensures.effect in
-    handed_on c.from_residual-in_err-left-in-Nothing.result c.in_err-left-in-Nothing.field-0.0 (IsFaultOf bytes) c.from_residual-in_err-left-in-Nothing.ensures.1
+    fault_handed_on c.from_residual-in_err-left-in-Nothing.result c.in_err-left-in-Nothing.field-0.0 (IsFaultOf bytes) c.from_residual-in_err-left-in-Nothing.ensures.1
     (c.in_err-left-in-Nothing.ensures.refused bytes tag log None (omega (arith, counted)) done)
 
 pub returns-in_ok-left-in-Nothing-clause-ok : goal.returns-in_ok-left-in-Nothing-clause-ok

@@ -2,9 +2,10 @@ use Rattle.std.proofs.Common.{arith, ◌+◌, refl, ◌∙◌}
 use Rattle.std.specs.String.{string_bytes}
 use Rattle.tag_machine.specs.Hearing.{tag_value_of}
 use Rattle.report_lines.specs.declared.mode.PlayFault.TheVariants.{OutOfMemory}
+use Rattle.checked_lines.specs.laws.HandedOn.{handed_on}
 use Rattle.bench_lines.specs.Stimuli.{stimulus_with}
 use Rattle.bench_lines.specs.Played.{HasPlayed}
-use Rattle.bench_lines.proofs.PlayedParts.{all_told, beginning, handed_on, last_told, no_memory, none_played, one_played, place, some_sent, stop_played}
+use Rattle.bench_lines.proofs.PlayedParts.{all_told, beginning, last_told, no_memory, none_played, one_played, place, some_sent, stop_played}
 use Rattle.bench_lines.proofs.playing.play_on.Goals as goal
 
 pub loop-stimulus-init : goal.loop-stimulus-init
