@@ -1,6 +1,6 @@
 //! Which members a line has, by its words.
 ghost use Rattle.std.specs.Prelude.{◌≡◌, map};
-ghost use Rattle.line_objects.specs.LineMembers.{answer_rows, audit_rows, command_rows, given_rows, judge_rows, keys_behind, keys_in, line_keys, probe_rows, reply_rows, report_rows, row_of, state_rows, want_rows};
+ghost use Rattle.line_objects.specs.LineMembers.{keys_behind, keys_in, line_keys, row_of};
 
 use crate::member_names::Key;
 
