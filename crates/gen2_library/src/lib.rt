@@ -7,7 +7,7 @@ ghost use Rattle.std.specs.Prelude.{◌≡◌, ◌≢◌, ◌⊎◌, ℕ, ◌≤
 ghost use Rattle.gen2_library.specs.LentRoom.{HasUnreadableWord, input_of, Gives, GivesFront, Overflows};
 ghost use Rattle.report_lines.specs.declared.mode.Mode.{Mode};
 ghost use Rattle.text_fields.specs.Lines.{fields_of};
-ghost use Rattle.top_call.specs.ProgramTexts.{version_number};
+ghost use Rattle.top_call.specs.HelpAndVersion.{version_number};
 ghost use Rattle.top_call.specs.Form.{SpellForm, SpellSomeForm};
 ghost use Rattle.top_call.specs.Job.{Defines};
 ghost use Rattle.top_call.specs.Jobs.{job_of};

@@ -18,7 +18,7 @@ use Rattle.top_call.specs.words.Judged.{judge_job}
 use Rattle.top_call.specs.words.Objects.{objects_job}
 use Rattle.top_call.specs.words.Generated.{gen_job}
 use Rattle.top_call.specs.words.OwnTexts.{text_job}
-use Rattle.top_call.specs.ProgramTexts.{help_text, version_text}
+use Rattle.top_call.specs.HelpAndVersion.{help_text, version_text}
 
 -- what the words of a form do
 abbrev pub job_of : Form → Job

@@ -6,6 +6,6 @@ pub mod UnwrittenBytes
 pub mod StatusMeanings
 pub mod Ending
 pub mod StatusNumber
-pub mod ProgramTexts
+pub mod HelpAndVersion
 pub mod PortalFault
 pub mod PortalText

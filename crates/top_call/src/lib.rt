@@ -5,25 +5,23 @@
 
 mod ending;
 mod forms;
+mod help_and_version;
 mod laws;
 mod portal_faults;
 mod portal_rounds;
 mod portal_text;
 mod program;
-mod program_texts;
 mod status;
 mod words;
 
 pub use ending::MOST_INPUT_BYTES;
 pub use forms::{Form, form_of, form_of_one, form_of_three, form_of_two, reads_input};
+pub use help_and_version::{help_text, version_number, version_text};
 pub use laws::{
     forms_are_told_apart, grammatical_inputs_are_not_refused, inputs_have_one_text, jobs_are_lawful,
 };
-pub use portal_faults::{portal_fault, portal_scenarios};
-pub use portal_rounds::round_specs;
-pub use portal_text::portals_text;
+pub use portal_faults::portal_scenarios;
 pub use program::{gen2run, gen2run_surely};
-pub use program_texts::{help_text, version_number, version_text};
 pub use status::Status;
 pub use words::audit::{audit_inputs_have_a_text, audit_is_lawful};
 pub use words::decode::decode_is_lawful;

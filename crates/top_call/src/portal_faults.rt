@@ -10,7 +10,7 @@ use scenario::{Scenario, Several, Step, Version};
 
 /// The number of the first line, counted from 1, for which a scenario is none of two portals; none exactly where there
 /// is no such line.
-pub fn portal_fault(scenario: &Scenario) -> Option<u32>
+pub(crate) fn portal_fault(scenario: &Scenario) -> Option<u32>
     requires { IsScenario scenario.now }
     ensures { result ≡ portal_fault scenario.now }
 {

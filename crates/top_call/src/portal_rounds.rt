@@ -12,7 +12,7 @@ use std::alloc::Global;
 /// # Errors
 ///
 /// There was no memory.
-pub fn round_specs(alloc: Global, steps: &[Step]) -> Result<Vec<RoundSpec>, OutOfMemory>
+pub(crate) fn round_specs(alloc: Global, steps: &[Step]) -> Result<Vec<RoundSpec>, OutOfMemory>
     ensures { IfOk result (λ specs. specs.items ≡ specs_of steps.now) }
 {
     let mut specs = Vec::with_capacity(alloc, steps.len())?;

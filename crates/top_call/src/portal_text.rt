@@ -15,7 +15,7 @@ use two_portals::PortalLine;
 /// # Errors
 ///
 /// There was no memory.
-pub fn portals_text(alloc: Global, lines: &[PortalLine]) -> Result<String, OutOfMemory>
+pub(crate) fn portals_text(alloc: Global, lines: &[PortalLine]) -> Result<String, OutOfMemory>
     ensures { IfOk result (λ text. string_bytes text ≡ portals_text lines.now) }
 {
     let mut text = String::new(alloc);

@@ -1,4 +1,4 @@
--- Profile: the job of `--help` and `--version`: the text of ProgramTexts.antt, whatever the input.
+-- Profile: the job of `--help` and `--version`: the text of HelpAndVersion.antt, whatever the input.
 use Rattle.std.specs.Prelude.{◌≡◌, ℕ, false, List}
 use Rattle.top_call.specs.Job.{Job}
 

@@ -7,7 +7,7 @@ ghost use Rattle.top_call.specs.StatusMeanings.{EndsSo, input_limit, source_chan
 
 use crate::ending::{MOST_INPUT_BYTES, WriteEnd, Wrote, status_of, unread_status};
 use crate::forms::{Form, reads_input};
-use crate::program_texts::{help_text, version_text};
+use crate::help_and_version::{help_text, version_text};
 use crate::status::Status;
 use crate::words::{
     audit, encode, generate, judge, names, own_texts, portals, probe, run, upgrade,

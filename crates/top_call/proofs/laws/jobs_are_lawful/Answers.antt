@@ -1,5 +1,5 @@
 -- The law of each word.
-use Rattle.top_call.specs.ProgramTexts.{help_text, version_text}
+use Rattle.top_call.specs.HelpAndVersion.{help_text, version_text}
 use Rattle.top_call.specs.declared.forms.Form.TheVariants.{Decode, Encode, Run, Upgrade, Portals, Names, Probe, Judge, Audit, Objects, Gen, Help, Version}
 use Rattle.top_call.proofs.laws.jobs_are_lawful.Goals as goal
 

@@ -1,4 +1,4 @@
-use Rattle.top_call.proofs.PortalNames.{◌≡◌, ◌+◌, ◌≤◌, List, length, Some, sym, ap, ◌∙◌, arith, IsTrue, Step, Version, One, Two, first_refused, head_length, lines_of_steps}
+use Rattle.top_call.proofs.PortalNames.{◌≡◌, ◌+◌, ◌≤◌, List, length, Some, sym, ap, ◌∙◌, arith, Step, Version, One, Two, first_refused, head_length, lines_of_steps}
 use Rattle.top_call.proofs.PortalsRefused.{few-groups, not-both, said, unsaid}
 use Rattle.top_call.proofs.portal_faults.fault_behind_head.Goals as goal
 

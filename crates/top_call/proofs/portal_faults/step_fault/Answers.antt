@@ -1,4 +1,4 @@
-use Rattle.top_call.proofs.PortalNames.{◌≡◌, ◌≢◌, inl, inr, ℕ, ◌+◌, ◌≤◌, Bool, true, false, List, [], drop, length, Option, Some, None, refl, sym, ap, ◌∙◌, subst, arith, eq-eqb, ◌==◌, IsTrue, is_some, drop_all, eqb-true, Step, first_refused, lines_of_steps}
+use Rattle.top_call.proofs.PortalNames.{◌≡◌, ◌≢◌, inl, inr, ℕ, ◌+◌, ◌≤◌, Bool, true, false, List, [], drop, length, Option, Some, None, refl, sym, ap, ◌∙◌, subst, arith, eq-eqb, ◌==◌, is_some, drop_all, eqb-true, Step, first_refused, lines_of_steps}
 use Rattle.scenario.specs.declared.values.Step.TheVariants as steps
 use Rattle.top_call.proofs.PortalsRefused.{no-round, no-turn, not-both, operates, others, turn}
 use Rattle.top_call.proofs.PortalStepPlaces.{IsStepAt, from-place}

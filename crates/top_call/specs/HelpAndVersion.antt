@@ -1,4 +1,4 @@
--- Profile: what the words `--help` and `--version` write. Made by tools/program_texts of docs/help.txt and docs/version.txt.
+-- Profile: what the words `--help` and `--version` write. Made by tools/help_and_version of docs/help.txt and docs/version.txt.
 use Rattle.std.specs.Prelude.{ℕ, List, [], ◌∷◌, codes}
 use Rattle.text_fields.specs.Lines.{text_with}
 

@@ -1,8 +1,8 @@
 //! What the words `--help` and `--version` write, and the version as a number.
 //!
-//! Made by tools/program_texts of docs/help.txt and docs/version.txt: edit these.
+//! Made by tools/help_and_version of docs/help.txt and docs/version.txt: edit these.
 
-ghost use Rattle.top_call.specs.ProgramTexts.{help_text, version_number, version_text};
+ghost use Rattle.top_call.specs.HelpAndVersion.{help_text, version_number, version_text};
 ghost use Rattle.std.specs.Prelude.{◌≡◌};
 
 /// What `--help` writes: the words of the program, and what its exit status says.
