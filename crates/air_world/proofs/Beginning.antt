@@ -1,5 +1,10 @@
 -- A run as it begins and as it ends.
-use Rattle.air_world.proofs.Names.{◌≡◌, inl, inr, append-nil, ℕ, ◌+◌, ◌<◌, ◌≤◌, ◌==◌, Bool, true, false, List, ◌∷◌, ◌++◌, length, map, Option, Some, None, Result, Ok, Err, refl, sym, ◌∙◌, ap, subst, arith, [], All, IfSome, if◌then◌else◌, no_entry, entry_at, AirValue, NamesTags, AreEntriesLeft, most_tags, Choice, Entry, Event, HasFewLevels, tags_behind_from, new_air, RunValue, RunIsAt, IsPlayable, StandsAt, IsBetweenSteps, NamesItsTags, begun_with, IsCutShort, PlaysOrFails, ReportLine, DoneLine, SeenCount, seen_counts, seen_line, PlayFault, OutOfMemory, RoundsKeepLimit, few-exchanges, steps-exchanges, legal-steps, last_lines, run_lines, tag_lines, start_of, history, scenario_tag, pairs_in, tags_of, IsScenario, IsEntry, IsStep, most_tags_of, Scenario, Step, Version, One, Two, length-map, All-head, All-tail, All-nil, All-weaker, IfErr, OnOk, TagValue, AreLegalTags}
+use Rattle.air_world.proofs.Names.{◌≡◌, inl, inr, append-nil, ℕ, ◌+◌, ◌<◌, ◌≤◌, ◌==◌, Bool, true, false, List, ◌∷◌, ◌++◌, length, map, Option, Some, None, Result, Ok, Err, refl, sym, ◌∙◌, ap, subst}
+use Rattle.air_world.proofs.Names.{arith, [], All, IfSome, if◌then◌else◌, no_entry, entry_at, AirValue, NamesTags, AreEntriesLeft, most_tags, Choice, Entry, Event, HasFewLevels, tags_behind_from}
+use Rattle.air_world.proofs.Names.{new_air, RunValue, RunIsAt, IsPlayable, StandsAt, IsBetweenSteps, NamesItsTags, begun_with, IsCutShort, PlaysOrFails, ReportLine, DoneLine, SeenCount, seen_counts}
+use Rattle.air_world.proofs.Names.{seen_line, PlayFault, OutOfMemory, RoundsKeepLimit, few-exchanges, steps-exchanges, legal-steps, last_lines, run_lines, tag_lines, start_of, history, scenario_tag}
+use Rattle.air_world.proofs.Names.{pairs_in, tags_of, IsScenario, IsEntry, IsStep, most_tags_of, Scenario, Step, Version, One, Two, length-map, All-head, All-tail, All-nil, All-weaker, IfErr, OnOk}
+use Rattle.air_world.proofs.Names.{TagValue, AreLegalTags}
 use Rattle.air_events.specs.declared.Choice.TheVariants as choices
 use Rattle.scenario_lines.specs.LineForm.{IsChoice, IsEvent, IsPlace}
 
@@ -47,11 +52,8 @@ scenario-few scenario is = omega (arith, few-of-version scenario.version, is.few
 
 -- a raw stream of a scenario has few levels
 chosen-few : (choice : Option Choice) → IfSome choice IsChoice → HasFewLevels choice
-chosen-few None is = tt
-chosen-few (Some (choices.Pick reply)) is = tt
-chosen-few (Some choices.Silent) is = tt
-chosen-few (Some (choices.Break place)) is = tt
 chosen-few (Some (choices.Raw levels)) is = is.1
+chosen-few choice is = tt
 
 pub tags-before : (number : ℕ) (starts : List TagValue) → tags_behind_from number starts [] ≡ starts
 tags-before number [] = refl
@@ -80,13 +82,13 @@ pub between-first : {A : Type 0} {hears : A → List ReportLine → A → Type 0
 between-first {first} scenario is stands = record { begun = begun_with scenario first; past = []; stands = stands; room = omega (arith, is.few_steps); rounds = omega (arith, is.few_steps) }
 
 -- what is told behind the steps is what the report has there
-pub last-told : (scenario : Scenario) {air : AirValue} {run : RunValue} {seen : List SeenCount} → RunIsAt (start_of scenario) 0 (history scenario) air run → seen ≡ seen_counts (pairs_in (history scenario))
-    → map seen_line seen ++ tag_lines 0 air.tags ++ DoneLine ∷ [] ≡ last_lines (start_of scenario) (history scenario)
+pub last-told : (scenario : Scenario) {air : AirValue} {run : RunValue} {seen : List SeenCount} → RunIsAt (start_of scenario) 0 (history scenario) air run
+    → seen ≡ seen_counts (pairs_in (history scenario)) → map seen_line seen ++ tag_lines 0 air.tags ++ DoneLine ∷ [] ≡ last_lines (start_of scenario) (history scenario)
 last-told scenario at counted = λ i. map seen_line (counted i) ++ tag_lines 0 (at.tags i) ++ DoneLine ∷ []
 
 -- all is told, so the run is played, or its listener met a fault
-pub ends-played : {A : Type 0} (hears : A → List ReportLine → A → Type 0) (failed : A → Option PlayFault) (old new : A) (r : Result (Unit {0}) PlayFault) (scenario : Scenario) {air : AirValue} {run : RunValue}
-    → RoundsKeepLimit → IsScenario scenario → hears old (run_lines (start_of scenario) scenario.steps) new → RunIsAt (start_of scenario) 0 (history scenario) air run
+pub ends-played : {A : Type 0} (hears : A → List ReportLine → A → Type 0) (failed : A → Option PlayFault) (old new : A) (r : Result (Unit {0}) PlayFault) (scenario : Scenario)
+    {air : AirValue} {run : RunValue} → RoundsKeepLimit → IsScenario scenario → hears old (run_lines (start_of scenario) scenario.steps) new → RunIsAt (start_of scenario) 0 (history scenario) air run
     → OnOk r (failed new ≡ None) → IfErr r (λ fault. failed new ≡ Some fault) → PlaysOrFails hears failed r scenario old new air
 ends-played hears failed old new (Ok done) scenario keeps is told at faultless cause =
     let legal = legal-steps scenario is in
@@ -107,7 +109,7 @@ pub cut-at-first : {A : Type 0} (hears : A → List ReportLine → A → Type 0)
 cut-at-first hears failed now whole told none = record { front = []; rest = whole; split = refl; heard = told; cause = inr (refl, none) }
 
 -- what holds of a listener that was lent, once it is given back
-pub given-back : {A : Type 0} (hears : A → List ReportLine → A → Type 0) (failed : A → Option PlayFault) (r : Result (Unit {0}) PlayFault) (scenario : Scenario) (air : AirValue) {first old later new : A}
-    → first ≡ old → later ≡ new → PlaysOrFails hears failed r scenario first later air → PlaysOrFails hears failed r scenario old new air
+pub given-back : {A : Type 0} (hears : A → List ReportLine → A → Type 0) (failed : A → Option PlayFault) (r : Result (Unit {0}) PlayFault) (scenario : Scenario)
+    (air : AirValue) {first old later new : A} → first ≡ old → later ≡ new → PlaysOrFails hears failed r scenario first later air → PlaysOrFails hears failed r scenario old new air
 given-back hears failed r scenario air {old} {later} was is ends =
     subst (λ now. PlaysOrFails hears failed r scenario old now air) is (subst (λ before. PlaysOrFails hears failed r scenario before later air) was ends)

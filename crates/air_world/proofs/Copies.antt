@@ -1,5 +1,7 @@
 -- The copies of a group, one after another, and the groups of a scenario.
-use Rattle.air_world.proofs.Names.{◌≡◌, ℕ, zero, suc, ◌+◌, ◌<◌, ◌≤◌, List, ◌∷◌, ◌++◌, length, map, take, get_or, sym, ◌∙◌, ap, append_assoc, arith, [], All, most_tags, IsGroupOfTags, scenario_tag, copies, copies_from, copies_of, copy_of, tags_of, IsCount, IsGroup, IsScenario, Scenario, TagGroup, Version, One, Two, take-suc, length-map, map-append, All-weaker, tag_value_of, TagValue, AnyTag}
+use Rattle.air_world.proofs.Names.{◌≡◌, ℕ, zero, suc, ◌+◌, ◌<◌, ◌≤◌, List, ◌∷◌, ◌++◌, length, map, take, get_or, sym, ◌∙◌, ap, append_assoc, arith, [], All, most_tags, IsGroupOfTags, scenario_tag}
+use Rattle.air_world.proofs.Names.{copies, copies_from, copies_of, copy_of, tags_of, IsCount, IsGroup, IsScenario, Scenario, TagGroup, Version, One, Two, take_more, length-map, map-append, All-weaker}
+use Rattle.air_world.proofs.Names.{tag_value_of, TagValue, AnyTag}
 use Rattle.air_world.proofs.Beginning.{scenario-few}
 use Rattle.scenario.proofs.Groups.{one_group_more}
 use Rattle.scenario_lines.specs.declared.tag.TagSpec.{TagSpec}
@@ -52,9 +54,8 @@ next-copy number spec first before after some made more =
 pub next-group : (groups : List TagGroup) (index : ℕ) (group : TagGroup) (before after : List TagValue) → index < length groups → group ≡ get_or groups index group
     → before ≡ map scenario_tag (tags_of (take index groups)) → after ≡ before ++ map scenario_tag (copies_of group) → after ≡ map scenario_tag (tags_of (take (index + 1) groups))
 next-group groups index group before after inside is made more =
-    let next : suc index ≡ index + 1 = omega arith in
     let taken : take (index + 1) groups ≡ take index groups ++ group ∷ [] =
-    ap (λ n. take n groups) (sym next) ∙ take-suc groups index group inside ∙ ap (λ (g : TagGroup). take index groups ++ g ∷ []) (sym is) in
+    take_more groups index group inside ∙ ap (λ (g : TagGroup). take index groups ++ g ∷ []) (sym is) in
     let joined : map scenario_tag (tags_of (take (index + 1) groups)) ≡ map scenario_tag (tags_of (take index groups)) ++ map scenario_tag (copies_of group) =
     ap (λ (g : List TagGroup). map scenario_tag (tags_of g)) taken ∙ ap (λ (tags : List TagSpec). map scenario_tag tags) (one_group_more (take index groups) group)
     ∙ map-append scenario_tag (tags_of (take index groups)) (copies_of group) in

@@ -1,6 +1,12 @@
 -- What is counted of all that a run tells, of the history of its scenario.
 use Rattle.std.proofs.lemmas.List.Sums.{count_by-le-length, length-filter}
-use Rattle.air_world.proofs.Names.{◌≡◌, ℕ, suc, ◌+◌, ◌*◌, ◌≤◌, Bool, not, List, ◌∷◌, ◌++◌, length, length-append, map, refl, sym, ◌∙◌, ap, subst, arith, [], OpList, Start, Record, Item, befell, exchanged, operated, ended, past_behind_command, exchanges_in, rounds_in, tags_behind, CountsLines, Fits, counted_line, counted_lines, nothing_counted, most_slots, lines_to_tell, counted-append, Command, LinkValue, RoundEnd, line_of, ReportLine, MissedLine, GivenLine, OpLine, RoundLine, SeenLine, DoneLine, SeenCount, distinct, seen_among, seen_counts, Line, RoundsKeepLimit, answer-keeps, few-outcomes, round-holds, steps-exchanges, few-exchanges, legal-steps, length-tags, AreLegalSteps, IsLegalStep, past_behind, past_behind_slot, past_behind_step, slot_reception, Listed, listed_by, listing_of, exchange_lines, item_lines, last_lines, list_line, run_lines, tag_lines, wave_lines, answer_line, exchanged_by, said_lines, history, start_of, scenario_tag, all_quiet, pairs_in, slots_past, summary_of, tags_of, IsScenario, Scenario, Step, length-map, Bor, TagValue, AnyTag}
+use Rattle.air_world.proofs.Names.{◌≡◌, ℕ, suc, ◌+◌, ◌*◌, ◌≤◌, Bool, not, List, ◌∷◌, ◌++◌, length, length-append, map, refl, sym, ◌∙◌, ap, subst, arith, [], OpList, Start, Record, Item, exchanged}
+use Rattle.air_world.proofs.Names.{past_behind_command, exchanges_in, rounds_in, tags_behind, CountsLines, Fits, counted_line, counted_lines, nothing_counted, most_slots, lines_to_tell}
+use Rattle.air_world.proofs.Names.{counted-append, Command, LinkValue, RoundEnd, line_of, ReportLine, MissedLine, GivenLine, DoneLine, SeenCount, seen_line, distinct, seen_among, seen_counts, Line}
+use Rattle.air_world.proofs.Names.{RoundsKeepLimit, answer-keeps, few-outcomes, round-holds, steps-exchanges, few-exchanges, legal-steps, length-tags, AreLegalSteps, IsLegalStep, past_behind}
+use Rattle.air_world.proofs.Names.{past_behind_slot, past_behind_step, slot_reception, Listed, listed_by, listing_of, exchange_lines, item_lines, last_lines, list_line, run_lines, tag_lines}
+use Rattle.air_world.proofs.Names.{wave_lines, answer_line, exchanged_by, said_lines, history, start_of, scenario_tag, all_quiet, pairs_in, slots_past, summary_of, tags_of, IsScenario, Scenario, Step}
+use Rattle.air_world.proofs.Names.{length-map, Bor, TagValue, AnyTag}
 use Rattle.scenario.specs.declared.values.Step.TheVariants as steps
 use Rattle.air_world.proofs.Beginning.{scenario-few}
 use Rattle.air_world.proofs.Listings.{few-listed}
@@ -16,7 +22,7 @@ counted-listed counted (one ∷ others) =
     counted-listed (record counted { listed = counted.listed + 1 }) others ∙ ap (λ n. record counted { listed = n }) sum
 
 -- the lines of the counts
-counted-seen : (counted : Summary) (pairs : List SeenCount) → counted_lines counted (map (λ (seen : SeenCount). SeenLine seen.count seen.pc seen.epc) pairs) ≡ record counted { distinct = counted.distinct + length pairs }
+counted-seen : (counted : Summary) (pairs : List SeenCount) → counted_lines counted (map seen_line pairs) ≡ record counted { distinct = counted.distinct + length pairs }
 counted-seen counted [] = let none : counted.distinct ≡ counted.distinct + 0 = omega arith in ap (λ n. record counted { distinct = n }) none
 counted-seen counted (one ∷ others) =
     let sum : counted.distinct + 1 + length others ≡ counted.distinct + suc (length others) = omega arith in
@@ -50,11 +56,6 @@ counted_past past = record { tags = 0; listed = length (listing_of past); distin
 -- ... is counted of its lines
 counted-past : (start : Start) (past : List Item) → counted_lines nothing_counted (lines_to_tell start past) ≡ counted_past past
 counted-past start [] = refl
-counted-past start (befell event number ∷ past) = counted-append nothing_counted (lines_to_tell start past) [] ∙ counted-past start past
-counted-past start (operated round slot index result ∷ past) =
-    counted-append nothing_counted (lines_to_tell start past) _ ∙ ap (λ (c : Summary). counted_lines c (OpLine round slot index result ∷ [])) (counted-past start past)
-counted-past start (ended round end slots ∷ past) =
-    counted-append nothing_counted (lines_to_tell start past) _ ∙ ap (λ (c : Summary). counted_lines c (RoundLine round end slots ∷ [])) (counted-past start past)
 counted-past start (exchanged sent ∷ past) =
     let more : length (listing_of past) + length (listed_by sent) ≡ length (listing_of past ++ listed_by sent) = sym (length-append (listing_of past) (listed_by sent)) in
     counted-append nothing_counted (lines_to_tell start past) (item_lines start.link (exchanged sent))
@@ -63,6 +64,8 @@ counted-past start (exchanged sent ∷ past) =
     ∙ ap (λ (c : Summary). counted_lines c (map list_line (listed_by sent))) (counted-exchange (counted_past past) start.link sent)
     ∙ counted-listed (counted_past past) (listed_by sent)
     ∙ ap (λ n. record (counted_past past) { listed = n }) more
+counted-past start (item ∷ past) =
+    counted-append nothing_counted (lines_to_tell start past) (item_lines start.link item) ∙ ap (λ (c : Summary). counted_lines c (item_lines start.link item)) (counted-past start past)
 
 -- the different pairs that were listed
 distinct-listed : (past : List Item) → length (seen_counts (pairs_in past)) ≡ length (distinct (pairs_in past))
@@ -73,7 +76,7 @@ counted-whole : (scenario : Scenario) → counted_lines nothing_counted (run_lin
 counted-whole scenario =
     let start : Start = start_of scenario in
     let past : List Item = history scenario in
-    let seen : List ReportLine = map (λ (seen : SeenCount). SeenLine seen.count seen.pc seen.epc) (seen_counts (pairs_in past)) in
+    let seen : List ReportLine = map seen_line (seen_counts (pairs_in past)) in
     let tags : List ReportLine = tag_lines 0 (tags_behind start past) in
     let pairs : 0 + length (seen_counts (pairs_in past)) ≡ length (distinct (pairs_in past)) = omega (arith, distinct-listed past) in
     let count : 0 + length (tags_behind start past) ≡ length start.tags = omega (arith, length-tags start past) in
@@ -89,15 +92,12 @@ counted-whole scenario =
 slots-slot : (start : Start) (operations : OpList) (round slot : ℕ) (command : Command) (past : List Item)
     → slots_past (past_behind_slot start operations round slot command past) ≡ slots_past past
 slots-slot start operations round slot command past =
-    answer-keeps (λ now. slots_past now ≡ slots_past past) (record { start = start; round = round; slot = slot }) operations (slot_reception start round slot command past) (past_behind_command start round slot command past)
-    (record { command = λ sent expect extended now expects same. same; result = λ index result now same. same })
+    answer-keeps (λ now. slots_past now ≡ slots_past past) (record { start = start; round = round; slot = slot }) operations (slot_reception start round slot command past)
+    (past_behind_command start round slot command past) (record { command = λ sent expect extended now expects same. same; result = λ index result now same. same })
     (λ rn same. same) refl
 
 -- how many slots a step adds at most
 step-slots : RoundsKeepLimit → (start : Start) (step : Step) (past : List Item) → IsLegalStep step → slots_past (past_behind_step start step past) ≤ slots_past past + most_slots
-step-slots keeps start (steps.Select command) past is = omega arith
-step-slots keeps start steps.Nak past is = omega arith
-step-slots keeps start (steps.Event event number) past is = omega arith
 step-slots keeps start (steps.Round spec operations) past is =
     round-holds (λ outcomes now. slots_past now ≡ slots_past past) (λ now. slots_past now ≤ slots_past past + most_slots)
     (record { start = start; operations = operations; spec = spec; before = past }) keeps is.legal
@@ -106,6 +106,7 @@ step-slots keeps start (steps.Round spec operations) past is =
       end = λ outcomes now end next same. omega (arith, same, few-outcomes keeps spec outcomes is.legal next.are, is.legal.limit.1);
     })
     refl
+step-slots keeps start step past is = omega arith
 
 -- ... and steps
 steps-slots : RoundsKeepLimit → (start : Start) (steps : List Step) (past : List Item) → AreLegalSteps steps → slots_past (past_behind start steps past) ≤ slots_past past + most_slots * length steps
@@ -141,7 +142,8 @@ summary-fits keeps scenario is =
     }
 
 -- who counted all that is told has the summary
-pub summary-counted : RoundsKeepLimit → (scenario : Scenario) (later : Summary) → IsScenario scenario → CountsLines (run_lines (start_of scenario) scenario.steps) nothing_counted later → later ≡ summary_of scenario
+pub summary-counted : RoundsKeepLimit → (scenario : Scenario) (later : Summary) → IsScenario scenario → CountsLines (run_lines (start_of scenario) scenario.steps) nothing_counted later
+    → later ≡ summary_of scenario
 summary-counted keeps scenario later is counts =
     let whole = counted-whole scenario in counts.counted (subst Fits (sym whole) (summary-fits keeps scenario is)) ∙ whole
 
@@ -149,16 +151,8 @@ summary-counted keeps scenario later is counts =
 pub other-line : (counted : Summary) (line : Line) → ((round slot pc : ℕ) (epc : Bor (List ℕ)) → line ≡ lines.List round slot pc epc → ⊥)
     → ((round : ℕ) (end : RoundEnd) (slots : ℕ) → line ≡ lines.Round round end slots → ⊥) → ((count pc : ℕ) (epc : Bor (List ℕ)) → line ≡ lines.Seen count pc epc → ⊥)
     → ((number : ℕ) (tag : Bor AnyTag) → line ≡ lines.Tag number tag → ⊥) → counted ≡ counted_line counted (line_of line)
-other-line counted (lines.Blf numerator denominator) list round seen tag = refl
-other-line counted (lines.Exchange exchange command) list round seen tag = refl
-other-line counted (lines.Missed exchange missed) list round seen tag = refl
-other-line counted (lines.Answer exchange replied extended reply) list round seen tag = refl
-other-line counted (lines.Tx exchange intervals) list round seen tag = refl
-other-line counted (lines.Rx exchange count levels) list round seen tag = refl
-other-line counted (lines.Given given) list round seen tag = refl
 other-line counted (lines.List r s pc epc) list round seen tag = absurd (list r s pc epc refl)
-other-line counted (lines.Op r s index result) list round seen tag = refl
 other-line counted (lines.Round r end slots) list round seen tag = absurd (round r end slots refl)
 other-line counted (lines.Seen count pc epc) list round seen tag = absurd (seen count pc epc refl)
 other-line counted (lines.Tag number t) list round seen tag = absurd (tag number t refl)
-other-line counted lines.Done list round seen tag = refl
+other-line counted line list round seen tag = refl

@@ -1,5 +1,8 @@
 -- The one round of a run in which nothing is said of any exchange.
-use Rattle.air_world.proofs.Names.{◌≡◌, ℕ, suc, ◌+◌, ◌≤◌, ◌<◌, List, ◌∷◌, ◌++◌, length, map, refl, sym, ◌∙◌, ap, subst, arith, [], AirValue, last_exchange, AreEntriesLeft, Entry, Start, Item, befell, exchanged, operated, ended, rounds_in, tags_behind, RunValue, RunIsAt, IsEndedBy, SpecValue, IsLegalSpec, RoundEnd, RoundsKeepLimit, round-holds, PlayedRound, number_of, past_behind_played, past_behind_round, listed_by, listing_of, GoesByTags, pair_listed, pairs_listed_by, pairs_since, played_of, round_ended, rounds_told, pairs_in, no_operations, length-map, map-append, All-nil, slice_get_within, AllByRecursion, AllZip, TagValue, AreLegalTags}
+use Rattle.air_world.proofs.Names.{◌≡◌, get_or, ℕ, suc, ◌+◌, ◌≤◌, ◌<◌, List, ◌∷◌, ◌++◌, length, map, refl, sym, ◌∙◌, ap, subst, arith, [], AirValue, last_exchange, AreEntriesLeft, Entry, Start, Item}
+use Rattle.air_world.proofs.Names.{exchanged, ended, rounds_in, tags_behind, RunValue, RunIsAt, IsEndedBy, SpecValue, IsLegalSpec, RoundEnd, RoundsKeepLimit, round-holds, PlayedRound, number_of}
+use Rattle.air_world.proofs.Names.{past_behind_played, past_behind_round, listed_by, listing_of, GoesByTags, pair_listed, pairs_listed_by, pairs_since, played_of, round_ended, rounds_told, pairs_in}
+use Rattle.air_world.proofs.Names.{no_operations, length-map, map-append, All-nil, slice_get_within, AllByRecursion, AllZip, TagValue, AreLegalTags}
 use Rattle.air_events.specs.declared.Several.TheVariants as severals
 use Rattle.air_world.proofs.Beginning.{tags-before}
 use Rattle.air_world.proofs.Rounds.{rounds-slot}
@@ -38,30 +41,25 @@ hall-begins air run new = record {
 -- where no round ended none is told
 none-told : (start : Start) (past : List Item) → rounds_in past ≡ 0 → rounds_told start past ≡ []
 none-told start [] none = refl
-none-told start (befell event number ∷ past) none = none-told start past none
-none-told start (exchanged sent ∷ past) none = none-told start past none
-none-told start (operated round slot index result ∷ past) none = none-told start past none
 none-told start (ended round end slots ∷ past) none = absurd (omega (arith, none))
+none-told start (item ∷ past) none = none-told start past none
 
 -- ... and all pairs of the past were listed since
 all-since : (past : List Item) → rounds_in past ≡ 0 → pairs_in past ≡ pairs_since past
 all-since [] none = refl
-all-since (befell event number ∷ past) none = all-since past none
 all-since (exchanged sent ∷ past) none =
     map-append pair_listed (listing_of past) (listed_by sent) ∙ ap (λ (pairs : List (ℕ × List ℕ)). pairs ++ pairs_listed_by sent) (all-since past none)
-all-since (operated round slot index result ∷ past) none = all-since past none
 all-since (ended round end slots ∷ past) none = absurd (omega (arith, none))
-
-first-same : (one other : Played) → one ∷ [] ≡ other ∷ [] → one ≡ other
-first-same one other same = cc
+all-since (item ∷ past) none = all-since past none
 
 -- the end of the first round of a run tells what it was
 hall-ended : (start : Start) (spec : SpecValue) (end : RoundEnd) (slots : ℕ) (past : List Item) → GoesByTags start no_operations spec [] → rounds_in past ≡ 0
     → ended 1 end slots ∷ past ≡ past_behind_round start no_operations spec []
     → round_ended start end past ≡ played_of (tags_behind start []) spec
 hall-ended start spec end slots past goes none is =
-    first-same (round_ended start end past) (played_of (tags_behind start []) spec)
-    (ap (λ (told : List Played). told ++ round_ended start end past ∷ []) (sym (none-told start past none)) ∙ ap (rounds_told start) is ∙ goes.told)
+    let same : round_ended start end past ∷ [] ≡ played_of (tags_behind start []) spec ∷ [] =
+    ap (λ (told : List Played). told ++ round_ended start end past ∷ []) (sym (none-told start past none)) ∙ ap (rounds_told start) is ∙ goes.told in
+    ap (λ (told : List Played). get_or told 0 (round_ended start end past)) same
 
 -- a past that is the end of a round
 record IsEnd (number before : ℕ) (behind : List Item) : Type 0 where
@@ -85,19 +83,17 @@ same-end number other end own slots few past before same = cc
 
 zip-length : (tags : List TagValue) (pairs : List (ℕ × List ℕ)) (senders : List ℕ) → AllZip (IsPairOf tags) pairs senders → length pairs ≡ length senders
 zip-length tags [] [] each = refl
-zip-length tags [] (sender ∷ senders) each = absurd each
-zip-length tags (pair ∷ pairs) [] each = absurd each
 zip-length tags (pair ∷ pairs) (sender ∷ senders) each = ap suc (zip-length tags pairs senders each.1)
+zip-length tags pairs senders each = absurd each
 
 senders-below : (tags : List TagValue) (pairs : List (ℕ × List ℕ)) (senders : List ℕ) → AllZip (IsPairOf tags) pairs senders
     → AllByRecursion (λ number. number < length tags) senders
 senders-below tags [] [] each = tt
-senders-below tags [] (sender ∷ senders) each = absurd each
-senders-below tags (pair ∷ pairs) [] each = absurd each
 senders-below tags (pair ∷ pairs) (sender ∷ senders) each = (
   subst (λ n. sender < n) (length-map tags pc_and_epc_of) (slice_get_within (map pc_and_epc_of tags) sender pair each.0),
   senders-below tags pairs senders each.1,
 )
+senders-below tags pairs senders each = absurd each
 
 -- a round lists no more tags than there are
 few-pairs : (tags : List TagValue) (round : Played) → ListsItsTags tags round → length round.pairs ≤ length tags

@@ -2,10 +2,7 @@ pub mod Beginning
 pub mod Copies
 pub mod Counted
 pub mod Listings
-pub mod LastLines
-pub mod SeenThrough
 pub mod Operating
-pub mod Places
 pub mod Passing
 pub mod Rounds
 pub mod Sending

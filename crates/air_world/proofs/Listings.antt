@@ -1,6 +1,10 @@
 -- What the lines of a past list.
 use Rattle.std.proofs.lemmas.List.{append-nil}
-use Rattle.air_world.proofs.Names.{◌≡◌, ◌⊎◌, inl, inr, ℕ, ◌+◌, ◌≤◌, Bool, true, false, List, ◌∷◌, ◌++◌, length, map, Option, Some, None, refl, sym, ◌∙◌, ap, subst, arith, append_assoc, length-append, [], Start, Record, Item, befell, exchanged, operated, ended, exchanges_in, HearsPairs, first_fault_of, pair_told, pairs_told, lines_to_tell, ItemList, LinkValue, Reception, no_stream, whole_reply, no_such_reply, line_of, is_of_exchanges, is_of_trace, ReportLine, BlfLine, ExchangeLine, MissedLine, AnswerLine, TxLine, RxLine, GivenLine, OpLine, RoundLine, Line, PlayFault, OutOfMemory, Listed, reception_of_ack, listed_by, listed_from, listing_of, exchange_lines, item_lines, list_line, wave_lines, pair_listed, answer_line, exchanged_by, said_lines, pairs_in, map-append, Bor}
+use Rattle.air_world.proofs.Names.{◌≡◌, ◌⊎◌, inl, inr, ℕ, ◌+◌, ◌≤◌, Bool, true, false, List, ◌∷◌, ◌++◌, length, map, Option, Some, None, refl, sym, ◌∙◌, ap, subst, arith, append_assoc, length-append}
+use Rattle.air_world.proofs.Names.{[], Start, Record, Item, exchanged, exchanges_in, HearsPairs, first_fault_of, pair_told, pairs_told, lines_to_tell, ItemList, LinkValue, Reception, whole_reply}
+use Rattle.air_world.proofs.Names.{line_of, is_of_exchanges, is_of_trace, ReportLine, BlfLine, ExchangeLine, MissedLine, AnswerLine, TxLine, RxLine, GivenLine, Line, PlayFault, OutOfMemory, Listed}
+use Rattle.air_world.proofs.Names.{reception_of_ack, listed_by, listed_from, listing_of, exchange_lines, item_lines, list_line, wave_lines, pair_listed, answer_line, exchanged_by, said_lines}
+use Rattle.air_world.proofs.Names.{pairs_in, map-append, Bor}
 use Rattle.reply_grammar.specs.declared.expected.Reply.TheVariants as replies
 use Rattle.report_lines.specs.declared.line.Line.TheVariants as told
 
@@ -32,19 +36,8 @@ frame-untold line is = absurd (cc)
 
 -- nor does any line but one that lists a tag
 pub line-untold : (line : Line) → ((round slot pc : ℕ) (epc : Bor (List ℕ)) → line ≡ told.List round slot pc epc → ⊥) → pair_told (line_of line) ≡ []
-line-untold (told.Blf numerator denominator) other = refl
-line-untold (told.Exchange exchange command) other = refl
-line-untold (told.Missed exchange missed) other = refl
-line-untold (told.Answer exchange replied extended reply) other = refl
-line-untold (told.Tx exchange intervals) other = refl
-line-untold (told.Rx exchange count levels) other = refl
-line-untold (told.Given given) other = refl
 line-untold (told.List round slot pc epc) other = absurd (other round slot pc epc refl)
-line-untold (told.Op round slot index result) other = refl
-line-untold (told.Round round end slots) other = refl
-line-untold (told.Seen count pc epc) other = refl
-line-untold (told.Tag number tag) other = refl
-line-untold told.Done other = refl
+line-untold line other = refl
 
 pub pairs-other : (lines : List ReportLine) (line : Line) → ((round slot pc : ℕ) (epc : Bor (List ℕ)) → line ≡ told.List round slot pc epc → ⊥)
     → pairs_told (lines ++ line_of line ∷ []) ≡ pairs_told lines
@@ -71,11 +64,6 @@ pairs-listed (one ∷ others) = ap (λ (pairs : List (ℕ × List ℕ)). pair_li
 -- the lines of a past list what it lists
 pub pairs-behind : (start : Start) (past : List Item) → pairs_told (lines_to_tell start past) ≡ pairs_in past
 pairs-behind start [] = refl
-pairs-behind start (befell event number ∷ past) = pairs-append (lines_to_tell start past) [] ∙ append-nil (pairs_told (lines_to_tell start past)) ∙ pairs-behind start past
-pairs-behind start (operated round slot index result ∷ past) =
-    pairs-append (lines_to_tell start past) (OpLine round slot index result ∷ []) ∙ append-nil (pairs_told (lines_to_tell start past)) ∙ pairs-behind start past
-pairs-behind start (ended round end slots ∷ past) =
-    pairs-append (lines_to_tell start past) (RoundLine round end slots ∷ []) ∙ append-nil (pairs_told (lines_to_tell start past)) ∙ pairs-behind start past
 pairs-behind start (exchanged sent ∷ past) =
     pairs-append (lines_to_tell start past) (item_lines start.link (exchanged sent))
     ∙ ap (λ (pairs : List (ℕ × List ℕ)). pairs ++ pairs_told (item_lines start.link (exchanged sent))) (pairs-behind start past)
@@ -84,23 +72,21 @@ pairs-behind start (exchanged sent ∷ past) =
     ∙ ap (λ (pairs : List (ℕ × List ℕ)). pairs ++ pairs_told (map list_line (listed_by sent))) (pairs-exchange start.link sent)
     ∙ pairs-listed (listed_by sent))
     ∙ sym (map-append pair_listed (listing_of past) (listed_by sent))
+pairs-behind start (item ∷ past) =
+    pairs-append (lines_to_tell start past) (item_lines start.link item) ∙ append-nil (pairs_told (lines_to_tell start past)) ∙ pairs-behind start past
 
 -- a past lists at most one tag in each exchange
 few-from : (sent : Record) (reception : Reception) → length (listed_from sent reception) ≤ 1
-few-from sent no_stream = omega arith
-few-from sent no_such_reply = omega arith
 few-from sent (whole_reply (replies.Epc pc epc)) = omega arith
-few-from sent (whole_reply reply) = omega arith
+few-from sent reception = omega arith
 
 pub few-listed : (past : List Item) → length (listing_of past) ≤ exchanges_in past
 few-listed [] = omega arith
-few-listed (befell event number ∷ past) = few-listed past
-few-listed (operated round slot index result ∷ past) = few-listed past
-few-listed (ended round end slots ∷ past) = few-listed past
 few-listed (exchanged sent ∷ past) =
     let here = few-from sent (reception_of_ack sent sent.command) in
     let there = few-listed past in
     omega (arith, here, there, length-append (listing_of past) (listed_by sent))
+few-listed (item ∷ past) = few-listed past
 
 -- the first fault of who counts for another is that one's, or there was no memory for a count
 pub fault-cause : (met : Option PlayFault) (short : Bool) (fault : PlayFault) → first_fault_of met short ≡ Some fault → (met ≡ Some fault) ⊎ ((fault ≡ OutOfMemory) × (met ≡ None))
@@ -126,7 +112,8 @@ hears-then lines more first old new before behind =
     subst (λ (list : ItemList (ℕ × List ℕ)). length list.items + length (pairs_told more) ≤ list.capacity) (sym was) (omega (arith, room, count, length-append first.items (pairs_told lines))) in
     behind fits
     ∙ ap (λ (list : ItemList (ℕ × List ℕ)). record list { items = list.items ++ pairs_told more }) was
-    ∙ ap (λ (items : List (ℕ × List ℕ)). record first { items = items }) (append_assoc first.items (pairs_told lines) (pairs_told more) ∙ ap (λ (pairs : List (ℕ × List ℕ)). first.items ++ pairs) (sym joined))
+    ∙ ap (λ (items : List (ℕ × List ℕ)). record first { items = items })
+    (append_assoc first.items (pairs_told lines) (pairs_told more) ∙ ap (λ (pairs : List (ℕ × List ℕ)). first.items ++ pairs) (sym joined))
 
 -- a line that lists nothing
 pub hears-skipped : (lines : List ReportLine) (line : ReportLine) (first now : ItemList (ℕ × List ℕ)) → pair_told line ≡ [] → HearsPairs lines first now → HearsPairs (lines ++ line ∷ []) first now

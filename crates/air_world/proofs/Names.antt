@@ -3,6 +3,7 @@ pub use Rattle.access_ops.specs.OpRunValue.{IsNextOperation, OpRunStandsFor, OpR
 pub use Rattle.access_ops.specs.Operations.{Dialogue, IsAnswerFor, Move, answered, dialogue_after, dialogue_behind, dialogue_of, done, reception_in, sends, told}
 pub use Rattle.access_ops.specs.declared.OpList.{OpList}
 pub use Rattle.access_ops.specs.laws.OperationLaws.{Expects}
+pub use Rattle.air_channel.proofs.GivenAnswers.{some_replied}
 pub use Rattle.air_channel.specs.Air.{AirValue, NamesTags, air_after, air_after_event, last_exchange, next_exchange}
 pub use Rattle.air_events.specs.Cursor.{AreEntriesLeft}
 pub use Rattle.air_events.specs.Entries.{Rises, entry_at, no_entry}
@@ -18,7 +19,8 @@ pub use Rattle.air_model.specs.declared.got.Got.{Got, Got as Gave}
 pub use Rattle.air_world.specs.Counting.{CountsLines, Fits, counted_line, counted_lines, nothing_counted}
 pub use Rattle.air_world.specs.Listing.{HearsPairs, first_fault_of, pair_told, pairs_told}
 pub use Rattle.air_world.specs.NewAir.{IsGroupOfTags, new_air}
-pub use Rattle.air_world.specs.Playing.{Begun, HasRoomForExchanges, IsBetweenSteps, IsEndedBy, IsHeard, IsPlayable, IsSent, IsUnderway, NamesItsTags, RunIsAt, RunValue, StandsAt, StandsOrFails, begun_with, counted_on, most_in_round, most_in_slot, most_slots}
+pub use Rattle.air_world.specs.Playing.{Begun, HasRoomForExchanges, IsBetweenSteps, IsEndedBy, IsHeard, IsPlayable, IsSent, IsUnderway, NamesItsTags, RunIsAt, RunValue, StandsAt, StandsOrFails}
+pub use Rattle.air_world.specs.Playing.{begun_with, counted_on, most_in_round, most_in_slot, most_slots}
 pub use Rattle.air_world.specs.Saying.{AnswersCommand, AreOfDifferentTags, AreShort, IsBehind, IsOneOf}
 pub use Rattle.air_world.specs.Telling.{EndsOrFails, IsCut, IsCutOff, IsCutShort, IsWritten, PlaysOrFails, Tells, lines_to_tell}
 pub use Rattle.air_world.specs.declared.seen_listener.SeenListener.{SeenListener}
@@ -35,7 +37,7 @@ pub use Rattle.reply_grammar.specs.declared.expected.Expect.{Expect}
 pub use Rattle.reply_wire.specs.Heard.{pair_received, rn16_received}
 pub use Rattle.report_lines.specs.Line.{line_of}
 pub use Rattle.report_lines.specs.ModeLines.{is_of_exchanges, is_of_trace}
-pub use Rattle.report_lines.specs.ReportLine.{AnswerLine, BlfLine, DoneLine, ExchangeLine, GivenLine, ListLine, MissedLine, OpLine, ReportLine, RoundLine, RxLine, SeenLine, TagLine, TxLine}
+pub use Rattle.report_lines.specs.ReportLine.{AnswerLine, BlfLine, DoneLine, ExchangeLine, GivenLine, ListLine, MissedLine, ReportLine, RoundLine, RxLine, SeenLine, TagLine, TxLine}
 pub use Rattle.report_lines.specs.SeenCounts.{SeenCount, distinct, seen_among, seen_counts, seen_line}
 pub use Rattle.report_lines.specs.TextReport.{IsAdded, spelling_behind, text_from}
 pub use Rattle.report_lines.specs.declared.line.Line.{Line}
@@ -48,7 +50,8 @@ pub use Rattle.runs.proofs.HeadlineLegal.{legal-step, legal-steps}
 pub use Rattle.runs.proofs.PlayedRounds.{PlayedRound, SlotOfRun, number_of, past_behind_played}
 pub use Rattle.runs.proofs.Tags.{length-tags, tags-befell, tags-ended, tags-exchanged, tags-operated}
 pub use Rattle.runs.specs.Headline.{AreLegalSteps, IsLegalStep, most_operating}
-pub use Rattle.runs.specs.History.{ack_reception, dialogue_begun, operation_reception, outcome_of, past_behind, past_behind_ack, past_behind_answer, past_behind_dialogue, past_behind_round, past_behind_slot, past_behind_step, past_behind_turn, past_behind_turns, slot_reception}
+pub use Rattle.runs.specs.History.{ack_reception, dialogue_begun, operation_reception, outcome_of, past_behind, past_behind_ack, past_behind_answer, past_behind_dialogue, past_behind_round}
+pub use Rattle.runs.specs.History.{past_behind_slot, past_behind_step, past_behind_turn, past_behind_turns, slot_reception}
 pub use Rattle.runs.specs.Listing.{Listed, listed_by, listed_from, listing_of, reception_of_ack}
 pub use Rattle.runs.specs.NextItem.{expectation_of}
 pub use Rattle.runs.specs.Report.{exchange_lines, item_lines, last_lines, list_line, report_text_of, run_lines, tag_lines, wave_lines}
@@ -64,17 +67,18 @@ pub use Rattle.scenario.specs.declared.values.Step.{Step}
 pub use Rattle.scenario.specs.declared.values.TagGroup.{TagGroup}
 pub use Rattle.scenario_lines.specs.declared.version.Version.{Version}
 pub use Rattle.scenario_lines.specs.declared.version.Version.TheVariants.{One, Two}
-pub use Rattle.std.proofs.Common.{Bool, Err, List, None, Ok, Option, Result, Some, [], ap, append-nil, append_assoc, arith, drop, eq-eqb, false, get_or, inl, inr, length, length-append, map, not, refl, slice_get, slice_index, subst, suc, sym, take, true, vec_capacity, vec_len, zero, ℕ, ◌%◌, ◌&&◌, ◌*◌, ◌++◌, ◌+◌, ◌-◌, ◌<◌, ◌==◌, ◌^◌, ◌||◌, ◌∙◌, ◌∷◌, ◌≡◌, ◌≢◌, ◌≤◌, ◌⊎◌}
-pub use Rattle.std.proofs.Math.Seq.{drop-cons, take-suc}
-pub use Rattle.std.proofs.lemmas.List.{drop_all, length-map, map-append, take_all}
-pub use Rattle.std.proofs.lemmas.List.Elements.{All-get_or, All-head, All-nil, All-tail, All-weaker}
-pub use Rattle.std.proofs.lemmas.Option.{slice_get-get_or, slice_get-map, slice_get_within}
+pub use Rattle.std.proofs.Common.{Bool, Err, List, None, Ok, Option, Result, Some, [], ap, append-nil, append_assoc, arith, drop, eq-eqb, false, get_or, inl, inr, length, length-append, map, not}
+pub use Rattle.std.proofs.Common.{refl, slice_get, slice_index, subst, suc, sym, take, true, vec_capacity, vec_len, zero, ℕ, ◌%◌, ◌&&◌, ◌*◌, ◌++◌, ◌+◌, ◌-◌, ◌<◌, ◌==◌, ◌||◌, ◌∙◌, ◌∷◌, ◌≡◌, ◌≢◌, ◌≤◌}
+pub use Rattle.std.proofs.Common.{◌⊎◌}
+pub use Rattle.std.proofs.lemmas.List.{drop_all, drop_more, length-map, map-append, take_all, take_more}
+pub use Rattle.std.proofs.lemmas.List.Elements.{All-from_recursion, All-get_or, All-head, All-nil, All-tail, All-weaker}
+pub use Rattle.std.proofs.lemmas.Option.{get_or_from_slice_get, none-some, same_Some, slice_get-get_or, slice_get-map, slice_get_within}
 pub use Rattle.std.proofs.lemmas.Result.{IfOk-weaker, on_ok_weaker}
 pub use Rattle.std.specs.Borrow.{Bor}
 pub use Rattle.std.specs.List.{AllByRecursion, AllZip}
 pub use Rattle.std.specs.Option.{IsSomeAnd, option_map}
-pub use Rattle.std.specs.Prelude.{All, IfSome, if◌then◌else◌, min}
-pub use Rattle.std.specs.Result.{IfErr, IsErrAnd, OnOk}
+pub use Rattle.std.specs.Prelude.{All, IfSome, if◌then◌else◌}
+pub use Rattle.std.specs.Result.{IfErr, IfOk, IsErrAnd, OnOk}
 pub use Rattle.tag_machine.specs.Answers.{Outcome, Sent, bits_sent}
 pub use Rattle.tag_machine.specs.Hearing.{tag_value_of}
 pub use Rattle.tag_machine.specs.TagValue.{BodyValue, IsLegalTag, StateValue, TagValue}

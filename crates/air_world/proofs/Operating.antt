@@ -1,5 +1,10 @@
 -- The moves of a dialogue with a tag, one after another.
-use Rattle.air_world.proofs.Names.{◌≡◌, ℕ, ◌+◌, ◌≤◌, ◌*◌, ◌-◌, List, ◌∷◌, length, Bool, Option, Some, None, refl, sym, ◌∙◌, ap, subst, arith, [], OpRunValue, OpRunStandsFor, IsNextOperation, last_answer, turns_in, turns_left, Dialogue, sends, done, dialogue_of, Move, answered, told, reception_in, dialogue_behind, dialogue_after, IsAnswerFor, OpList, Expects, AirValue, Item, operated, past_behind_command, exchanges_in, Begun, RunValue, StandsAt, Command, Reception, Expect, ReportLine, SlotOfRun, operation_reception, past_behind_dialogue}
+use Rattle.air_world.proofs.Names.{◌≡◌, ℕ, ◌+◌, ◌≤◌, ◌*◌, ◌-◌, List, ◌∷◌, length, Bool, true, false, Bor, if◌then◌else◌, Option, Some, None, refl, sym, ◌∙◌, ap, subst, arith, [], OpRunValue}
+use Rattle.air_world.proofs.Names.{OpRunStandsFor, IsNextOperation, last_answer, turns_in, turns_left, Dialogue, sends, done, dialogue_of, Move, answered, told, reception_in, dialogue_behind}
+use Rattle.air_world.proofs.Names.{dialogue_after, IsAnswerFor, OpList, Expects, AirValue, Item, operated, past_behind_command, exchanges_in, Begun, RunValue, StandsAt, Command, Reception, Expect}
+use Rattle.air_world.proofs.Names.{ReportLine, SlotOfRun, operation_reception, past_behind_dialogue}
+use Rattle.std.specs.Bool.{then_some}
+use Rattle.std.specs.Prelude.{option_copied}
 use Rattle.access_ops.proofs.DialogueLaws.{AwaitsReplies, SendsAtMost, dialogues-await, dialogues-are-few, first-sends, first-tells, first-done}
 use Rattle.access_ops.specs.declared.op_next.Answer.{Answer}
 use Rattle.access_ops.specs.declared.op_next.OpNext.{OpNext}
@@ -45,7 +50,8 @@ pub record AreInDialogue (of : TagOperations) (here : OperationsSoFar) (past : L
   pub turns : here.index + turns_left of.list here.run ≤ 163
 
 -- ... with the air and the run
-pub record OperationsUnderway {A : Type 0} (hears : A → List ReportLine → A → Type 0) (begun : Begun A) (of : TagOperations) (here : OperationsSoFar) (air : AirValue) (run : RunValue) (report : A) : Type 0 where
+pub record OperationsUnderway {A : Type 0} (hears : A → List ReportLine → A → Type 0) (begun : Begun A) (of : TagOperations) (here : OperationsSoFar)
+    (air : AirValue) (run : RunValue) (report : A) : Type 0 where
   pub past : List Item
   pub stands : StandsAt hears begun past air run report
   pub are : AreInDialogue of here past
@@ -64,6 +70,11 @@ operations-begin of run few goes turns = record {
   rest = refl;
   turns = omega (arith, few, turns);
 }
+
+-- an answer is handed on where it was given
+pub answer-given : (given : Bool) {answer : Bor Answer} {asked : Option (Bor Answer)} → asked ≡ then_some given answer → option_copied asked ≡ (if given then Some answer.now else None)
+answer-given true is = ap option_copied is
+answer-given false is = ap option_copied is
 
 -- what a run of the operations does next, and what becomes of it
 pub record MovesOn (of : TagOperations) (here : OperationsSoFar) (past : List Item) (u : AreInDialogue of here past) (next : OpNext) (after : OpRunValue) : Type 0 where
@@ -97,8 +108,8 @@ pub record IsAnswered (of : TagOperations) (asked : Asked) (past : List Item) : 
   pub heard : reception_in answer ≡ operation_reception of.at.start of.at.round of.at.slot asked.command asked.expect asked.extended past
 
 -- a command was answered
-pub operations-sent : {of : TagOperations} {here : OperationsSoFar} {past : List Item} {u : AreInDialogue of here past} {next : OpNext} {after : OpRunValue} (asked : Asked) (by : IsAnswered of asked past)
-    → MovesOn of here past u next after → next ≡ nexts.Send asked.command asked.expect asked.extended
+pub operations-sent : {of : TagOperations} {here : OperationsSoFar} {past : List Item} {u : AreInDialogue of here past} {next : OpNext} {after : OpRunValue}
+    (asked : Asked) (by : IsAnswered of asked past) → MovesOn of here past u next after → next ≡ nexts.Send asked.command asked.expect asked.extended
     → AreInDialogue of (record { run = after; answer = Some by.answer; index = here.index }) (past_behind_command of.at.start of.at.round of.at.slot asked.command past)
 operations-sent {of} {here} {past} {u} {after} asked by on is =
     let sent = sends-next asked on is in

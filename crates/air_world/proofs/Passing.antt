@@ -1,6 +1,8 @@
 -- What is told one after another, and what was heard where a run is cut off.
 use Rattle.std.proofs.lemmas.List.{append-nil}
-use Rattle.air_world.proofs.Names.{◌≡◌, ℕ, ◌≤◌, List, ◌∷◌, ◌++◌, Option, Some, Result, Ok, Err, sym, ◌∙◌, ap, subst, arith, append_assoc, [], AirValue, AreEntriesLeft, Item, exchanges_in, rounds_in, tags_behind, Begun, IsUnderway, RunValue, StandsAt, StandsOrFails, counted_on, EndsOrFails, IsCut, IsCutOff, Tells, lines_to_tell, ReportLine, PlayFault, Grows, added_lines, past_lines-more, item_lines, IfErr, IsErrAnd}
+use Rattle.air_world.proofs.Names.{◌≡◌, ℕ, ◌≤◌, List, ◌∷◌, ◌++◌, Option, Some, Result, Ok, Err, sym, ◌∙◌, ap, subst, arith, append_assoc, [], AirValue, AreEntriesLeft, Item, exchanges_in, rounds_in}
+use Rattle.air_world.proofs.Names.{tags_behind, Begun, IsUnderway, RunValue, StandsAt, StandsOrFails, counted_on, EndsOrFails, IsCut, IsCutOff, Tells, lines_to_tell, ReportLine, PlayFault, Grows}
+use Rattle.air_world.proofs.Names.{added_lines, past_lines-more, item_lines, IfErr, IsErrAnd}
 
 -- fewer exchanges more fit as well
 pub underway-fewer : {A : Type 0} {hears : A → List ReportLine → A → Type 0} {more : ℕ} {air : AirValue} {run : RunValue} {report : A} (few : ℕ) → few ≤ more → IsUnderway hears more air run report
@@ -23,8 +25,8 @@ tells-then {hears} {lines} {more} {new} told then = record {
 }
 
 -- a front of lines is a front of all that begin with them
-pub cut-longer : {Heard : List ReportLine → Type 0} {Cause : PlayFault → Type 0} {lines whole : List ReportLine} {fault : PlayFault} (more : List ReportLine) → whole ≡ lines ++ more → IsCut Heard Cause lines fault
-    → IsCut Heard Cause whole fault
+pub cut-longer : {Heard : List ReportLine → Type 0} {Cause : PlayFault → Type 0} {lines whole : List ReportLine} {fault : PlayFault} (more : List ReportLine) → whole ≡ lines ++ more
+    → IsCut Heard Cause lines fault → IsCut Heard Cause whole fault
 cut-longer more joined cut = record {
   front = cut.front;
   rest = cut.rest ++ more;
@@ -40,13 +42,13 @@ cut-past begun {past} grows cut =
     cut-longer (added_lines begun.start.link grows.own) (ap (λ (items : List Item). lines_to_tell begun.start items) grows.is ∙ past_lines-more begun.start.link grows.own past) cut
 
 -- a fault that is handed on
-pub ends-cut : {T : Type 0} (r : Result T PlayFault) (cause : PlayFault) (Whole : Type 0) (CutOff : PlayFault → Type 0) → IsErrAnd r (λ fault. fault ≡ cause) → CutOff cause → EndsOrFails r Whole CutOff
-ends-cut (Ok done) cause Whole CutOff is cut = absurd is
-ends-cut (Err fault) cause Whole CutOff is cut = subst CutOff (sym is) cut
+pub ends-cut : {T : Type 0} (r : Result T PlayFault) (met : PlayFault) (Whole : Type 0) (CutOff : PlayFault → Type 0) → IsErrAnd r (λ fault. fault ≡ met) → CutOff met → EndsOrFails r Whole CutOff
+ends-cut (Ok done) met Whole CutOff is cut = absurd is
+ends-cut (Err fault) met Whole CutOff is cut = subst CutOff (sym is) cut
 
 -- a run is cut off behind lines that were heard whole
-pub cut-behind : {A : Type 0} {hears : A → List ReportLine → A → Type 0} {begun : Begun A} {past : List Item} {air : AirValue} {run : RunValue} {report : A}
-    (failed : A → Option PlayFault) (fault : PlayFault) → StandsAt hears begun past air run report → failed report ≡ Some fault → IsCutOff hears failed begun.first report (lines_to_tell begun.start past) fault
+pub cut-behind : {A : Type 0} {hears : A → List ReportLine → A → Type 0} {begun : Begun A} {past : List Item} {air : AirValue} {run : RunValue} {report : A} (failed : A → Option PlayFault)
+    (fault : PlayFault) → StandsAt hears begun past air run report → failed report ≡ Some fault → IsCutOff hears failed begun.first report (lines_to_tell begun.start past) fault
 cut-behind {begun} {past} failed fault stands cause = record {
   front = lines_to_tell begun.start past;
   rest = [];
@@ -56,8 +58,8 @@ cut-behind {begun} {past} failed fault stands cause = record {
 }
 
 -- what stands where a run goes on, and is cut off behind it where it doesn't
-pub ends-checked : {A T : Type 0} {hears : A → List ReportLine → A → Type 0} {begun : Begun A} {past : List Item} {air : AirValue} {run : RunValue} {report : A}
-    (failed : A → Option PlayFault) (r : Result T PlayFault) → StandsAt hears begun past air run report → IfErr r (λ fault. failed report ≡ Some fault) → StandsOrFails hears failed r begun past air run report
+pub ends-checked : {A T : Type 0} {hears : A → List ReportLine → A → Type 0} {begun : Begun A} {past : List Item} {air : AirValue} {run : RunValue} {report : A} (failed : A → Option PlayFault)
+    (r : Result T PlayFault) → StandsAt hears begun past air run report → IfErr r (λ fault. failed report ≡ Some fault) → StandsOrFails hears failed r begun past air run report
 ends-checked failed (Ok done) stands cause = stands
 ends-checked failed (Err fault) stands cause = cut-behind failed fault stands cause
 

@@ -1,5 +1,8 @@
 -- The slots of a round, one after another.
-use Rattle.air_world.proofs.Names.{◌≡◌, ℕ, zero, suc, ◌+◌, ◌*◌, ◌≤◌, false, Option, Some, List, ◌∷◌, length, refl, sym, ◌∙◌, ap, subst, arith, [], OpList, AirValue, Start, Item, ended, past_behind_command, exchanges_in, rounds_in, Begun, RunValue, StandsAt, most_in_slot, Command, LinkValue, AreOutcomes, Turn, next_of_turn, is_over, slots_of, next_command, turn_of, SpecValue, RoundEnd, ReportLine, Grows, answer-keeps, turns-grow, slot-exchanges, PlayedRound, past_behind_played, most_operating, outcome_of, slot_reception, past_behind_slot, past_behind_turn, past_behind_turns, expectation_of}
+use Rattle.air_world.proofs.Names.{◌≡◌, ℕ, suc, ◌+◌, ◌-◌, ◌*◌, ◌≤◌, false, Option, Some, List, ◌∷◌, length, refl, sym, ◌∙◌, ap, subst, arith, [], OpList, AirValue, Start, Item, ended}
+use Rattle.air_world.proofs.Names.{past_behind_command, exchanges_in, rounds_in, Begun, RunValue, StandsAt, most_in_slot, Command, LinkValue, AreOutcomes, Turn, next_of_turn, is_over, slots_of}
+use Rattle.air_world.proofs.Names.{next_command, turn_of, SpecValue, RoundEnd, ReportLine, Grows, answer-keeps, turns-grow, slot-exchanges, PlayedRound, past_behind_played, most_operating, outcome_of}
+use Rattle.air_world.proofs.Names.{slot_reception, past_behind_slot, past_behind_turn, past_behind_turns, expectation_of}
 use Rattle.command_grammar.specs.declared.commands.Command.TheVariants as commands
 use Rattle.reply_grammar.specs.declared.expected.Expect.TheVariants as expects
 use Rattle.q_round.proofs.SlotLaws.{slots-underway}
@@ -30,18 +33,11 @@ pub record IsInRound (played : PlayedRound) (here : RoundSoFar) (past : List Ite
   pub rounds : here.number ≡ rounds_in past + 1
 
 -- ... with the air and the run
-pub record RoundUnderway {A : Type 0} (hears : A → List ReportLine → A → Type 0) (begun : Begun A) (played : PlayedRound) (here : RoundSoFar) (air : AirValue) (run : RunValue) (report : A) : Type 0 where
+pub record RoundUnderway {A : Type 0} (hears : A → List ReportLine → A → Type 0) (begun : Begun A) (played : PlayedRound) (here : RoundSoFar)
+    (air : AirValue) (run : RunValue) (report : A) : Type 0 where
   pub past : List Item
   pub stands : StandsAt hears begun past air run report
   pub is : IsInRound played here past
-
-abbrev pred : ℕ → ℕ
-pred zero = zero
-pred (suc n) = n
-
-suc-pred : (n : ℕ) → 1 ≤ n → suc (pred n) ≡ n
-suc-pred zero some = absurd (omega arith)
-suc-pred (suc n) some = refl
 
 -- a round begins
 pub round-begins : (played : PlayedRound) (here : RoundSoFar) → 1 ≤ played.spec.limit → here.number ≡ rounds_in played.before + 1 → RoundStandsFor here.round played.spec []
@@ -49,8 +45,8 @@ pub round-begins : (played : PlayedRound) (here : RoundSoFar) → 1 ≤ played.s
 round-begins played here some is goes sends =
     let start = played.start in
     let spec = played.spec in
-    let left : ℕ = pred spec.limit in
-    let whole : suc left ≡ spec.limit = suc-pred spec.limit some in
+    let left : ℕ = spec.limit - 1 in
+    let whole : suc left ≡ spec.limit = omega (arith, some) in
     record {
       outcomes = [];
       left = left;
@@ -101,8 +97,8 @@ turn-rest played here past u s =
 pub rounds-slot : (start : Start) (operations : OpList) (round slot : ℕ) (command : Command) (past : List Item)
     → rounds_in (past_behind_slot start operations round slot command past) ≡ rounds_in past
 rounds-slot start operations round slot command past =
-    answer-keeps (λ now. rounds_in now ≡ rounds_in past) (record { start = start; round = round; slot = slot }) operations (slot_reception start round slot command past) (past_behind_command start round slot command past)
-    (record { command = λ sent expect extended now expects same. same; result = λ index result now same. same })
+    answer-keeps (λ now. rounds_in now ≡ rounds_in past) (record { start = start; round = round; slot = slot }) operations (slot_reception start round slot command past)
+    (past_behind_command start round slot command past) (record { command = λ sent expect extended now expects same. same; result = λ index result now same. same })
     (λ rn same. same) refl
 
 -- what the code of a round keeps to: few operations, and no more slots than the limit
@@ -117,8 +113,7 @@ turn-expects spec link turns.query command is =
 turn-expects spec link (turns.adjust updn) command is =
     let same : commands.QueryAdjust spec.session updn ≡ command = cc in ap (λ (c : Command). expectation_of c) (sym same)
 turn-expects spec link turns.rep command is = let same : commands.QueryRep spec.session ≡ command = cc in ap (λ (c : Command). expectation_of c) (sym same)
-turn-expects spec link turns.quiet command is = absurd (cc)
-turn-expects spec link turns.limit command is = absurd (cc)
+turn-expects spec link turn command is = absurd (cc)
 
 pub round-expects : (played : PlayedRound) (here : RoundSoFar) (past : List Item) → IsInRound played here past → expectation_of here.command ≡ Some expects.Rn16
 round-expects played here past u = turn-expects played.spec played.start.link (turn_of played.spec u.outcomes) here.command u.sends
@@ -135,12 +130,12 @@ round-goes-on played here past u s after next fits answers =
     let sent : slots_of spec (s.outcome ∷ u.outcomes) ≡ suc (length u.outcomes) + 1 = slots-underway spec (s.outcome ∷ u.outcomes) answers.stands.outcomes_are on in
     let within = fits.within (s.outcome ∷ u.outcomes) answers.stands.outcomes_are in
     let some : 1 ≤ u.left = omega (arith, u.slots, sent, within) in
-    let one : suc (pred u.left) ≡ u.left = suc-pred u.left some in
+    let one : suc (u.left - 1) ≡ u.left = omega (arith, some) in
     let grown : exchanges_in between ≤ exchanges_in past + (2 + most_operating played.operations) =
     slot-exchanges start played.operations here.number s.slot here.command past in
     record {
       outcomes = s.outcome ∷ u.outcomes;
-      left = pred u.left;
+      left = u.left - 1;
       goes = answers.stands;
       on = on;
       sends = sym (answers.next start.link);

@@ -1,18 +1,27 @@
 -- Who said what in an exchange, told or left out.
 use Rattle.std.proofs.lemmas.Bool.{eqb-true}
-use Rattle.air_world.proofs.Names.{◌≡◌, ◌≢◌, ◌<◌, ◌≤◌, ◌%◌, ◌==◌, ◌⊎◌, inl, inr, ℕ, zero, suc, ◌+◌, Bool, true, false, Option, Some, None, eq-eqb, List, ◌∷◌, ◌++◌, length, map, take, refl, sym, ◌∙◌, ap, arith, subst, append_assoc, append-nil, slice_get, [], Given, silence, whole, broken, raw, got_of, levels_of, Record, AreShort, IsOneOf, Tells, LinkValue, longest_reply, is_of_exchanges, ReportLine, MissedLine, answer_line, gave_of, said_lines, AreReplies, length-map, slice_get-map, AllByRecursion, option_map, Sent, Replied, AnswerValue, answer_of, answers_of, answer_value_of}
+use Rattle.air_world.proofs.Names.{◌≡◌, ◌≢◌, ◌<◌, ◌≤◌, ◌%◌, ◌==◌, ◌⊎◌, inl, inr, ℕ, ◌+◌, Bool, true, false, Option, Some, None, eq-eqb, List, ◌∷◌, ◌++◌, length, map, take, refl, sym, ◌∙◌, ap, arith}
+use Rattle.air_world.proofs.Names.{subst, append_assoc, append-nil, slice_get, [], Given, silence, whole, broken, raw, got_of, levels_of, Record, AreShort, IsOneOf, Tells, LinkValue, longest_reply}
+use Rattle.air_world.proofs.Names.{is_of_exchanges, ReportLine, MissedLine, answer_line, gave_of, said_lines, AreReplies, slice_get-map, AllByRecursion, option_map, Sent, Replied, AnswerValue}
+use Rattle.air_world.proofs.Names.{answer_of, answers_of, answer_value_of, All-from_recursion, All-get_or, get_or_from_slice_get, map-append, none-some, same_Some, slice_get-get_or, slice_get_within}
+use Rattle.air_world.proofs.Names.{take_more}
 use Rattle.air_model.specs.declared.got.Got.TheVariants as gots
 use Rattle.air_world.proofs.Passing.{tells-same, tells-then}
-use Rattle.air_world.proofs.Places.{some-at, map-more}
 use Rattle.reply_grammar.specs.declared.expected.Reply.{Reply}
 use Rattle.tag_population.specs.declared.answers.Answer.{Answer}
 use Rattle.wave_dump.specs.declared.exchanged.Gave.TheVariants as gaves
 
+-- what is made of one item more
+map-more : {A B : Type 0} (make : A → B) (items : List A) (place : ℕ) (item : A) → slice_get items place ≡ Some item
+    → map make (take place items) ++ make item ∷ [] ≡ map make (take (place + 1) items)
+map-more make items place item found =
+    let more = take_more items place item (slice_get_within items place item found) ∙ ap (λ one. take place items ++ one ∷ []) (get_or_from_slice_get items place item item found) in
+    sym (ap (λ made. map make made) more ∙ map-append make (take place items) (item ∷ []))
+
 -- what holds of each item holds of the one at a place
 at-place : {A : Type 0} (P : A → Type 0) (items : List A) (place : ℕ) (item : A) → AllByRecursion P items → slice_get items place ≡ Some item → P item
-at-place P [] place item all found = absurd (cc)
-at-place P (first ∷ others) zero item all found = let same : first ≡ item = cc in subst P same all.0
-at-place P (first ∷ others) (suc place) item all found = at-place P others place item all.1 found
+at-place P items place item all found =
+    subst P (get_or_from_slice_get items place item item found) (All-get_or P items place item (slice_get_within items place item found) (All-from_recursion P items all))
 
 pub reply-at : (P : Sent → Type 0) (replies : List Replied) (place : ℕ) (replied : Replied) → AreReplies P replies → slice_get replies place ≡ Some replied → P replied.sent
 reply-at P replies place replied all found = at-place (λ (r : Replied). P r.sent) replies place replied all found
@@ -26,25 +35,15 @@ pub answer-at : (answers : List AnswerValue) (replies : List Replied) (place : �
 answer-at answers replies place replied are found =
     ap (λ (all : List AnswerValue). slice_get all place) are ∙ slice_get-map answer_of replies place ∙ ap (λ one. option_map answer_of one) found
 
--- ... and the reply at the place of an answer
-pub reply-there : (answers : List AnswerValue) (replies : List Replied) (place : ℕ) → answers ≡ answers_of replies → place < length answers
-    → (replied : Replied) × (slice_get replies place ≡ Some replied)
-reply-there answers replies place are inside = some-at replies place (omega (arith, ap length are, length-map replies answer_of))
-
 -- what an air that is asked for the answer at a place says
 pub answer-there : (answers : List AnswerValue) (place : ℕ) (found : Option Answer) (answer : Answer) → option_map answer_value_of found ≡ slice_get answers place → found ≡ Some answer
     → slice_get answers place ≡ Some (answer_value_of answer)
 answer-there answers place found answer asked is = sym asked ∙ ap (λ one. option_map answer_value_of one) is
 
-none-some : (answer : AnswerValue) → ◌≡◌ {A = Option AnswerValue} None (Some answer) → ⊥
-none-some answer is = cc
-
 pub none-there : (answers : List AnswerValue) (place : ℕ) (found : Option Answer) → place < length answers → option_map answer_value_of found ≡ slice_get answers place → found ≡ None → ⊥
 none-there answers place found inside asked is =
-    let there = some-at answers place inside in none-some there.0 (ap (λ one. option_map answer_value_of one) (sym is) ∙ asked ∙ there.1)
-
-pub one-answer : (answer other : AnswerValue) → Some answer ≡ Some other → answer ≡ other
-one-answer answer other is = cc
+    let there = slice_get-get_or answers place (record { number = 0; extended = false; bits = [] }) inside in
+    none-some _ (ap (λ one. option_map answer_value_of one) (sym is) ∙ asked ∙ there)
 
 -- one answer more that is not of the tag
 split : (b : Bool) → (b ≡ true) ⊎ (b ≡ false)
@@ -57,7 +56,7 @@ pub others-more : (answers : List AnswerValue) (tag at : ℕ) (here : AnswerValu
 others-more answers tag at here is other before place answer within found number = elim (split (place == at)) [
   | inl equal ↦
       let same : place ≡ at = eqb-true place at equal in
-      let one = one-answer here answer (sym is ∙ ap (λ n. slice_get answers n) (sym same) ∙ found) in other (ap (λ (a : AnswerValue). a.number) one ∙ number)
+      let one = same_Some here answer (sym is ∙ ap (λ n. slice_get answers n) (sym same) ∙ found) in other (ap (λ (a : AnswerValue). a.number) one ∙ number)
   | inr differ ↦
       let apart : place ≢ at = λ same. let both : true ≡ false = sym (eq-eqb place at same) ∙ differ in cc in
       before place answer (omega (arith, apart, within)) found number
@@ -115,7 +114,8 @@ pub said-skipped : {A : Type 0} (hears : A → List ReportLine → A → Type 0)
 said-skipped hears now link sent same = record { on = λ first before heard. skipped hears now same (said_lines link sent) (said-kind link sent) first before heard }
 
 -- one thing more was told, of a list of things of which a front was told
-pub tells-more : {A B : Type 0} {hears : A → List ReportLine → A → Type 0} {old between new : A} (make : B → ReportLine) (lines : List ReportLine) (items : List B) (at : ℕ) (item : B) → slice_get items at ≡ Some item
-    → Tells hears (lines ++ map make (take at items)) old between → Tells hears (make item ∷ []) between new → Tells hears (lines ++ map make (take (at + 1) items)) old new
+pub tells-more : {A B : Type 0} {hears : A → List ReportLine → A → Type 0} {old between new : A} (make : B → ReportLine) (lines : List ReportLine) (items : List B) (at : ℕ) (item : B)
+    → slice_get items at ≡ Some item → Tells hears (lines ++ map make (take at items)) old between
+    → Tells hears (make item ∷ []) between new → Tells hears (lines ++ map make (take (at + 1) items)) old new
 tells-more make lines items at item found told more =
     tells-same (append_assoc lines (map make (take at items)) (make item ∷ []) ∙ ap (λ (all : List ReportLine). lines ++ all) (map-more make items at item found)) (tells-then told more)

@@ -1,5 +1,10 @@
 -- What an exchange makes of the air and the run.
-use Rattle.air_world.proofs.Names.{◌≡◌, ℕ, zero, suc, ◌+◌, ◌≤◌, List, ◌∷◌, ◌++◌, length, Option, Some, None, refl, sym, ◌∙◌, ap, subst, arith, slice_get, [], AirValue, NamesTags, air_after, next_exchange, AreEntriesLeft, entry_at, Choice, Entry, few_words, HasFewLevels, given_in, given_of, got_of, heard_levels, wave_for, whole_or_silence, Start, Record, Item, next_entry, next_record, past_behind_command, exchanges_in, tags_behind, Got, RunValue, IsHeard, RunIsAt, counted_on, AnswersCommand, AreOfDifferentTags, AreShort, IsBehind, IsOneOf, Command, LinkValue, AnswersExpected, Carries, Expect, tags-exchanged, length-tags, AnswersSo, AreReplies, StaysLegal, replies-in-answered, IsSomeAnd, Outcome, Sent, bits_sent, BodyValue, IsLegalTag, StateValue, TagValue, AreLegalTags, Replied, outcomes_in, replies_from, replies_in, reply_of, tags_after, expect_of, answers_of}
+use Rattle.air_world.proofs.Names.{◌≡◌, ℕ, zero, suc, ◌+◌, ◌≤◌, List, ◌∷◌, ◌++◌, length, Option, Some, None, refl, sym, ◌∙◌, ap, subst, arith, slice_get, [], AirValue, NamesTags, air_after}
+use Rattle.air_world.proofs.Names.{next_exchange, AreEntriesLeft, entry_at, Choice, Entry, few_words, HasFewLevels, given_in, given_of, got_of, heard_levels, wave_for, whole_or_silence, Start, Record}
+use Rattle.air_world.proofs.Names.{Item, next_entry, next_record, past_behind_command, exchanges_in, tags_behind, Got, RunValue, IsHeard, RunIsAt, counted_on, AnswersCommand, AreOfDifferentTags}
+use Rattle.air_world.proofs.Names.{AreShort, IsBehind, IsOneOf, Command, LinkValue, AnswersExpected, Carries, Expect, tags-exchanged, length-tags, AnswersSo, AreReplies, StaysLegal}
+use Rattle.air_world.proofs.Names.{replies-in-answered, IsSomeAnd, Outcome, Sent, bits_sent, BodyValue, IsLegalTag, StateValue, TagValue, AreLegalTags, Replied, outcomes_in, replies_from, replies_in}
+use Rattle.air_world.proofs.Names.{reply_of, tags_after, expect_of, answers_of}
 use Rattle.air_events.specs.declared.Choice.TheVariants as choices
 use Rattle.air_events.specs.declared.Several.TheVariants as severals
 use Rattle.tag_machine.specs.Answers.{IsSent}
@@ -88,14 +93,11 @@ picked-one replies number (Some replied) is = (number, is)
 
 given-one : (link : LinkValue) (replies : List Replied) (choice : Option Choice) (several : Several) → IsOneOf replies (given_of link replies choice several)
 given-one link replies (Some (choices.Pick number)) several = picked-one replies number (slice_get replies number) refl
-given-one link replies (Some choices.Silent) several = tt
 given-one link [] (Some (choices.Break place)) several = tt
 given-one link (replied ∷ others) (Some (choices.Break place)) several = tt
-given-one link replies (Some (choices.Raw levels)) several = tt
-given-one link [] None several = tt
 given-one link (replied ∷ []) None several = (0, refl)
-given-one link (replied ∷ other ∷ others) None severals.Break = tt
 given-one link (replied ∷ other ∷ others) None severals.Capture = (0, refl)
+given-one link replies choice several = tt
 
 -- what is known of an exchange with which a run goes on
 pub record Sends (start : Start) (earlier : ℕ) (past : List Item) (command : Command) : Type 0 where

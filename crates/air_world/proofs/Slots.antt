@@ -1,6 +1,10 @@
 -- What the exchanges of a slot make of a run.
 use Rattle.std.proofs.lemmas.List.{append-nil}
-use Rattle.air_world.proofs.Names.{◌≡◌, ◌≢◌, ℕ, ◌+◌, ◌||◌, Bool, false, List, ◌∷◌, ◌++◌, map, Option, Some, None, refl, sym, ◌∙◌, ap, subst, arith, append_assoc, [], Dialogue, IsAnswerFor, dialogue_of, done, OpList, AirValue, awaited_reception, stream_reception, IsReadBy, heard_levels, Start, Record, Item, exchanged, past_behind_command, Gave, Begun, HasRoomForExchanges, IsSent, RunIsAt, RunValue, StandsAt, IsBehind, Tells, lines_to_tell, Command, LinkValue, Reception, reception_from, no_stream, whole_reply, no_such_reply, Expect, pair_received, rn16_received, ReportLine, ack_reception, dialogue_begun, past_behind_ack, past_behind_answer, past_behind_dialogue, past_behind_slot, slot_reception, Listed, reception_of_ack, listed_from, listed_by, exchange_lines, list_line}
+use Rattle.air_world.proofs.Names.{◌≡◌, ◌≢◌, ℕ, ◌+◌, ◌||◌, Bool, false, List, ◌∷◌, ◌++◌, map, Option, Some, None, refl, sym, ◌∙◌, ap, subst, arith, append_assoc, [], Dialogue, IsAnswerFor}
+use Rattle.air_world.proofs.Names.{dialogue_of, done, OpList, AirValue, awaited_reception, stream_reception, IsReadBy, heard_levels, Start, Record, Item, exchanged, past_behind_command, Gave, Begun}
+use Rattle.air_world.proofs.Names.{HasRoomForExchanges, IsSent, RunIsAt, RunValue, StandsAt, IsBehind, Tells, lines_to_tell, Command, LinkValue, Reception, reception_from, no_stream, whole_reply}
+use Rattle.air_world.proofs.Names.{no_such_reply, Expect, pair_received, rn16_received, ReportLine, ack_reception, dialogue_begun, past_behind_ack, past_behind_answer, past_behind_dialogue}
+use Rattle.air_world.proofs.Names.{past_behind_slot, slot_reception, Listed, reception_of_ack, listed_from, listed_by, exchange_lines, list_line}
 use Rattle.air_model.specs.declared.got.Got.TheVariants as gots
 use Rattle.command_grammar.specs.declared.commands.Command.TheVariants as commands
 use Rattle.reply_grammar.specs.declared.expected.Expect.TheVariants as expects
@@ -27,8 +31,8 @@ received-of {link} {air} behind extended expect received heard =
     (subst (λ (l : LinkValue). IsReceived (table_of l.code) (extended || l.trext) expect air.stream received) behind.link_is heard)
 
 -- what is received of the stream of an exchange, where the command of an inventory awaits it, is what the record says
-pub inventory-heard : {link : LinkValue} {sent : Record} {air : AirValue} {got : Gave} → IsBehind link sent air got → (expect : Expect) (received : Received) → IsGivenFor expect sent.given → IsReadBy link sent.given
-    → got ≢ gots.Silence → IsReceived (table_of air.link.code) air.link.trext expect air.stream received → reception_from received ≡ reception_of expect sent.given
+pub inventory-heard : {link : LinkValue} {sent : Record} {air : AirValue} {got : Gave} → IsBehind link sent air got → (expect : Expect) (received : Received) → IsGivenFor expect sent.given
+    → IsReadBy link sent.given → got ≢ gots.Silence → IsReceived (table_of air.link.code) air.link.trext expect air.stream received → reception_from received ≡ reception_of expect sent.given
 inventory-heard {link} {sent} {got} behind expect received expected read came heard =
     sym (stream_reception link expect sent.given received expected read (λ none. came (behind.got_is ∙ none)) (received-of behind false expect received heard))
 
@@ -113,7 +117,8 @@ other-begun operations rn (whole_reply (replies.Epc pc epc)) is = absurd (cc)
 other-begun operations rn reception is = refl
 
 -- ... and behind one that brought an EPC
-pub whole-begun : (operations : OpList) (rn : ℕ) (reception : Reception) (pair : ℕ × List ℕ) → pair_received reception ≡ Some pair → dialogue_begun operations rn reception ≡ dialogue_of operations pair.1 rn
+pub whole-begun : (operations : OpList) (rn : ℕ) (reception : Reception) (pair : ℕ × List ℕ) → pair_received reception ≡ Some pair
+    → dialogue_begun operations rn reception ≡ dialogue_of operations pair.1 rn
 whole-begun operations rn (whole_reply (replies.Epc pc epc)) pair is = let same : (pc, epc) ≡ pair = cc in ap (λ (p : ℕ × List ℕ). dialogue_of operations p.1 rn) same
 whole-begun operations rn reception pair is = absurd (cc)
 
@@ -123,5 +128,6 @@ pub ack-behind : {dialogue : Dialogue} (start : Start) (operations : OpList) (ro
 ack-behind start operations round slot rn past is = ap (λ (d : Dialogue). past_behind_dialogue start round slot 1 d (past_behind_command start round slot (commands.Ack rn) past)) is
 
 -- room for one exchange more
-pub room-behind : (start : Start) (round slot : ℕ) (command : Command) (past : List Item) (more : ℕ) → HasRoomForExchanges (1 + more) past → HasRoomForExchanges more (past_behind_command start round slot command past)
+pub room-behind : (start : Start) (round slot : ℕ) (command : Command) (past : List Item) (more : ℕ) → HasRoomForExchanges (1 + more) past
+    → HasRoomForExchanges more (past_behind_command start round slot command past)
 room-behind start round slot command past more room = omega arith

@@ -1,13 +1,16 @@
 -- What the steps of a run make of it.
 use Rattle.std.proofs.Math.Nat.{mul-le-mul}
 use Rattle.std.proofs.lemmas.List.{append-nil}
-use Rattle.air_world.proofs.Names.{◌≡◌, ℕ, suc, ◌+◌, ◌*◌, ◌≤◌, ◌<◌, List, ◌∷◌, length, drop, get_or, refl, sym, ◌∙◌, ap, subst, arith, All, AirValue, air_after_event, Event, Start, Item, befell, exchanges_in, rounds_in, Begun, RunValue, RunIsAt, IsPlayable, StandsAt, most_in_round, most_in_slot, most_slots, lines_to_tell, ReportLine, Grows, RoundsKeepLimit, steps-grow, round-holds, round-exchanges, legal-step, tags-befell, length-tags, most_operating, past_behind, past_behind_step, Step, drop-cons, All-get_or, AreLegalTags}
+use Rattle.air_world.proofs.Names.{◌≡◌, ℕ, ◌+◌, ◌*◌, ◌≤◌, ◌<◌, List, ◌∷◌, length, drop, get_or, refl, sym, ◌∙◌, ap, subst, arith, All, AirValue, air_after_event, Event, Start, Item, befell}
+use Rattle.air_world.proofs.Names.{exchanges_in, rounds_in, Begun, RunValue, RunIsAt, IsPlayable, StandsAt, most_in_round, most_in_slot, most_slots, lines_to_tell, ReportLine, Grows, RoundsKeepLimit}
+use Rattle.air_world.proofs.Names.{steps-grow, round-holds, round-exchanges, legal-step, tags-befell, length-tags, most_operating, past_behind, past_behind_step, Step, drop_more, All-get_or}
+use Rattle.air_world.proofs.Names.{AreLegalTags}
 use Rattle.scenario.specs.declared.values.Step.TheVariants as steps
 use Rattle.air_world.proofs.Rounds.{rounds-slot}
 
 -- behind an event
-pub stands-befell : {A : Type 0} {hears : A → List ReportLine → A → Type 0} {begun : Begun A} {past : List Item} {air : AirValue} {run : RunValue} {report : A} (event : Event) (number : ℕ) (next : AirValue)
-    → StandsAt hears begun past air run report → next ≡ air_after_event air event number → AreLegalTags next.tags → StandsAt hears begun (befell event number ∷ past) next run report
+pub stands-befell : {A : Type 0} {hears : A → List ReportLine → A → Type 0} {begun : Begun A} {past : List Item} {air : AirValue} {run : RunValue} {report : A} (event : Event) (number : ℕ)
+    (next : AirValue) → StandsAt hears begun past air run report → next ≡ air_after_event air event number → AreLegalTags next.tags → StandsAt hears begun (befell event number ∷ past) next run report
 stands-befell {hears} {begun} {past} {air} {report} event number next stands is legal =
     let was = stands.at in
     record {
@@ -29,20 +32,15 @@ stands-befell {hears} {begun} {past} {air} {report} event number next stands is 
 -- how many exchanges a step adds at most
 step-exchanges : RoundsKeepLimit → (tags : ℕ) (start : Start) (step : Step) (past : List Item) → IsPlayable tags step
     → exchanges_in (past_behind_step start step past) ≤ exchanges_in past + most_in_round
-step-exchanges keeps tags start (steps.Select command) past is = omega arith
-step-exchanges keeps tags start steps.Nak past is = omega arith
-step-exchanges keeps tags start (steps.Event event number) past is = omega arith
 step-exchanges keeps tags start (steps.Round spec operations) past is =
     let legal = legal-step is.version tags (steps.Round spec operations) is.is in
     let each : 2 + most_operating operations ≤ most_in_slot = omega (arith, legal.few) in
     let most : (2 + most_operating operations) * spec.limit ≤ most_in_slot * most_slots = mul-le-mul each legal.legal.limit.1 in
     omega (arith, most, round-exchanges keeps start operations spec past legal.legal)
+step-exchanges keeps tags start step past is = omega arith
 
 -- ... and how many rounds
 step-rounds : RoundsKeepLimit → (tags : ℕ) (start : Start) (step : Step) (past : List Item) → IsPlayable tags step → rounds_in (past_behind_step start step past) ≤ rounds_in past + 1
-step-rounds keeps tags start (steps.Select command) past is = omega arith
-step-rounds keeps tags start steps.Nak past is = omega arith
-step-rounds keeps tags start (steps.Event event number) past is = omega arith
 step-rounds keeps tags start (steps.Round spec operations) past is =
     round-holds (λ outcomes now. rounds_in now ≡ rounds_in past) (λ now. rounds_in now ≤ rounds_in past + 1)
     (record { start = start; operations = operations; spec = spec; before = past }) keeps (legal-step is.version tags (steps.Round spec operations) is.is).legal
@@ -51,6 +49,7 @@ step-rounds keeps tags start (steps.Round spec operations) past is =
       end = λ outcomes now end next same. omega (arith, same);
     })
     refl
+step-rounds keeps tags start step past is = omega arith
 
 -- steps that are taken behind a past
 pub record StepsTaken : Type 0 where
@@ -83,11 +82,6 @@ pub same-count : {start : Start} {earlier : ℕ} {past later : List Item} {air n
     → length next.tags ≡ length air.tags
 same-count {start} {past} {later} plays goes = ap length goes.tags ∙ length-tags start later ∙ sym (ap length plays.tags ∙ length-tags start past)
 
-step-drop : (list : List Step) (index : ℕ) (step : Step) → index < length list → step ≡ get_or list index step → drop index list ≡ step ∷ drop (index + 1) list
-step-drop list index step inside is =
-    let next : suc index ≡ index + 1 = omega arith in
-    drop-cons list index step inside ∙ ap (λ (s : Step). s ∷ drop (suc index) list) (sym is) ∙ ap (λ n. step ∷ drop n list) next
-
 -- the step with this number
 pub record IsStepAt (taken : StepsTaken) (index : ℕ) (step : Step) : Type 0 where
   pub inside : index < length taken.steps
@@ -95,7 +89,10 @@ pub record IsStepAt (taken : StepsTaken) (index : ℕ) (step : Step) : Type 0 wh
 
 steps-rest : (taken : StepsTaken) (index : ℕ) (step : Step) (past : List Item) → AreTaken taken index past → IsStepAt taken index step
     → past_behind taken.start (drop (index + 1) taken.steps) (past_behind_step taken.start step past) ≡ past_behind_taken taken
-steps-rest taken index step past are at = ap (λ (l : List Step). past_behind taken.start l past) (sym (step-drop taken.steps index step at.inside at.is)) ∙ are.rest
+steps-rest taken index step past are at =
+    let first : drop index taken.steps ≡ step ∷ drop (index + 1) taken.steps =
+    drop_more taken.steps index step at.inside ∙ ap (λ (s : Step). s ∷ drop (index + 1) taken.steps) (sym at.is) in
+    ap (λ (l : List Step). past_behind taken.start l past) (sym first) ∙ are.rest
 
 -- one step more
 pub steps-go-on : RoundsKeepLimit → (taken : StepsTaken) (tags index : ℕ) (step : Step) (past : List Item) → AreTaken taken index past → IsStepAt taken index step → IsPlayable tags step

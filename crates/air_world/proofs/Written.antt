@@ -1,6 +1,7 @@
 -- What is written of a run that is told to a text.
 use Rattle.std.proofs.lemmas.List.{append-nil}
-use Rattle.air_world.proofs.Names.{◌≡◌, inl, inr, ℕ, List, ◌++◌, Option, Some, None, Result, Ok, Err, sym, ◌∙◌, ap, subst, append_assoc, AirValue, IsWritten, PlaysOrFails, ReportLine, IsAdded, spelling_behind, text_from, PlayFault, Write, ModeSpelling, report_text_of, run_lines, start_of, Scenario}
+use Rattle.air_world.proofs.Names.{◌≡◌, inl, inr, ℕ, List, ◌++◌, Option, Some, None, Result, Ok, Err, sym, ◌∙◌, ap, subst, append_assoc, AirValue, IsWritten, PlaysOrFails, ReportLine, IsAdded}
+use Rattle.air_world.proofs.Names.{spelling_behind, text_from, PlayFault, Write, ModeSpelling, report_text_of, run_lines, start_of, Scenario}
 use Rattle.air_io.specs.Flow.{Adds}
 use Rattle.report_lines.specs.ModeReport.{line_of_mode, mode_behind, new_spelling}
 use Rattle.report_lines.proofs.SpelledLaws.{told-in-mode}

@@ -192,8 +192,6 @@ impl<'a, L: Ledger> Run<'a, L> {
             → StandsAt R.hears begun past air.old self.old report.old
             → result ≡ outcome_of (slot_reception begun.start round slot command.now past) }
     {
-        answers_are_replies();
-        steps_keep_tags_legal();
         match self.send(air, command, report) {
             Got::Silence => Outcome::Silence,
             _ => match self.hear_rn16(air) {
@@ -223,8 +221,6 @@ impl<'a, L: Ledger> Run<'a, L> {
             → StandsAt R.hears begun (past_behind_ack begun.start operations.now round slot rn past)
             air.new self.new report.new }
     {
-        answers_are_replies();
-        steps_keep_tags_legal();
         match self.send(air, &Command::Ack { rn }, report) {
             Got::Silence => {}
             _ => match self.hear_epc(air) {

@@ -6,7 +6,6 @@ ghost use Rattle.scenario.specs.Groups.{copies_of, copy_of, raised};
 ghost use Rattle.scenario.specs.Limits.{IsScenario};
 ghost use Rattle.scenario_lines.specs.TagForm.{IsTag, epc_length};
 ghost use Rattle.tag_machine.specs.Hearing.{tag_value_of};
-ghost use Rattle.tag_memory.specs.Image.{banks_of};
 
 use air_channel::{Air, Population};
 use bit_strings::OutOfMemory;
@@ -33,21 +32,6 @@ fn raised(word: u16, by: u32) -> u16
     (sum % 65_536) as u16
 }
 
-/// The memory of the copy of this number of a tag: the last word of the EPC and the last of TID are raised by the number.
-fn memory_of_copy(alloc: Global, spec: &TagSpec, number: u32) -> Result<Memory, OutOfMemory>
-    requires tag { IsTag spec.now }
-    requires epc { 1 ≤ epc_length spec.now }
-    ensures { IfOk result (λ memory. memory ≡ banks_of (copy_of number spec.now).image) }
-{
-    let epc = spec.image.epc.as_slice();
-    let tid = spec.image.tid.as_slice();
-    // The EPC stands behind PC, whose first five bits give the number of its words (6.3.2.1.2.2).
-    let last_of_epc = raised(epc[usize::from(epc[0] >> 11)], number);
-    let last_of_tid = raised(tid[tid.len() - 1], number);
-    let memory = Memory::with_last_words(alloc, &spec.image, last_of_epc, last_of_tid)?;
-    Ok(memory)
-}
-
 /// The draw words, each raised by a number.
 fn raised_words(alloc: Global, words: &DrawWords, by: u32) -> Result<DrawWords, OutOfMemory>
     ensures { IfOk result (λ changed. changed ≡ map (raised by) words.now) }
@@ -66,7 +50,12 @@ fn new_copy(alloc: Global, spec: &TagSpec, number: u32) -> Result<AnyTag, OutOfM
     requires epc { 1 ≤ epc_length spec.now }
     ensures { IfOk result (λ tag. tag_value_of tag ≡ scenario_tag (copy_of number spec.now)) }
 {
-    let memory = memory_of_copy(alloc, spec, number)?;
+    let epc = spec.image.epc.as_slice();
+    let tid = spec.image.tid.as_slice();
+    // The EPC stands behind PC, whose first five bits give the number of its words (6.3.2.1.2.2).
+    let last_of_epc = raised(epc[usize::from(epc[0] >> 11)], number);
+    let last_of_tid = raised(tid[tid.len() - 1], number);
+    let memory = Memory::with_last_words(alloc, &spec.image, last_of_epc, last_of_tid)?;
     let words = raised_words(alloc, &spec.words, number)?;
     AnyTag::new(alloc, memory, spec.locks, words)
 }

@@ -1,7 +1,7 @@
 //! What a run counts.
-ghost use Rattle.std.specs.Prelude.{◌≡◌, ◌+◌, ◌-◌, ◌^◌, ◌&&◌, min, IfOk, OnOk};
+ghost use Rattle.std.specs.Prelude.{◌≡◌, IfOk, OnOk};
 ghost use Rattle.runs.specs.CompleteRounds.{RoundsAreComplete};
-ghost use Rattle.runs.specs.Summary.{is_quiet, summary_of};
+ghost use Rattle.runs.specs.Summary.{summary_of};
 ghost use Rattle.scenario.specs.Limits.{IsScenario};
 
 use crate::playing::tell_scenario;
@@ -19,19 +19,6 @@ pub(crate) struct Counting {
     summary: Summary,
 }
 
-/// Counts a round more, which ended so and had so many slots.
-fn count_round(counted: &mut Summary, end: RoundEnd, slots: u32)
-    ensures { counted.new ≡ record
-        counted.old {
-          slots = min (counted.old.slots + slots)
-              (2 ^ 64 - 1);
-          quiet = counted.old.quiet && is_quiet end;
-        } }
-{
-    counted.slots = counted.slots.saturating_add(u64::from(slots));
-    counted.quiet = counted.quiet && matches!(end, RoundEnd::Quiet);
-}
-
 impl Listener for Counting {
     ghost use Rattle.std.specs.Prelude.{None};
     ghost use Rattle.air_world.specs.Counting.{CountsLines};
@@ -45,7 +32,10 @@ impl Listener for Counting {
         let counted = &mut self.summary;
         match *line {
             Line::List { .. } => counted.listed = counted.listed.saturating_add(1),
-            Line::Round { end, slots, .. } => count_round(counted, end, slots),
+            Line::Round { end, slots, .. } => {
+                counted.slots = counted.slots.saturating_add(u64::from(slots));
+                counted.quiet &= end == RoundEnd::Quiet;
+            }
             Line::Seen { .. } => counted.distinct = counted.distinct.saturating_add(1),
             Line::Tag { .. } => counted.tags = counted.tags.saturating_add(1),
             _ => {}

@@ -2,7 +2,7 @@
 use Rattle.std.proofs.Common.{◌≡◌, true, List, [], ◌∷◌, ◌++◌, refl, sym, ◌∙◌, ap, subst, arith}
 use Rattle.air_world.specs.Counting.{CountsLines, Fits, counted_line, counted_lines}
 use Rattle.report_lines.specs.ModeLines.{is_of_exchanges, is_of_trace}
-use Rattle.report_lines.specs.ReportLine.{ReportLine, BlfLine, ExchangeLine, MissedLine, AnswerLine, GivenLine, TxLine, RxLine, ListLine, OpLine, RoundLine, SeenLine, TagLine, DoneLine}
+use Rattle.report_lines.specs.ReportLine.{ReportLine, BlfLine, ExchangeLine, MissedLine, AnswerLine, GivenLine, TxLine, RxLine, ListLine, RoundLine, SeenLine, TagLine}
 use Rattle.runs.specs.declared.summary.Summary.{Summary}
 
 -- nothing is counted where nothing is told
@@ -20,15 +20,7 @@ fits-before counted (ListLine round slot pc epc) fits = record { tags = fits.tag
 fits-before counted (RoundLine round end slots) fits = record { tags = fits.tags; listed = fits.listed; distinct = fits.distinct; slots = omega (arith, fits.slots) }
 fits-before counted (SeenLine count pc epc) fits = record { tags = fits.tags; listed = fits.listed; distinct = omega (arith, fits.distinct); slots = fits.slots }
 fits-before counted (TagLine number tag) fits = record { tags = omega (arith, fits.tags); listed = fits.listed; distinct = fits.distinct; slots = fits.slots }
-fits-before counted (BlfLine numerator denominator) fits = fits
-fits-before counted (ExchangeLine exchange command) fits = fits
-fits-before counted (MissedLine exchange tag) fits = fits
-fits-before counted (AnswerLine exchange tag extended reply) fits = fits
-fits-before counted (TxLine exchange intervals) fits = fits
-fits-before counted (RxLine exchange count levels) fits = fits
-fits-before counted (GivenLine exchanged) fits = fits
-fits-before counted (OpLine round slot index result) fits = fits
-fits-before counted DoneLine fits = fits
+fits-before counted line fits = fits
 
 -- who counts a line more counts it behind the lines before
 pub counts-more : (lines : List ReportLine) (first old new : Summary) (line : ReportLine) → CountsLines lines first old → (Fits (counted_line old line) → new ≡ counted_line old line)

@@ -20,7 +20,6 @@ use command_grammar::Command;
 use reply_grammar::{Expect, Received};
 use report_lines::{Line, Listener};
 use std::sync::ledger::Ledger;
-use tag_machine::{answers_are_replies, steps_keep_tags_legal};
 
 impl<'a, L: Ledger> Run<'a, L> {
     /// Does the operations that were begun with a tag that was listed, and tells the result of each.
@@ -49,7 +48,7 @@ impl<'a, L: Ledger> Run<'a, L> {
         let mut is_answered = false;
         let mut index = 1;
         'moves: loop {
-            run.next(operations, last_answer(is_answered, &answer), &mut next);
+            run.next(operations, is_answered.then_some(&answer), &mut next);
             match &next {
                 OpNext::Send {
                     command,
@@ -96,20 +95,11 @@ impl<'a, L: Ledger> Run<'a, L> {
             → reception_in answer.new
             ≡ operation_reception begun.start round slot command.now expect.now extended past }
     {
-        answers_are_replies();
-        steps_keep_tags_legal();
         match self.send(air, command, report) {
             Got::Silence => *answer = Answer::Silence,
             _ => hear(air, expect, extended, &mut self.bits, answer),
         }
     }
-}
-
-/// The answer, where there is one to what was done last.
-fn last_answer(is_answered: bool, answer: &Answer) -> Option<&Answer>
-    ensures { option_copied result ≡ if is_answered then Some answer.now else None }
-{
-    if is_answered { Some(answer) } else { None }
 }
 
 /// Gives what is received of the last stream of an air as what is heard, in place of what was heard before.

@@ -1,4 +1,5 @@
-use Rattle.air_world.proofs.Names.{◌≡◌, ◌+◌, ◌≤◌, List, ◌++◌, length, refl, sym, ◌∙◌, ap, subst, arith, ℕ, [], OpList, tags_behind, HearsPairs, pairs_told, Begun, IsEndedBy, StandsAt, lines_to_tell, RoundEnd, ReportLine, past_behind_round, played_of, pairs_in, no_operations}
+use Rattle.air_world.proofs.Names.{◌≡◌, ◌+◌, ◌≤◌, List, ◌++◌, length, refl, sym, ◌∙◌, ap, subst, arith, ℕ, [], OpList, tags_behind, HearsPairs, pairs_told, Begun, IsEndedBy, StandsAt, lines_to_tell}
+use Rattle.air_world.proofs.Names.{RoundEnd, ReportLine, past_behind_round, played_of, pairs_in, no_operations}
 use Rattle.air_world.proofs.Halls.{IsHallOver, hall-begins, hall-over, start_on}
 use Rattle.air_world.proofs.Listings.{pairs-behind}
 use Rattle.air_world.specs.declared.hall.PairListener.{PairListener}

@@ -5,7 +5,8 @@ use Rattle.air_world.proofs.playing.tell_run.Goals as goal
 
 pub returns-in_err-bits : goal.returns-in_err-bits
 returns-in_err-bits g c =
-    ends-cut c.from_residual.result _ _ _ c.from_residual.ensures.1 (cut-at-first g.R.Listener.hears g.R.Listener.failed c.args.report.now _ (g.met.R.Listener.nothing c.args.report.now) c.requires.faultless)
+    ends-cut c.from_residual.result _ _ _ c.from_residual.ensures.1
+    (cut-at-first g.R.Listener.hears g.R.Listener.failed c.args.report.now _ (g.met.R.Listener.nothing c.args.report.now) c.requires.faultless)
 
 pub tell_whole-requires-clause-first : goal.tell_whole-requires-clause-first
 tell_whole-requires-clause-first g c =

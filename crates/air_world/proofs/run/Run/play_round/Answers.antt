@@ -53,7 +53,8 @@ pub returns-in-Some-clause-ends : goal.returns-in-Some-clause-ends
 returns-in-Some-clause-ends g c = λ begun past stands.
     let u = c.slots.invariant begun past stands in
     let played = slot_played u.is c.slots_sent-slot.result c.play_slot-outcome.result c.slots_sent-slot.ensures.stands (c.play_slot-outcome.ensures.outcome begun u.past u.stands) in
-    let left = round-ends _ _ _ u.is played c.next.new.self c.in-Some.end c.next.new.command (answers-known c.next.new.command c.in-Some.is (c.next.ensures.answer c.args.spec.now u.is.outcomes u.is.goes u.is.on)) in
+    let left = round-ends _ _ _ u.is played c.next.new.self c.in-Some.end c.next.new.command
+    (answers-known c.next.new.command c.in-Some.is (c.next.ensures.answer c.args.spec.now u.is.outcomes u.is.goes u.is.on)) in
     let number = u.is.rounds ∙ ap (λ n. n + 1) (sym (rounds-slot begun.start c.args.operations.now _ _ _ u.past)) in
     stands-same (sym left)
     (stands-told (ended _ c.in-Some.end _) (c.play_slot-outcome.ensures.stands begun u.past u.stands) (record { on = c.tell.ensures }) (tags-ended begun.start _ c.in-Some.end _ _) refl
@@ -63,5 +64,6 @@ pub returns-in-Some-clause-end : goal.returns-in-Some-clause-end
 returns-in-Some-clause-end g c = λ begun past stands.
     let u = c.slots.invariant begun past stands in
     let played = slot_played u.is c.slots_sent-slot.result c.play_slot-outcome.result c.slots_sent-slot.ensures.stands (c.play_slot-outcome.ensures.outcome begun u.past u.stands) in
-    let left = round-ends _ _ _ u.is played c.next.new.self c.in-Some.end c.next.new.command (answers-known c.next.new.command c.in-Some.is (c.next.ensures.answer c.args.spec.now u.is.outcomes u.is.goes u.is.on)) in
+    let left = round-ends _ _ _ u.is played c.next.new.self c.in-Some.end c.next.new.command
+    (answers-known c.next.new.command c.in-Some.is (c.next.ensures.answer c.args.spec.now u.is.outcomes u.is.goes u.is.on)) in
     record { number = _; slots = _; before = _; is = sym left }

@@ -1,4 +1,5 @@
-use Rattle.air_world.proofs.Names.{◌≡◌, List, refl, sym, ◌∙◌, ap, arith, silent_reception, Item, next_record, past_behind_command, Begun, RunValue, StandsAt, no_stream, outcome_of, slot_reception, expectation_of}
+use Rattle.air_world.proofs.Names.{◌≡◌, List, refl, sym, ◌∙◌, ap, arith, silent_reception, Item, next_record, past_behind_command, Begun, RunValue, StandsAt, no_stream, outcome_of, slot_reception}
+use Rattle.air_world.proofs.Names.{expectation_of}
 use Rattle.air_model.specs.declared.got.Got.TheVariants as gots
 use Rattle.reply_grammar.specs.declared.expected.Expect.TheVariants as expects
 use Rattle.air_world.proofs.Passing.{underway-fewer}

@@ -1,4 +1,5 @@
-use Rattle.air_world.proofs.Names.{◌≡◌, ◌+◌, ℕ, List, refl, sym, ap, ◌∙◌, subst, arith, AreEntriesLeft, entry_at, Start, Item, exchanges_in, next_record, RunValue, RunIsAt, AreShort, lines_to_tell, AreLegalTags, AnswerValue}
+use Rattle.air_world.proofs.Names.{◌≡◌, ◌+◌, ℕ, List, refl, sym, ap, ◌∙◌, subst, arith, AreEntriesLeft, entry_at, Start, Item, exchanges_in, next_record, RunValue, RunIsAt, AreShort, lines_to_tell}
+use Rattle.air_world.proofs.Names.{AreLegalTags, AnswerValue}
 use Rattle.air_world.proofs.Passing.{tells-then}
 use Rattle.air_world.proofs.Sending.{Sends, answers-short, entry-fits, entry-names, sent-behind, sent-heard, sent-plays}
 use Rattle.air_world.proofs.run.Run.send.Given.{Over}

@@ -1,5 +1,5 @@
-use Rattle.air_world.proofs.Names.{◌≡◌, sym, ◌∙◌, ap, arith, AnswersCommand, slice_get_within, Replied, AnswerValue, answer_of, answer_value_of}
-use Rattle.air_world.proofs.Saying.{answer-at, answer-there, none-there, one-answer, others-more, reply-at, reply-there, short-at}
+use Rattle.air_world.proofs.Names.{◌≡◌, sym, ◌∙◌, ap, arith, AnswersCommand, slice_get_within, Replied, AnswerValue, answer_of, answer_value_of, some_replied}
+use Rattle.air_world.proofs.Saying.{answer-at, answer-there, none-there, others-more, reply-at, short-at}
 use Rattle.air_world.proofs.run.saying.reply_of.Goals as goal
 
 pub unreachable-requires : goal.unreachable-requires
@@ -12,13 +12,10 @@ read-requires c =
 
 pub returns-then-from-tag-clause-reply : goal.returns-then-from-tag-clause-reply
 returns-then-from-tag-clause-reply c = λ replies place replied are all different at tag.
-    let answers = c.args.answers.now.items in
-    let here = reply-there answers replies c.loop-place.place are (omega arith) in
-    let is = answer-there answers c.loop-place.place c.get.result c.in-Some.answer c.get.ensures c.in-Some.is in
-    let same = one-answer (answer_value_of c.in-Some.answer) (answer_of here.0) (sym is ∙ answer-at answers replies c.loop-place.place here.0 are here.1) in
-    let number = sym (ap (λ (a : AnswerValue). a.number) same) ∙ sym c.get-in-loop-place.ensures.value ∙ sym c.from.ensures ∙ c.if-from-tag.true ∙ tag in
+    let here = some_replied c.args.answers.now.items replies c.loop-place.place c.in-Some.answer are c.get.ensures c.in-Some.is in
+    let number = sym (ap (λ (a : AnswerValue). a.number) here.2) ∙ sym c.get-in-loop-place.ensures.value ∙ sym c.from.ensures ∙ c.if-from-tag.true ∙ tag in
     let own : here.0 ≡ replied = different c.loop-place.place place here.0 replied here.1 at number in
-    c.read.ensures.reply here.0.sent (reply-at (AnswersCommand c.args.command.now) replies c.loop-place.place here.0 all here.1) (ap (λ (a : AnswerValue). a.bits) same)
+    c.read.ensures.reply here.0.sent (reply-at (AnswersCommand c.args.command.now) replies c.loop-place.place here.0 all here.1) (ap (λ (a : AnswerValue). a.bits) here.2)
     ∙ ap (λ (r : Replied). r.sent.reply) own
 
 pub loop-place-preserved : goal.loop-place-preserved

@@ -1,4 +1,4 @@
-use Rattle.air_world.proofs.Names.{◌≡◌, ◌+◌, ◌-◌, ◌^◌, ◌&&◌, ◌∙◌, ap, arith, min, Fits, counted_line, counts-more, line_of, ListLine, RoundLine, SeenLine, TagLine, is_quiet, tag_value_of}
+use Rattle.air_world.proofs.Names.{◌≡◌, ◌+◌, ◌&&◌, ap, arith, Fits, counted_line, counts-more, line_of, ListLine, RoundLine, SeenLine, TagLine, is_quiet, tag_value_of}
 use Rattle.air_world.proofs.Counted.{other-line}
 use Rattle.air_world.proofs.summary.CountingListener.tell.Goals as goal
 
@@ -14,8 +14,9 @@ returns-in-Round c = λ first lines counts.
     counts-more lines first.summary c.args.self.now.summary _ (line_of c.args.line.now) counts
     (rw c.in-Round.is (λ (fits : Fits (counted_line c.args.self.now.summary (RoundLine c.in-Round.round c.in-Round.end c.in-Round.slots))).
     let counted = c.args.self.now.summary in
-    let room : min (counted.slots + c.in-Round.slots) (2 ^ 64 - 1) ≡ counted.slots + c.in-Round.slots = omega (arith, fits.slots) in
-    c.count_round.ensures ∙ ap (λ n. record counted { slots = n; quiet = counted.quiet && is_quiet c.in-Round.end }) room))
+    let slots : c.saturating_add-counted-in-Round.result ≡ counted.slots + c.in-Round.slots = omega (arith, c.saturating_add-counted-in-Round.ensures, c.from.ensures, fits.slots) in
+    let quiet : c.eq.result ≡ is_quiet c.in-Round.end = grind (arith, c.eq.ensures) in
+    λ i. record counted { slots = slots i; quiet = counted.quiet && quiet i }))
 
 pub returns-in-Seen : goal.returns-in-Seen
 returns-in-Seen c = λ first lines counts.
