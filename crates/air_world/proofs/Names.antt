@@ -22,7 +22,7 @@ pub use Rattle.air_world.specs.NewAir.{IsGroupOfTags, new_air}
 pub use Rattle.air_world.specs.Playing.{Begun, HasRoomForExchanges, IsBetweenSteps, IsEndedBy, IsHeard, IsPlayable, IsSent, IsUnderway, NamesItsTags, RunIsAt, RunValue, StandsAt, StandsOrFails}
 pub use Rattle.air_world.specs.Playing.{begun_with, counted_on, most_in_round, most_in_slot, most_slots}
 pub use Rattle.air_world.specs.Saying.{AnswersCommand, AreOfDifferentTags, AreShort, IsBehind, IsOneOf}
-pub use Rattle.air_world.specs.Telling.{EndsOrFails, IsCut, IsCutOff, IsCutShort, IsWritten, PlaysOrFails, Tells, lines_to_tell}
+pub use Rattle.air_world.specs.Telling.{EndsOrFails, IsCut, IsCutOff, IsCutShort, PlaysOrFails, Tells, lines_to_tell}
 pub use Rattle.air_world.specs.declared.seen_listener.SeenListener.{SeenListener}
 pub use Rattle.air_world.specs.laws.CountingLaws.{counted-append, counts-more, uncounted, uncounted-frame}
 pub use Rattle.bit_strings.specs.ItemList.{ItemList}
@@ -78,7 +78,7 @@ pub use Rattle.std.specs.Borrow.{Bor}
 pub use Rattle.std.specs.List.{AllByRecursion, AllZip}
 pub use Rattle.std.specs.Option.{IsSomeAnd, option_map}
 pub use Rattle.std.specs.Prelude.{All, IfSome, if◌then◌else◌}
-pub use Rattle.std.specs.Result.{IfErr, IfOk, IsErrAnd, OnOk}
+pub use Rattle.std.specs.Result.{IfErr, IfOk, IsErrAnd, IsErrOf, OnErr, OnOk}
 pub use Rattle.tag_machine.specs.Answers.{Outcome, Sent, bits_sent}
 pub use Rattle.tag_machine.specs.Hearing.{tag_value_of}
 pub use Rattle.tag_machine.specs.TagValue.{BodyValue, IsLegalTag, StateValue, TagValue}

@@ -1,8 +1,9 @@
 -- What is written of a run that is told to a text.
 use Rattle.std.proofs.lemmas.List.{append-nil}
-use Rattle.air_world.proofs.Names.{◌≡◌, inl, inr, ℕ, List, ◌++◌, Option, Some, None, Result, Ok, Err, sym, ◌∙◌, ap, subst, append_assoc, AirValue, IsWritten, PlaysOrFails, ReportLine, IsAdded}
-use Rattle.air_world.proofs.Names.{spelling_behind, text_from, PlayFault, Write, ModeSpelling, report_text_of, run_lines, start_of, Scenario}
-use Rattle.air_io.specs.Flow.{Adds}
+use Rattle.air_world.proofs.Names.{◌≡◌, ◌≤◌, inl, inr, ℕ, List, ◌++◌, Option, Some, None, Result, Ok, Err, sym, ◌∙◌, ap, subst, append_assoc, OnErr, OnOk, IsErrOf, OutOfMemory, exchanges_in}
+use Rattle.air_world.proofs.Names.{tags_behind, history, AirValue, PlaysOrFails, ReportLine, IsAdded, spelling_behind, text_from, PlayFault, Write, ModeSpelling, report_text_of, run_lines, start_of}
+use Rattle.air_world.proofs.Names.{Scenario}
+use Rattle.air_io.specs.Flow.{Adds, FaultsRose}
 use Rattle.report_lines.specs.ModeReport.{line_of_mode, mode_behind, new_spelling}
 use Rattle.report_lines.proofs.SpelledLaws.{told-in-mode}
 use Rattle.report_lines.specs.laws.TextReportLaws.{text_from-append}
@@ -48,11 +49,22 @@ pub record SinkChange : Type 0 where
 abbrev pub IsAddedTo : SinkChange → List ℕ → Option PlayFault → Type 0
 IsAddedTo sink text fault = IsAdded text sink.first sink.written sink.before sink.after fault
 
+-- how a run ended, as far as it was written
+pub record IsWritten (r : Result (Unit {0}) PlayFault) (mode : Mode) (scenario : Scenario) (sink : SinkChange) (air : AirValue) : Type 0 where
+  pub report : OnOk r (Adds sink.first sink.written (report_text_of mode scenario))
+  pub tags : OnOk r (air.tags ≡ tags_behind (start_of scenario) (history scenario))
+  pub exchanges : OnOk r (air.exchanges ≡ exchanges_in (history scenario))
+  pub write : IsErrOf r Write → FaultsRose sink.before sink.after
+  pub memory : IsErrOf r OutOfMemory → sink.after ≡ sink.before
+  pub steady : OnOk r (sink.after ≡ sink.before)
+  pub part : OnErr r ((front : List ℕ) × (rest : List ℕ) × (report_text_of mode scenario ≡ front ++ rest) × Adds sink.first sink.written front)
+  pub count : sink.before ≤ sink.after
+
 -- how a run ended is what it told, in the spelling of a mode
 pub run-written : {A : Type 0} (hears : A → List ReportLine → A → Type 0) (failed : A → Option PlayFault) (old new : A)
     (r : Result (Unit {0}) PlayFault) (mode : Mode) (scenario : Scenario) (sink : SinkChange) (air : AirValue) → PlaysOrFails hears failed r scenario old new air
     → ((lines : List ReportLine) → hears old lines new → IsAddedTo sink (told_text (spelling_for mode scenario) lines) (failed new))
-    → IsWritten r mode scenario sink.first sink.written sink.before sink.after air
+    → IsWritten r mode scenario sink air
 run-written hears failed old new (Ok done) mode scenario sink air played adds =
     let added = adds (run_lines (start_of scenario) scenario.steps) played.told in
     record {

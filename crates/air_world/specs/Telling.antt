@@ -1,14 +1,11 @@
 -- Profile: what a run tells, and who has heard it.
-use Rattle.std.specs.Prelude.{◌≡◌, ◌⊎◌, ℕ, ◌≤◌, List, ◌++◌, Option, Some, None, Result, Ok, Err}
-use Rattle.std.specs.Result.{OnErr, OnOk, IsErrOf}
+use Rattle.std.specs.Prelude.{◌≡◌, ◌⊎◌, List, ◌++◌, Option, Some, None, Result, Ok, Err}
 use Rattle.air_channel.specs.Air.{AirValue}
-use Rattle.air_io.specs.Flow.{Adds, FaultsRose}
 use Rattle.air_model.specs.Past.{Start, Item, exchanges_in, tags_behind}
 use Rattle.report_lines.specs.ReportLine.{ReportLine}
 use Rattle.report_lines.specs.declared.mode.PlayFault.{PlayFault}
-use Rattle.report_lines.specs.declared.mode.Mode.{Mode}
-use Rattle.report_lines.specs.declared.mode.PlayFault.TheVariants.{OutOfMemory, Write}
-use Rattle.runs.specs.Report.{past_lines, report_text_of, run_lines}
+use Rattle.report_lines.specs.declared.mode.PlayFault.TheVariants.{OutOfMemory}
+use Rattle.runs.specs.Report.{past_lines, run_lines}
 use Rattle.runs.specs.ScenarioStart.{start_of, history}
 use Rattle.scenario.specs.declared.values.Scenario.{Scenario}
 
@@ -52,14 +49,3 @@ pub record IsPlayed {A : Type 0} (hears : A → List ReportLine → A → Type 0
 abbrev pub PlaysOrFails : {A : Type 0} → (A → List ReportLine → A → Type 0) → (A → Option PlayFault) → Result (Unit {0}) PlayFault → Scenario → (old new : A) → AirValue → Type 0
 PlaysOrFails hears failed result scenario old new air =
     EndsOrFails result (IsPlayed hears failed scenario old new air) (IsCutShort hears failed old new (run_lines (start_of scenario) scenario.steps))
-
--- how a run ended, as far as it was written
-pub record IsWritten (r : Result (Unit {0}) PlayFault) (mode : Mode) (scenario : Scenario) (first written : Option (List ℕ)) (before after : ℕ) (air : AirValue) : Type 0 where
-  pub report : OnOk r (Adds first written (report_text_of mode scenario))
-  pub tags : OnOk r (air.tags ≡ tags_behind (start_of scenario) (history scenario))
-  pub exchanges : OnOk r (air.exchanges ≡ exchanges_in (history scenario))
-  pub write : IsErrOf r Write → FaultsRose before after
-  pub memory : IsErrOf r OutOfMemory → after ≡ before
-  pub steady : OnOk r (after ≡ before)
-  pub part : OnErr r ((front : List ℕ) × (rest : List ℕ) × (report_text_of mode scenario ≡ front ++ rest) × Adds first written front)
-  pub count : before ≤ after

@@ -4,9 +4,7 @@ ghost use Rattle.air_io.specs.Flow.{Adds, FaultsRose};
 ghost use Rattle.air_model.specs.Past.{exchanges_in, tags_behind};
 ghost use Rattle.air_world.specs.NewAir.{new_air};
 ghost use Rattle.air_world.specs.Playing.{IsNewRun, StandsOrFails, begun_with};
-ghost use Rattle.air_world.specs.Telling.{IsWritten, PlaysOrFails};
-ghost use Rattle.report_lines.specs.ModeReport.{new_spelling};
-ghost use Rattle.report_lines.specs.declared.mode.Mode.{Mode as ReportMode};
+ghost use Rattle.air_world.specs.Telling.{PlaysOrFails};
 ghost use Rattle.runs.specs.CompleteRounds.{RoundsAreComplete};
 ghost use Rattle.runs.specs.Headline.{AreHeardAsListed, Headline};
 ghost use Rattle.runs.specs.Report.{report_of, report_text_of};
@@ -75,26 +73,7 @@ pub fn play<O: Sink>(
     rounds_are_complete();
     let mut line = String::with_capacity(alloc, LINE_ROOM)?;
     let mut spelling = ModeSpelling::new(alloc, mode, scenario.link)?;
-    write_run(alloc, scenario, air, out, &mut spelling, &mut line)
-}
-
-/// Plays a scenario on its air, to which no command was sent yet, and writes what the spelling makes of it. The
-/// spelling, which nothing was told yet, and the room for a line are lent.
-fn write_run<O: Sink>(
-    alloc: Global,
-    scenario: &Scenario,
-    air: &mut Air,
-    out: &mut O,
-    spelling: &mut ModeSpelling,
-    line: &mut String,
-) -> Result<(), PlayFault>
-    requires scenario { IsScenario scenario.now }
-    requires fresh { air.old ≡ new_air (start_of scenario.now) }
-    ensures { (mode : ReportMode) → spelling.old ≡ new_spelling mode scenario.now.link
-        → IsWritten result mode scenario.now (O.written out.old) (O.written out.new)
-        (O.faults out.old) (O.faults out.new) air.new }
-{
-    let mut report = TextReport::new(spelling, out, line);
+    let mut report = TextReport::new(&mut spelling, out, &mut line);
     tell_scenario(alloc, scenario, air, &mut report)
 }
 
