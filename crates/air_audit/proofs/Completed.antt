@@ -1,6 +1,9 @@
 -- Each standing that lines lead to can be completed to the end of a trace, so that a refused line is the first with which none
 -- goes on.
-use Rattle.air_audit.proofs.Names.{◌≡◌, ◌+◌, ◌≤◌, ℕ, zero, suc, List, [], ◌∷◌, ◌++◌, map, take, drop, Option, Some, None, slice_get, arith, ap, inl, inr, refl, ◌∙◌, subst, trace_rules, BeginTrace, IsFirstRefusal, IsFirstThatBeginsNone, TraceStanding, begun, between, sending, listing, telling, behind_exchange, link_line, rx_line, told_line, behind_told, next_tag, TellsNextTag, TraceGoesOn, AuditReason, Start, Item, exchanged, tags_behind, Faulty, HasOutcomeFrom, Lead, text_of, TagLine, DoneLine, Listed, listed_by, list_line, tag_lines, TagValue, lines_of}
+use Rattle.air_audit.proofs.Names.{◌≡◌, ◌+◌, ◌≤◌, ℕ, zero, suc, List, [], ◌∷◌, ◌++◌, map, take, drop, Option, Some, None, slice_get, arith, ap, inl, inr, refl, ◌∙◌, subst, trace_rules, BeginTrace}
+use Rattle.air_audit.proofs.Names.{IsFirstRefusal, IsFirstThatBeginsNone, TraceStanding, begun, between, sending, listing, telling, behind_exchange, link_line, rx_line, told_line, behind_told}
+use Rattle.air_audit.proofs.Names.{next_tag, TellsNextTag, TraceGoesOn, AuditReason, Start, Item, exchanged, tags_behind, Faulty, HasOutcomeFrom, Lead, text_of, TagLine, DoneLine, Listed, listed_by}
+use Rattle.air_audit.proofs.Names.{list_line, tag_lines, TagValue, lines_of}
 use Rattle.air_audit.specs.declared.trace_line_words.Word.TheVariants as words
 use Rattle.air_audit.specs.Standing.{ended}
 use Rattle.air_audit.proofs.OneStanding.{Laws}
@@ -99,8 +102,8 @@ not-before start from first (line ∷ next ∷ lines) number reason (inl stops) 
 not-before start from first (line ∷ next ∷ lines) number reason (inr more) = omega (arith, not-before start more.0 (first + 1) (next ∷ lines) number reason more.2)
 
 -- with the refused line they don't
-none-go : Laws → (start : Start) (from : TraceStanding) (first : ℕ) (lines : List (List ℕ)) (number : ℕ) (reason : AuditReason) → HasOutcomeFrom (trace_rules start) from first lines (Faulty number reason)
-    → (count : ℕ) → count + first ≡ number + 1 → BeginTrace start from lines count → ⊥
+none-go : Laws → (start : Start) (from : TraceStanding) (first : ℕ) (lines : List (List ℕ)) (number : ℕ) (reason : AuditReason)
+    → HasOutcomeFrom (trace_rules start) from first lines (Faulty number reason) → (count : ℕ) → count + first ≡ number + 1 → BeginTrace start from lines count → ⊥
 none-go laws start from first lines number reason is zero place go = omega (arith, place, not-before start from first lines number reason is)
 none-go laws start from first [] number reason is (suc count) place go = is
 none-go laws start from first (line ∷ []) number reason is (suc count) place go = omega (arith, go.whole)

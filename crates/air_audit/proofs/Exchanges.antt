@@ -1,6 +1,8 @@
 -- What an exchange makes of an auditor.
 use Rattle.std.specs.List.{All}
-use Rattle.air_audit.proofs.Names.{◌≡◌, ℕ, ◌+◌, ◌<◌, List, ◌∷◌, length, Result, Ok, Err, refl, sym, ap, ◌∙◌, subst, IfErr, IsErrAnd, AreAsGiven, AuditorValue, IsHearing, KeepsUp, Place, place_in, place_of_command, record_of, AuditReason, AreEntriesLeft, Entry, Several, given_of, heard_levels, Start, Item, exchanged, exchanges_in, next_entry, tags_behind, Command, LinkValue, length-tags, tags-exchanged, Outcome, TagValue, AreLegalTags, outcomes_in, replies_from, tags_after, length-befallen, tags_after_events}
+use Rattle.air_audit.proofs.Names.{◌≡◌, ℕ, ◌+◌, ◌<◌, List, ◌∷◌, length, Result, Ok, Err, refl, sym, ap, ◌∙◌, subst, IfErr, IsErrAnd, AreAsGiven, AuditorValue, IsHearing, KeepsUp, Place, place_in}
+use Rattle.air_audit.proofs.Names.{place_of_command, record_of, AuditReason, AreEntriesLeft, Entry, Several, given_of, heard_levels, Start, Item, exchanged, exchanges_in, next_entry, tags_behind}
+use Rattle.air_audit.proofs.Names.{Command, LinkValue, length-tags, tags-exchanged, Outcome, TagValue, AreLegalTags, outcomes_in, replies_from, tags_after, length-befallen, tags_after_events}
 use Rattle.air_audit.specs.declared.auditor.Position.TheVariants as positions
 use Rattle.air_events.specs.Entries.{entry_at}
 use Rattle.air_events.specs.declared.Event.{Event}

@@ -1,5 +1,10 @@
 -- How a trace goes on with a line, or why it doesn't, from what is known of the auditor.
-use Rattle.air_audit.proofs.Names.{◌≡◌, ◌≢◌, ℕ, ◌+◌, ◌≤◌, Bool, List, [], ◌∷◌, ◌++◌, length, Option, Some, None, slice_get, Result, Ok, Err, codes, refl, sym, ap, ◌∙◌, subst, arith, IfErr, IsOk, AuditorValue, GoesOnOrStops, GoesOnWith, AuditorIsAt, IsHearing, KeepsUp, SendsTo, AuditorStandsAt, AuditStopsAt, TellsLine, TellsOther, position_behind, DiffersFirst, IsNoTxLine, IsOther, IsRefusedAs, IsRefusedHere, GoesOnAs, TraceStanding, begun, between, sending, telling, TellsNextTag, behind_exchange, behind_told, link_line, next_tag, record_of, rx_line, told_line, word_of_line, word_of, Stop, Word, AuditReason, heard_most, Given, heard_levels, Start, Record, Item, exchanged, exchanges_in, next_entry, tags_behind, IsGiven, LinkValue, first_field, most_rx_levels, text_of, ReportLine, ListLine, RxLine, report_line_text, TagLaws, given-of-answers, Listed, listed_by, append_cancel_right, Sent, IsSent, TagValue, line_feed}
+use Rattle.air_audit.proofs.Names.{◌≡◌, ◌≢◌, ℕ, ◌+◌, ◌≤◌, Bool, List, [], ◌∷◌, ◌++◌, length, Option, Some, None, slice_get, Result, Ok, Err, codes, refl, sym, ap, ◌∙◌, subst, arith, IfErr, IsOk}
+use Rattle.air_audit.proofs.Names.{AuditorValue, GoesOnOrStops, GoesOnWith, AuditorIsAt, IsHearing, KeepsUp, SendsTo, AuditorStandsAt, AuditStopsAt, TellsLine, TellsOther, position_behind}
+use Rattle.air_audit.proofs.Names.{DiffersFirst, IsNoTxLine, IsOther, IsRefusedAs, IsRefusedHere, GoesOnAs, TraceStanding, begun, between, sending, telling, TellsNextTag, behind_exchange, behind_told}
+use Rattle.air_audit.proofs.Names.{link_line, next_tag, record_of, rx_line, told_line, word_of_line, word_of, Stop, Word, AuditReason, heard_most, Given, heard_levels, Start, Record, Item, exchanged}
+use Rattle.air_audit.proofs.Names.{exchanges_in, next_entry, tags_behind, IsGiven, LinkValue, first_field, most_rx_levels, text_of, ReportLine, ListLine, RxLine, report_line_text, TagLaws}
+use Rattle.air_audit.proofs.Names.{given-of-answers, Listed, listed_by, append_cancel_right, Sent, IsSent, TagValue, line_feed}
 use Rattle.air_audit.specs.declared.auditor.Position.TheVariants as positions
 use Rattle.air_audit.specs.declared.trace_line_words.Word.TheVariants as words
 use Rattle.air_audit.specs.declared.verdict.AuditReason.TheVariants as reasons

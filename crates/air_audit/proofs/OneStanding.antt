@@ -1,6 +1,8 @@
 -- A line that follows leads to one standing: a tx line sends one command.
 use Rattle.std.specs.Prelude.{All}
-use Rattle.air_audit.proofs.Names.{◌≡◌, ◌+◌, ◌≤◌, ℕ, Bool, List, [], ◌∷◌, map, get_or, codes, arith, ap, refl, sym, ◌∙◌, subst, GoesOnAs, TraceStanding, begun, between, sending, listing, telling, record_of, word_of_line, word_of, AreFrameOf, Sends, Word, Start, exchanges_in, SpellsCommand, Command, IsFrame, longest_interval, FrameKind, TxFields, RxFields, All-head, All-tail, decimal, binary_told, decimal_told, binary}
+use Rattle.air_audit.proofs.Names.{◌≡◌, ◌+◌, ◌≤◌, ℕ, Bool, List, [], ◌∷◌, map, get_or, codes, arith, ap, refl, sym, ◌∙◌, subst, GoesOnAs, TraceStanding, begun, between, sending, listing, telling}
+use Rattle.air_audit.proofs.Names.{record_of, word_of_line, word_of, AreFrameOf, Sends, Word, Start, exchanges_in, SpellsCommand, Command, IsFrame, longest_interval, FrameKind, TxFields, RxFields}
+use Rattle.air_audit.proofs.Names.{All-head, All-tail, decimal, binary_told, decimal_told, binary}
 use Rattle.air_audit.specs.declared.trace_line_words.Word.TheVariants as words
 
 -- the laws of frames and of commands that this goes by

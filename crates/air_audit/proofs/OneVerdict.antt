@@ -1,5 +1,7 @@
 -- A line follows or is refused, and is refused for one first reason: so at most one verdict on a trace is right.
-use Rattle.air_audit.proofs.Names.{◌≡◌, ◌+◌, ◌≤◌, ℕ, List, ◌∷◌, length, map, codes, arith, ap, ap₂, refl, sym, ◌∙◌, trace_rules, IsAuditVerdict, IsNoTxLine, IsRefusedAs, tx_parts, rx_parts, GoesOnAs, TraceStanding, begun, between, sending, listing, telling, word_of_line, Sends, Word, AuditReason, Verdict, Yes, No, heard_levels, Start, exchanges_in, AreUnambiguous, one_fault, text_not_faulty, Command, HasTxShape, TxFields, length-map, decimal, fields_of}
+use Rattle.air_audit.proofs.Names.{◌≡◌, ◌+◌, ◌≤◌, ℕ, List, ◌∷◌, length, map, codes, arith, ap, ap₂, refl, sym, ◌∙◌, trace_rules, IsAuditVerdict, IsNoTxLine, IsRefusedAs, tx_parts, rx_parts, GoesOnAs}
+use Rattle.air_audit.proofs.Names.{TraceStanding, begun, between, sending, listing, telling, word_of_line, Sends, Word, AuditReason, Verdict, Yes, No, heard_levels, Start, exchanges_in}
+use Rattle.air_audit.proofs.Names.{AreUnambiguous, one_fault, text_not_faulty, Command, HasTxShape, TxFields, length-map, decimal, fields_of}
 use Rattle.air_audit.specs.declared.trace_line_words.Word.TheVariants as words
 use Rattle.air_audit.specs.Standing.{ended}
 use Rattle.air_audit.proofs.FirstPart.{none-fails, one-first}

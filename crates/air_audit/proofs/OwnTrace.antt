@@ -1,5 +1,11 @@
 -- The trace of a run without events is audited: its lines follow one another, and lead to the end.
-use Rattle.air_audit.proofs.Names.{◌≡◌, ◌+◌, ◌*◌, ◌^◌, ◌<◌, ◌≤◌, ℕ, false, filter, List, [], ◌∷◌, ◌++◌, length, map, slice_get, arith, ap, ap₂, refl, sym, ◌∙◌, subst, append_assoc, IsAudited, trace_rules, HasNoEventStep, Place, TraceStanding, begun, between, sending, behind_exchange, place_in, place_of_command, record_of, rx_line, word_of_line, Sends, Entry, wave_for, Start, Record, Item, befell, exchanged, operated, round_ended, exchanges_in, next_entry, next_record, tag_behind, tags_behind, tags_behind_from, HasOutcomeFrom, Lead, Whole, outcome_behind, IsLegalCommand, Command, LinkValue, IsLegalLink, Reception, whole_reply, keeps, text_of, ReportLine, MissedLine, GivenLine, TxLine, OpLine, RoundLine, SeenLine, DoneLine, Trace, AreLegalSteps, IsRecordOf, Listed, listed_by, listed_from, listing_of, reception_of_ack, GrowsByNext, exchange_lines, item_lines, last_lines, list_line, past_lines, report_of, report_text_of, run_lines, seen_lines, tag_lines, wave_lines, history, start_of, Step, map-append, filter-append, AllByRecursion, TagValue, outcome_in}
+use Rattle.air_audit.proofs.Names.{◌≡◌, ◌+◌, ◌*◌, ◌^◌, ◌<◌, ◌≤◌, ℕ, false, filter, List, [], ◌∷◌, ◌++◌, length, map, slice_get, arith, ap, ap₂, refl, sym, ◌∙◌, subst, append_assoc, IsAudited}
+use Rattle.air_audit.proofs.Names.{trace_rules, HasNoEventStep, Place, TraceStanding, begun, between, sending, behind_exchange, place_in, place_of_command, record_of, rx_line, word_of_line, Sends}
+use Rattle.air_audit.proofs.Names.{Entry, wave_for, Start, Record, Item, befell, exchanged, operated, round_ended, exchanges_in, next_entry, next_record, tag_behind, tags_behind, tags_behind_from}
+use Rattle.air_audit.proofs.Names.{HasOutcomeFrom, Lead, Whole, outcome_behind, IsLegalCommand, Command, LinkValue, IsLegalLink, Reception, whole_reply, keeps, text_of, ReportLine, MissedLine}
+use Rattle.air_audit.proofs.Names.{GivenLine, TxLine, OpLine, RoundLine, SeenLine, DoneLine, Trace, AreLegalSteps, IsRecordOf, Listed, listed_by, listed_from, listing_of, reception_of_ack}
+use Rattle.air_audit.proofs.Names.{GrowsByNext, exchange_lines, item_lines, last_lines, list_line, past_lines, report_of, report_text_of, run_lines, seen_lines, tag_lines, wave_lines, history}
+use Rattle.air_audit.proofs.Names.{start_of, Step, map-append, filter-append, AllByRecursion, TagValue, outcome_in}
 use Rattle.command_grammar.specs.declared.commands.Command.TheVariants as commands
 use Rattle.reply_grammar.specs.declared.expected.Reply.TheVariants as replies
 use Rattle.air_audit.specs.declared.trace_line_words.Word.TheVariants as words
@@ -288,7 +294,8 @@ own-audited written scenario run =
     let start : Start = start_of scenario in
     let are = own-behind scenario run [] (history scenario) refl run.grows in (
       judged start (history scenario),
-      subst (λ (lines : List (List ℕ)). HasOutcomeFrom (trace_rules start) begun 1 lines (Whole (ended (judged start (history scenario))))) (sym (lines-of-trace scenario.link (run_lines start scenario.steps)))
-          (outcome_behind (trace_rules start) begun (ended (judged start (history scenario))) 1 _ (map text_of (report_of Trace start scenario.steps)) ([] ∷ []) (Whole (ended (judged start (history scenario))))
-          (λ none. cc) refl (run-leads written start scenario.steps run.limits.link are) (refl, tt, refl)),
+      subst (λ (lines : List (List ℕ)). HasOutcomeFrom (trace_rules start) begun 1 lines (Whole (ended (judged start (history scenario)))))
+          (sym (lines-of-trace scenario.link (run_lines start scenario.steps)))
+          (outcome_behind (trace_rules start) begun (ended (judged start (history scenario))) 1 _ (map text_of (report_of Trace start scenario.steps)) ([] ∷ [])
+          (Whole (ended (judged start (history scenario)))) (λ none. cc) refl (run-leads written start scenario.steps run.limits.link are) (refl, tt, refl)),
     )

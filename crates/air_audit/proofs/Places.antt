@@ -1,6 +1,10 @@
 -- The round and the slot of a run are the counts that an auditor keeps of its commands: at each ACK they are those of its record.
 use Rattle.std.specs.Prelude.{if◌then◌else◌}
-use Rattle.air_audit.proofs.Names.{◌≡◌, ◌≢◌, ◌+◌, ◌^◌, ◌<◌, ◌≤◌, ◌==◌, ◌&&◌, ℕ, Bool, true, false, zero, suc, List, [], ◌∷◌, length, Option, Some, None, slice_get, arith, ap, refl, sym, ◌∙◌, subst, ne_eqb, eq-eqb, OpResult, IsToldByLines, HasNoEventStep, Place, next_slot, place_in, place_of_command, Start, Record, Item, befell, exchanged, operated, ended, next_record, rounds_in, Command, LinkValue, RoundEnd, IsSelect, IsLegalStep, AreLegalSteps, begins_slot, slot_records, GrowsByNext, dialogue_left, dialogue_behind_exchange, dialogue_behind_record, dialogue_behind_result, item_by_rule, item_in_round, item_of_slots, item_of_step, outcomes_of_round, reception_of_slot, rn_of, rn_received, finished_in, Step, length-map}
+use Rattle.air_audit.proofs.Names.{◌≡◌, ◌≢◌, ◌+◌, ◌^◌, ◌<◌, ◌≤◌, ◌==◌, ◌&&◌, ℕ, Bool, true, false, zero, suc, List, [], ◌∷◌, length, Option, Some, None, slice_get, arith, ap, refl, sym, ◌∙◌, subst}
+use Rattle.air_audit.proofs.Names.{ne_eqb, eq-eqb, OpResult, IsToldByLines, HasNoEventStep, Place, next_slot, place_in, place_of_command, Start, Record, Item, befell, exchanged, operated, ended}
+use Rattle.air_audit.proofs.Names.{next_record, rounds_in, Command, LinkValue, RoundEnd, IsSelect, IsLegalStep, AreLegalSteps, begins_slot, slot_records, GrowsByNext, dialogue_left}
+use Rattle.air_audit.proofs.Names.{dialogue_behind_exchange, dialogue_behind_record, dialogue_behind_result, item_by_rule, item_in_round, item_of_slots, item_of_step, outcomes_of_round}
+use Rattle.air_audit.proofs.Names.{reception_of_slot, rn_of, rn_received, finished_in, Step, length-map}
 use Rattle.command_grammar.specs.declared.commands.Command.TheVariants as commands
 use Rattle.access_ops.specs.declared.OpList.{OpList}
 use Rattle.access_ops.proofs.DialogueLaws.{AwaitsReplies}

@@ -1,6 +1,7 @@
 -- The lines of exchanges, as they were read.
 use Rattle.std.proofs.lemmas.List.Splits.{join_with_byte-slice_split}
-use Rattle.air_audit.proofs.Names.{◌≡◌, ◌≢◌, ℕ, Bool, inl, inr, List, [], ◌∷◌, length, refl, sym, ap, ◌∙◌, subst, codes, DiffersFirst, IsNoTxLine, audit_reason_of, AreFrameOf, Command, IsNoRx, IsNoTx, RxFields, TxFields, first_field, text_of, RxLine, decimal, binary, line_with, space}
+use Rattle.air_audit.proofs.Names.{◌≡◌, ◌≢◌, ℕ, Bool, inl, inr, List, [], ◌∷◌, length, refl, sym, ap, ◌∙◌, subst, codes, DiffersFirst, IsNoTxLine, audit_reason_of, AreFrameOf, Command, IsNoRx, IsNoTx}
+use Rattle.air_audit.proofs.Names.{RxFields, TxFields, first_field, text_of, RxLine, decimal, binary, line_with, space}
 use Rattle.air_audit.specs.declared.verdict.AuditReason.TheVariants as reasons
 use Rattle.text_fields.specs.declared.fields_fault.FieldsFault.{FieldsFault}
 use Rattle.text_fields.specs.declared.fields_fault.FieldsFault.TheVariants.{Word, Shape, Number}

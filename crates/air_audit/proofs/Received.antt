@@ -1,5 +1,8 @@
 -- What an exchange lists, by what is received of its levels.
-use Rattle.air_audit.proofs.Names.{◌≡◌, ◌≢◌, ℕ, Bool, List, [], ◌∷◌, Option, Some, None, Ok, slice_get, refl, sym, ap, ◌∙◌, subst, AuditorValue, GivesStream, IsHearing, Lists, place_in, place_of_command, record_of, Several, stream_reception, Given, IsOfStreamLength, whole_or_silence, first_broken, default_given, given_of, got_of, heard_levels, silence, Start, Record, Item, next_entry, next_record, tags_behind, IsGivenFor, reception_of, Command, table_of, LinkValue, Reception, no_stream, whole_reply, no_such_reply, reception_from, Received, IsReceived, TagLaws, given-in-expected, made-read, listed_by, listed_from, reception_of_ack, expectation_of, Replied}
+use Rattle.air_audit.proofs.Names.{◌≡◌, ◌≢◌, ℕ, Bool, List, [], ◌∷◌, Option, Some, None, Ok, slice_get, refl, sym, ap, ◌∙◌, subst, AuditorValue, GivesStream, IsHearing, Lists, place_in}
+use Rattle.air_audit.proofs.Names.{place_of_command, record_of, Several, stream_reception, Given, IsOfStreamLength, whole_or_silence, first_broken, default_given, given_of, got_of, heard_levels}
+use Rattle.air_audit.proofs.Names.{silence, Start, Record, Item, next_entry, next_record, tags_behind, IsGivenFor, reception_of, Command, table_of, LinkValue, Reception, no_stream, whole_reply}
+use Rattle.air_audit.proofs.Names.{no_such_reply, reception_from, Received, IsReceived, TagLaws, given-in-expected, made-read, listed_by, listed_from, reception_of_ack, expectation_of, Replied}
 use Rattle.air_events.specs.declared.Several.TheVariants as severals
 use Rattle.command_grammar.specs.declared.commands.Command.TheVariants as commands
 use Rattle.reply_grammar.specs.declared.expected.Expect.TheVariants as expects
@@ -76,6 +79,7 @@ lists-received laws start past sent auditor received pair hears brings =
     subst (λ (g : Given). IsGivenFor expects.Epc g) (sym (ap (λ (r : Record). r.given) is.made))
     (given-in-expected laws start sent.command expects.Epc (next_entry start past) (tags_behind start past) (ap (λ (c : Command). expectation_of c) command) is.legal) in
     let reception : reception_of expects.Epc sent.given ≡ reception_from received =
-    stream_reception start.link expects.Epc sent.given received expected (made-read start sent past (made-again start past sent is.made)) (some-stream start.link sent.given (λ none. hears.some (is.levels ∙ none))) by_record in
+    stream_reception start.link expects.Epc sent.given received expected (made-read start sent past (made-again start past sent is.made))
+    (some-stream start.link sent.given (λ none. hears.some (is.levels ∙ none))) by_record in
     subst (λ (p : Option (ℕ × List ℕ)). Lists p sent) (sym brings)
     (lists-from sent (reception_from received) (ap (λ (c : Command). listed_from sent (reception_of_ack sent c)) command ∙ ap (λ (r : Reception). listed_from sent r) reception))

@@ -1,5 +1,9 @@
 -- The list lines of an audited trace are what is received of the levels before them.
-use Rattle.air_audit.proofs.Names.{◌≡◌, ℕ, ◌+◌, inl, inr, List, [], ◌∷◌, ◌++◌, Option, Some, None, codes, refl, sym, ap, ◌∙◌, subst, length, append_assoc, IsAudited, trace_rules, IsReceivedBefore, ListsWhatIsReceived, GoesOnAs, TraceStanding, begun, between, sending, listing, telling, TraceGoesOn, behind_exchange, behind_told, link_line, next_tag, record_of, rx_line, word_of_line, word_of, Sends, Word, whole_is_heard, Given, heard_levels, Start, Record, Item, exchanged, exchanges_in, next_entry, tags_behind, IsGivenFor, reception_of, HasOutcomeFrom, Whole, Command, table_of, LinkValue, Reception, whole_reply, IsReceived, first_field, text_of, TagLaws, given-in-expected, made-read, tags-exchanged, Listed, listed_by, listed_from, reception_of_ack, expectation_of, list_line, append-nil, TagValue, AreLegalTags, lines_of}
+use Rattle.air_audit.proofs.Names.{◌≡◌, ℕ, ◌+◌, inl, inr, List, [], ◌∷◌, ◌++◌, Option, Some, None, codes, refl, sym, ap, ◌∙◌, subst, length, append_assoc, IsAudited, trace_rules, IsReceivedBefore}
+use Rattle.air_audit.proofs.Names.{ListsWhatIsReceived, GoesOnAs, TraceStanding, begun, between, sending, listing, telling, TraceGoesOn, behind_exchange, behind_told, link_line, next_tag, record_of}
+use Rattle.air_audit.proofs.Names.{rx_line, word_of_line, word_of, Sends, Word, whole_is_heard, Given, heard_levels, Start, Record, Item, exchanged, exchanges_in, next_entry, tags_behind, IsGivenFor}
+use Rattle.air_audit.proofs.Names.{reception_of, HasOutcomeFrom, Whole, Command, table_of, LinkValue, Reception, whole_reply, IsReceived, first_field, text_of, TagLaws, given-in-expected, made-read}
+use Rattle.air_audit.proofs.Names.{tags-exchanged, Listed, listed_by, listed_from, reception_of_ack, expectation_of, list_line, append-nil, TagValue, AreLegalTags, lines_of}
 use Rattle.command_grammar.specs.declared.commands.Command.TheVariants as commands
 use Rattle.reply_grammar.specs.declared.expected.Expect.TheVariants as expects
 use Rattle.reply_grammar.specs.declared.expected.Reply.TheVariants as replies
@@ -160,7 +164,8 @@ lists-received laws start front from number (first ∷ next ∷ lines) to (other
     let longer : (front ++ first ∷ []) ++ before ≡ front ++ other ∷ before =
     append_assoc front (first ∷ []) before ∙ ap (λ (l : List ℕ). front ++ l ∷ before) one in
     subst (λ (f : List (List ℕ)). IsReceivedBefore start.link f line) longer
-    (lists-received laws start (front ++ first ∷ []) more.0 (number + 1) (next ∷ lines) to before line behind (known-next laws start front from (word_of_line first) first more.0 known more.1) more.2 rest word)
+    (lists-received laws start (front ++ first ∷ []) more.0 (number + 1) (next ∷ lines) to before line behind
+    (known-next laws start front from (word_of_line first) first more.0 known more.1) more.2 rest word)
 
 -- ... and each of an audited trace
 pub audited-lists : Laws → (start : Start) (bytes : List ℕ) → AreLegalTags start.tags → IsAudited start bytes → ListsWhatIsReceived start.link bytes

@@ -1,5 +1,6 @@
 -- The rx line of a record is read back, so that a line that differs from it in some part is another.
-use Rattle.air_audit.proofs.Names.{◌≡◌, ◌≢◌, ◌^◌, ◌<◌, ◌≤◌, ℕ, Bool, List, length, codes, arith, ap, refl, subst, DiffersFirst, rx_parts, AuditReason, text_of, most_rx_levels, RxFields, RxLine, report_fields, All-from_recursion, decimal, IsFieldText-binary, fields_come_back, Lacks, fields_of, space}
+use Rattle.air_audit.proofs.Names.{◌≡◌, ◌≢◌, ◌^◌, ◌<◌, ◌≤◌, ℕ, Bool, List, length, codes, arith, ap, refl, subst, DiffersFirst, rx_parts, AuditReason, text_of, most_rx_levels, RxFields, RxLine}
+use Rattle.air_audit.proofs.Names.{report_fields, All-from_recursion, decimal, IsFieldText-binary, fields_come_back, Lacks, fields_of, space}
 use Rattle.air_audit.proofs.FirstPart.{none-fails}
 use Rattle.air_audit.proofs.SentLines.{number-is}
 use Rattle.air_audit.proofs.Spelled.{decimal-lacks}

@@ -1,5 +1,6 @@
 -- What is read from the intervals of a frame is what they are.
-use Rattle.air_audit.proofs.Names.{◌≡◌, ℕ, Bool, List, Result, Ok, Err, refl, sym, subst, IsNoTxLine, IsNoFrame, ReadsCommand, ReadsFrame, AreFrameOf, FrameBeginsWith, AuditReason, lead_of, SpellsCommand, Command, IsFrame, FrameKind, TxFields, decimal}
+use Rattle.air_audit.proofs.Names.{◌≡◌, ℕ, Bool, List, Result, Ok, Err, refl, sym, subst, IsNoTxLine, IsNoFrame, ReadsCommand, ReadsFrame, AreFrameOf, FrameBeginsWith, AuditReason, lead_of}
+use Rattle.air_audit.proofs.Names.{SpellsCommand, Command, IsFrame, FrameKind, TxFields, decimal}
 use Rattle.air_audit.specs.declared.verdict.AuditReason.TheVariants as reasons
 use Rattle.command_grammar.specs.declared.refusal.CommandRefusal.{CommandRefusal}
 use Rattle.pie_line.specs.declared.frame.PieRefusal.{PieRefusal}

@@ -1,6 +1,8 @@
 -- The tx line of a command is read back: the frame over a link sends it.
 use Rattle.std.specs.Prelude.{All}
-use Rattle.air_audit.proofs.Names.{◌≡◌, ◌≢◌, ◌^◌, ◌<◌, ◌≤◌, ◌⊎◌, ℕ, Bool, zero, suc, List, [], ◌∷◌, inl, inr, length, map, get_or, codes, arith, ap, refl, FrameBeginsWith, Sends, lead_of, wave_for, IsLegalCommand, SpellsCommand, spelling_of, Command, LinkValue, IsLegalLink, IsFrame, frame_kind_of, longest_interval, wave_of, text_of, IsDecimal, TxLine, report_fields, decimal_digit, decimal_nonempty, first_decimal, All-from_recursion, decimal, fields_come_back, Lacks, fields_of, space}
+use Rattle.air_audit.proofs.Names.{◌≡◌, ◌≢◌, ◌^◌, ◌<◌, ◌≤◌, ◌⊎◌, ℕ, Bool, zero, suc, List, [], ◌∷◌, inl, inr, length, map, get_or, codes, arith, ap, refl, FrameBeginsWith, Sends, lead_of, wave_for}
+use Rattle.air_audit.proofs.Names.{IsLegalCommand, SpellsCommand, spelling_of, Command, LinkValue, IsLegalLink, IsFrame, frame_kind_of, longest_interval, wave_of, text_of, IsDecimal, TxLine}
+use Rattle.air_audit.proofs.Names.{report_fields, decimal_digit, decimal_nonempty, first_decimal, All-from_recursion, decimal, fields_come_back, Lacks, fields_of, space}
 use Rattle.pie_line.specs.declared.frame.Lead.{Lead}
 use Rattle.pie_line.specs.declared.frame.Lead.TheVariants.{Preamble, FrameSync}
 use Rattle.pie_text.proofs.WaveLength.{length-wave}

@@ -1,5 +1,11 @@
 -- Each trace has a verdict: each line goes on from where a trace stands, or is refused there for some reason.
-use Rattle.air_audit.proofs.Names.{◌≡◌, ◌≢◌, ◌⊎◌, ◌+◌, ◌<◌, ◌≤◌, ◌^◌, ℕ, Bool, true, false, inl, inr, List, [], ◌∷◌, All, length, map, get_or, codes, arith, refl, sym, ap, ◌∙◌, subst, Decides, TraceMayEnd, trace_rules, IsAuditVerdict, DiffersFirst, IsOther, IsRefusedAs, GoesOnAs, IsTheLine, TraceStanding, begun, between, sending, listing, telling, behind_exchange, behind_told, link_line, next_tag, record_of, rx_line, told_line, word_of_line, AreFrameOf, FrameBeginsWith, Word, AuditReason, Verdict, Yes, No, heard_levels, lead_of, Start, Record, Item, exchanges_in, Faulty, HasOutcome, TextOutcome, Whole, some_outcome, SpellsCommand, Spellings, Command, IsFrame, longest_interval, FrameKind, IsDecimal, HasTxShape, RxFields, TxFields, most_tx_intervals, most_rx_levels, text_of, ReportLine, RxLine, list_line, cases_eq, cases_lt, Decides-eqb, not_from_Decides, decimal_is_IsNumeral, length-map, All-nil, All-cons, All-head, All-tail, slice_eq-Decides, booleans_Decides, decimal, binary_told, binary, bits_of_digits, hyphen, fields_of, lines_of}
+use Rattle.air_audit.proofs.Names.{◌≡◌, ◌≢◌, ◌⊎◌, ◌+◌, ◌<◌, ◌≤◌, ◌^◌, ℕ, Bool, true, false, inl, inr, List, [], ◌∷◌, All, length, map, get_or, codes, arith, refl, sym, ap, ◌∙◌, subst, Decides}
+use Rattle.air_audit.proofs.Names.{TraceMayEnd, trace_rules, IsAuditVerdict, DiffersFirst, IsOther, IsRefusedAs, GoesOnAs, IsTheLine, TraceStanding, begun, between, sending, listing, telling}
+use Rattle.air_audit.proofs.Names.{behind_exchange, behind_told, link_line, next_tag, record_of, rx_line, told_line, word_of_line, AreFrameOf, FrameBeginsWith, Word, AuditReason, Verdict, Yes, No}
+use Rattle.air_audit.proofs.Names.{heard_levels, lead_of, Start, Record, Item, exchanges_in, Faulty, HasOutcome, TextOutcome, Whole, some_outcome, SpellsCommand, Spellings, Command, IsFrame}
+use Rattle.air_audit.proofs.Names.{longest_interval, FrameKind, IsDecimal, HasTxShape, RxFields, TxFields, most_tx_intervals, most_rx_levels, text_of, ReportLine, RxLine, list_line, cases_eq}
+use Rattle.air_audit.proofs.Names.{cases_lt, Decides-eqb, not_from_Decides, decimal_is_IsNumeral, length-map, All-nil, All-cons, All-head, All-tail, slice_eq-Decides, booleans_Decides, decimal}
+use Rattle.air_audit.proofs.Names.{binary_told, binary, bits_of_digits, hyphen, fields_of, lines_of}
 use Rattle.air_audit.specs.declared.trace_line_words.Word.TheVariants as words
 use Rattle.air_audit.specs.declared.verdict.AuditReason.TheVariants as reasons
 use Rattle.air_audit.specs.Standing.{ended}
@@ -299,7 +305,8 @@ end-or : (standing : TraceStanding) → OrNot (TraceMayEnd standing)
 end-or (ended past) = inl tt
 end-or standing = inr (λ may. may)
 
-verdict-of : (start : Start) (bytes : List ℕ) (outcome : TextOutcome TraceStanding AuditReason) → HasOutcome (trace_rules start) bytes outcome → (verdict : Verdict) × IsAuditVerdict start bytes verdict
+verdict-of : (start : Start) (bytes : List ℕ) (outcome : TextOutcome TraceStanding AuditReason) → HasOutcome (trace_rules start) bytes outcome
+    → (verdict : Verdict) × IsAuditVerdict start bytes verdict
 verdict-of start bytes (Faulty number reason) is = (No number reason, is)
 verdict-of start bytes (Whole (ended past)) is = (Yes, (past, is))
 verdict-of start bytes (Whole standing) is = absurd (whole_ends (trace_rules start) begun standing 1 (lines_of bytes) is).may

@@ -1,7 +1,11 @@
 -- The lines that a run tells have no line feed in them, so that the lines of its trace are these.
 use Rattle.std.specs.Prelude.{All}
 use Rattle.std.specs.Fmt.{digits}
-use Rattle.air_audit.proofs.Names.{◌≡◌, ◌≢◌, ◌+◌, ◌<◌, ◌≤◌, ◌/◌, ◌%◌, ◌==◌, ℕ, Bool, true, false, cond, zero, suc, List, [], ◌∷◌, ◌++◌, map, filter, codes, arith, ap, refl, ◌∙◌, lt-ltb, OpResult, LinkValue, RoundEnd, keeps, line_text_of, text_of, ReportLine, BlfLine, TxLine, RxLine, ListLine, OpLine, RoundLine, SeenLine, TagLine, DoneLine, end_word, state_word, flags_word, result_fields, report_fields, text_by, Trace, All-append, All-cons, All-from_recursion, All-head, All-nil, All-tail, All-weaker, filter_passes, decimal, digits_onto, digit_glyph, AllByRecursion, IsFieldText-binary, IsFieldText-hex_byte, IsFieldText-hex_word, IsFieldText-hex_words, line_lacks, lines_come_back, binary_digit, Lacks, line_feed, lines_of, text_with}
+use Rattle.air_audit.proofs.Names.{◌≡◌, ◌≢◌, ◌+◌, ◌<◌, ◌≤◌, ◌/◌, ◌%◌, ◌==◌, ℕ, Bool, true, false, cond, zero, suc, List, [], ◌∷◌, ◌++◌, map, filter, codes, arith, ap, refl, ◌∙◌, lt-ltb, OpResult}
+use Rattle.air_audit.proofs.Names.{LinkValue, RoundEnd, keeps, line_text_of, text_of, ReportLine, BlfLine, TxLine, RxLine, ListLine, OpLine, RoundLine, SeenLine, TagLine, DoneLine, end_word}
+use Rattle.air_audit.proofs.Names.{state_word, flags_word, result_fields, report_fields, text_by, Trace, All-append, All-cons, All-from_recursion, All-head, All-nil, All-tail, All-weaker}
+use Rattle.air_audit.proofs.Names.{filter_passes, decimal, digits_onto, digit_glyph, AllByRecursion, IsFieldText-binary, IsFieldText-hex_byte, IsFieldText-hex_word, IsFieldText-hex_words, line_lacks}
+use Rattle.air_audit.proofs.Names.{lines_come_back, binary_digit, Lacks, line_feed, lines_of, text_with}
 use Rattle.access_ops.specs.declared.op_next.OpResult.TheVariants as results
 use Rattle.command_fields.specs.declared.choices.Side.{Side}
 use Rattle.command_fields.specs.declared.choices.Side.TheVariants.{A, B}
@@ -154,7 +158,8 @@ text-lines (line ∷ lines) = ap (λ (rest : List ℕ). (text_of line ++ line_fe
 texts-lack : (lines : List ReportLine) → All IsOfTrace lines → All (Lacks line_feed) (map text_of lines)
 texts-lack [] are = All-nil (Lacks line_feed)
 texts-lack (line ∷ lines) are =
-    All-cons (Lacks line_feed) (text_of line) (map text_of lines) (line_lacks (report_fields line) (All-from_recursion (Lacks line_feed) (report_fields line) (fields-lack line (All-head IsOfTrace line lines are))))
+    All-cons (Lacks line_feed) (text_of line) (map text_of lines)
+    (line_lacks (report_fields line) (All-from_recursion (Lacks line_feed) (report_fields line) (fields-lack line (All-head IsOfTrace line lines are))))
     (texts-lack lines (All-tail IsOfTrace line lines are))
 
 -- the lines of a trace are those of what was told that it has

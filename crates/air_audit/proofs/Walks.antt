@@ -1,5 +1,7 @@
 -- Over the lines of a trace, up to the first that is refused.
-use Rattle.air_audit.proofs.Names.{◌≡◌, ◌≢◌, ℕ, ◌+◌, ◌≤◌, List, [], ◌∷◌, length, refl, sym, ap, ◌∙◌, subst, arith, IsAudited, TraceMayEnd, trace_rules, AreAsGiven, AuditorValue, GoesOnWith, AuditorIsBegun, IsEarly, AuditorStandsAt, IsFirstRefusal, IsRefusedHere, TraceStanding, begun, AuditReason, AreEntriesLeft, Entry, Start, Item, tags_behind_from, IsText, HasReadTo, NextLine, all_read, fault_read, none_read, one_read, unended_read, TagValue, AreLegalTags, lines_of}
+use Rattle.air_audit.proofs.Names.{◌≡◌, ◌≢◌, ℕ, ◌+◌, ◌≤◌, List, [], ◌∷◌, length, refl, sym, ap, ◌∙◌, subst, arith, IsAudited, TraceMayEnd, trace_rules, AreAsGiven, AuditorValue, GoesOnWith}
+use Rattle.air_audit.proofs.Names.{AuditorIsBegun, IsEarly, AuditorStandsAt, IsFirstRefusal, IsRefusedHere, TraceStanding, begun, AuditReason, AreEntriesLeft, Entry, Start, Item, tags_behind_from}
+use Rattle.air_audit.proofs.Names.{IsText, HasReadTo, NextLine, all_read, fault_read, none_read, one_read, unended_read, TagValue, AreLegalTags, lines_of}
 use Rattle.air_audit.specs.declared.auditor.Position.TheVariants as positions
 use Rattle.air_audit.specs.declared.verdict.AuditReason.TheVariants as reasons
 use Rattle.air_audit.specs.Standing.{ended}

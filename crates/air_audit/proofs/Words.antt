@@ -1,5 +1,8 @@
 -- The words that lines begin with: each line of a report begins with its own.
-use Rattle.air_audit.proofs.Names.{◌≡◌, ◌&&◌, ◌||◌, ltb, if◌then◌else◌, ℕ, Bool, true, false, List, [], ◌∷◌, Option, Some, None, codes, get_or, ap, refl, sym, subst, ◌∙◌, ltb-true, OpResult, GoesOnAs, TellsNextTag, TraceGoesOn, TraceStanding, link_line, next_tag, rx_line, told_line, word_of_line, word_of, Word, Start, Record, Item, LinkValue, RoundEnd, text_of, first_field, ReportLine, OpLine, RoundLine, SeenLine, TagLine, DoneLine, report_fields, and_parts, bytes_eq-Decides, bytes_eq, TagValue, IsFieldText-cons, IsFieldText-one, pieces_between-cut, whole_piece, IsFieldText, line_with, space}
+use Rattle.air_audit.proofs.Names.{◌≡◌, ◌&&◌, ◌||◌, ltb, if◌then◌else◌, ℕ, Bool, true, false, List, [], ◌∷◌, Option, Some, None, codes, get_or, ap, refl, sym, subst, ◌∙◌, ltb-true, OpResult, GoesOnAs}
+use Rattle.air_audit.proofs.Names.{TellsNextTag, TraceGoesOn, TraceStanding, link_line, next_tag, rx_line, told_line, word_of_line, word_of, Word, Start, Record, Item, LinkValue, RoundEnd, text_of}
+use Rattle.air_audit.proofs.Names.{first_field, ReportLine, OpLine, RoundLine, SeenLine, TagLine, DoneLine, report_fields, and_parts, bytes_eq-Decides, bytes_eq, TagValue, IsFieldText-cons}
+use Rattle.air_audit.proofs.Names.{IsFieldText-one, pieces_between-cut, whole_piece, IsFieldText, line_with, space}
 use Rattle.air_audit.specs.declared.trace_line_words.Word.TheVariants as words
 
 -- all of the bytes stand above the space
@@ -80,6 +83,6 @@ rx-only word is = (bytes_eq-Decides word (codes "rx")).0 ((word-read word).1 is)
 pub goes-as : (start : Start) (from : TraceStanding) (line : List ℕ) (to : TraceStanding) (word : Word) → word_of_line line ≡ word → GoesOnAs start from word line to → TraceGoesOn start from line to
 goes-as start from line to word is goes = subst (λ (w : Word). GoesOnAs start from w line to) (sym is) goes
 
-pub told-goes : (start : Start) (past : List Item) (told : ℕ) (from : TraceStanding) (line : List ℕ) (to : TraceStanding) → TellsNextTag start past told line to → GoesOnAs start from words.OfTags line to
-    → TraceGoesOn start from line to
+pub told-goes : (start : Start) (past : List Item) (told : ℕ) (from : TraceStanding) (line : List ℕ) (to : TraceStanding) → TellsNextTag start past told line to
+    → GoesOnAs start from words.OfTags line to → TraceGoesOn start from line to
 told-goes start past told from line to tells goes = goes-as start from line to words.OfTags (ap word_of_line tells.text ∙ told-word told (next_tag start past told)) goes

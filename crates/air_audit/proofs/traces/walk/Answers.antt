@@ -1,4 +1,5 @@
-use Rattle.air_audit.proofs.Names.{◌≡◌, ◌≢◌, ◌^◌, ◌==◌, ℕ, true, false, List, [], ◌∷◌, ◌++◌, length, arith, ap, refl, sym, subst, true≢false, eqb-true, length-append, AuditStopsAt, IsRefusedHere, Stop, line_feed}
+use Rattle.air_audit.proofs.Names.{◌≡◌, ◌≢◌, ◌^◌, ◌==◌, ℕ, true, false, List, [], ◌∷◌, ◌++◌, length, arith, ap, refl, sym, subst, true≢false, eqb-true, length-append, AuditStopsAt, IsRefusedHere}
+use Rattle.air_audit.proofs.Names.{Stop, line_feed}
 use Rattle.air_audit.specs.declared.auditor.Position.TheVariants as positions
 use Rattle.air_audit.proofs.Walks.{audited, early-weaker, refused-end, refused-line, walked-more, walked-none}
 use Rattle.air_audit.proofs.traces.walk.Goals.{else-has_ended-via-then-has_ended+else-is_empty, else-has_ended-via-else-has_ended}

@@ -10,7 +10,8 @@ returns-then-not-is_text-clause-follows g c = λ start keeps.
     c.in_ok-push_blf_line.ensures ∙ ap (λ (l : List ℕ). l ++ report_line_text (BlfLine c.blf-numerator.result.0 c.blf-numerator.result.1)) c.clear.ensures.bytes
     ∙ ap (λ (p : ℕ × ℕ). report_line_text (BlfLine p.0 p.1)) c.blf-numerator.ensures.value in
     let value = c.as_str.ensures.value in
-    begins-not start c.args.line.now c.link.result.now link (other-text c.args.line.now c.as_str.result.now (BlfLine (blf_of c.link.result.now).0 (blf_of c.link.result.now).1) (value ∙ written) (c.if-not-is_text.ensures.no refl))
+    begins-not start c.args.line.now c.link.result.now link
+    (other-text c.args.line.now c.as_str.result.now (BlfLine (blf_of c.link.result.now).0 (blf_of c.link.result.now).1) (value ∙ written) (c.if-not-is_text.ensures.no refl))
 
 pub returns-clause-follows : goal.returns-clause-follows
 returns-clause-follows g c = λ start keeps.

@@ -1,5 +1,7 @@
 use Rattle.std.specs.List.{All}
-use Rattle.air_audit.proofs.Names.{◌≡◌, ◌+◌, List, Ok, arith, length, refl, ap, sym, ◌∙◌, subst, AuditorValue, IsShortAnswer, IsNoTxLine, Place, Sends, AreEntriesLeft, Several, given_of, heard_levels, exchanges_in, Command, LinkValue, length-map, TagValue, Replied, outcomes_in, replies_from, length-befallen, one_exchange, AnswerValue, AnswersValue, answer_of, answers_of, hearing_from}
+use Rattle.air_audit.proofs.Names.{◌≡◌, ◌+◌, List, Ok, arith, length, refl, ap, sym, ◌∙◌, subst, AuditorValue, IsShortAnswer, IsNoTxLine, Place, Sends, AreEntriesLeft, Several, given_of, heard_levels}
+use Rattle.air_audit.proofs.Names.{exchanges_in, Command, LinkValue, length-map, TagValue, Replied, outcomes_in, replies_from, length-befallen, one_exchange, AnswerValue, AnswersValue, answer_of}
+use Rattle.air_audit.proofs.Names.{answers_of, hearing_from}
 use Rattle.air_audit.proofs.Exchanges.{Parts, parts-of, events-there, handed-on, hearing, left-before, missed-there, next-known, next-number, same-next}
 use Rattle.air_audit.proofs.HeardAnswers.{short-answers}
 use Rattle.air_audit.proofs.auditor.Auditor.send.Goals as goal
