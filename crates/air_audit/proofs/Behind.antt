@@ -1,6 +1,6 @@
 -- A text is cut behind its first line `end`, line by line.
 use Rattle.air_audit.proofs.Names.{◌≡◌, ℕ, ◌+◌, ◌-◌, ◌≤◌, Bool, true, false, List, [], ◌∷◌, ◌++◌, length, if◌then◌else◌, codes, ap, arith, length-append, bytes_eq, some_line, line_feed, lines_of}
-use Rattle.air_audit.specs.TraceBehind.{count_to_end}
+use Rattle.air_audit.specs.ScenarioAndTrace.{count_to_end}
 
 -- the lines before the rest are of the scenario, and none is `end`
 pub record CutSoFar (input rest : List ℕ) : Type 0 where

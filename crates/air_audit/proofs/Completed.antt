@@ -5,7 +5,7 @@ use Rattle.air_audit.proofs.Names.{IsFirstRefusal, IsFirstThatBeginsNone, TraceS
 use Rattle.air_audit.proofs.Names.{next_tag, TellsNextTag, TraceGoesOn, AuditReason, Start, Item, exchanged, tags_behind, Faulty, HasOutcomeFrom, Lead, text_of, TagLine, DoneLine, Listed, listed_by}
 use Rattle.air_audit.proofs.Names.{list_line, tag_lines, TagValue, lines_of}
 use Rattle.air_audit.specs.declared.trace_line_words.Word.TheVariants as words
-use Rattle.air_audit.specs.Standing.{ended}
+use Rattle.air_audit.specs.TraceOrder.{ended}
 use Rattle.air_audit.proofs.OneStanding.{Laws}
 use Rattle.air_audit.proofs.OneVerdict.{unambiguous}
 use Rattle.air_audit.proofs.Words.{goes-as, rx-is-rx, told-goes}

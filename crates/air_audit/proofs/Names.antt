@@ -1,16 +1,16 @@
 -- The names of definitions and lemmas of crates below, and of this one, that the proofs of this crate cite.
 pub use Rattle.access_ops.specs.declared.op_next.OpResult.{OpResult}
 pub use Rattle.air_audit.specs.AuditedTrace.{IsAudited, TraceMayEnd, trace_rules}
-pub use Rattle.air_audit.specs.Auditing.{AreAsGiven, AuditStopsAt, AuditorIsAt, AuditorIsBegun, AuditorStandsAt, AuditorValue, GivesStream, GoesOnOrStops, GoesOnWith, IsEarly, IsHearing, KeepsUp}
-pub use Rattle.air_audit.specs.Auditing.{Lists, SendsTo, TellsLine, TellsOther, position_behind}
+pub use Rattle.air_audit.specs.AuditorStanding.{AreAsGiven, AuditStopsAt, AuditorIsAt, AuditorIsBegun, AuditorStandsAt, AuditorValue, GivesStream, GoesOnOrStops, GoesOnWith, IsEarly, IsHearing, KeepsUp}
+pub use Rattle.air_audit.specs.AuditorStanding.{Lists, SendsTo, TellsLine, TellsOther, position_behind}
 pub use Rattle.air_audit.specs.FirstRefusal.{BeginTrace, IsAuditVerdict, IsFirstRefusal, IsFirstThatBeginsNone}
 pub use Rattle.air_audit.specs.HeardLevels.{IsShortAnswer}
 pub use Rattle.air_audit.specs.LineRefusals.{DiffersFirst, FirstFails, IsNoTxLine, IsOther, IsRefusedAs, IsRefusedHere, LinePart, audit_reason_of, rx_parts, tx_parts}
 pub use Rattle.air_audit.specs.OwnTraces.{HasNoEventStep, IsToldByLines}
 pub use Rattle.air_audit.specs.ReceivedLists.{IsReceivedBefore, ListsWhatIsReceived}
 pub use Rattle.air_audit.specs.SentFrame.{IsNoFrame, ReadsCommand, ReadsFrame}
-pub use Rattle.air_audit.specs.Standing.{GoesOnAs, IsTheLine, Place, TellsNextTag, TraceGoesOn, TraceStanding, begun, behind_exchange, behind_told, between, link_line, listing, next_slot, next_tag}
-pub use Rattle.air_audit.specs.Standing.{place_in, place_of_command, record_of, rx_line, sending, telling, told_line}
+pub use Rattle.air_audit.specs.TraceOrder.{GoesOnAs, IsTheLine, Place, TellsNextTag, TraceGoesOn, TraceStanding, begun, behind_exchange, behind_told, between, link_line, listing, next_slot, next_tag}
+pub use Rattle.air_audit.specs.TraceOrder.{place_in, place_of_command, record_of, rx_line, sending, telling, told_line}
 pub use Rattle.air_audit.specs.TraceLineWords.{word_of, word_of_line}
 pub use Rattle.air_audit.specs.TraceLines.{AreFrameOf, FrameBeginsWith, Sends}
 pub use Rattle.air_audit.specs.declared.stop.Stop.{Stop}
@@ -52,7 +52,7 @@ pub use Rattle.runs.specs.Listing.{Listed, listed_by, listed_from, listing_of, r
 pub use Rattle.runs.specs.NextItem.{GrowsByNext, dialogue_behind_exchange, dialogue_behind_record, dialogue_behind_result, dialogue_left, expectation_of, finished_in, item_by_rule, item_in_round}
 pub use Rattle.runs.specs.NextItem.{item_of_slots, item_of_step, outcomes_of_round, reception_of_slot, rn_of, rn_received}
 pub use Rattle.runs.specs.Report.{exchange_lines, item_lines, last_lines, list_line, past_lines, report_of, report_text_of, run_lines, seen_lines, tag_lines, wave_lines}
-pub use Rattle.runs.specs.ScenarioStart.{history, start_of}
+pub use Rattle.runs.specs.ScenarioHistory.{history, start_of}
 pub use Rattle.scenario.specs.declared.values.Step.{Step}
 pub use Rattle.std.proofs.Common.{All, Bool, Err, List, None, Ok, Option, Result, Some, [], ap, append_assoc, ap₂, arith, codes, cond, drop, eq-eqb, eqb-true, false, filter, get_or, if◌then◌else◌}
 pub use Rattle.std.proofs.Common.{inl, inr, length, length-append, lt-ltb, ltb, ltb-true, map, ne_eqb, not, refl, slice_get, subst, suc, sym, take, true, true≢false, zero, ℕ, ◌%◌, ◌&&◌, ◌*◌, ◌++◌}

@@ -3,7 +3,7 @@ use Rattle.air_audit.proofs.Names.{◌≡◌, ◌+◌, ◌≤◌, ℕ, List, ◌
 use Rattle.air_audit.proofs.Names.{TraceStanding, begun, between, sending, listing, telling, word_of_line, Sends, Word, AuditReason, Verdict, Yes, No, heard_levels, Start, exchanges_in}
 use Rattle.air_audit.proofs.Names.{AreUnambiguous, one_fault, text_not_faulty, Command, HasTxShape, TxFields, length-map, decimal, fields_of}
 use Rattle.air_audit.specs.declared.trace_line_words.Word.TheVariants as words
-use Rattle.air_audit.specs.Standing.{ended}
+use Rattle.air_audit.specs.TraceOrder.{ended}
 use Rattle.air_audit.proofs.FirstPart.{none-fails, one-first}
 use Rattle.air_audit.proofs.OneStanding.{Laws, goes-one}
 

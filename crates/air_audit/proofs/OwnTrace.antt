@@ -9,7 +9,7 @@ use Rattle.air_audit.proofs.Names.{start_of, Step, map-append, filter-append, Al
 use Rattle.command_grammar.specs.declared.commands.Command.TheVariants as commands
 use Rattle.reply_grammar.specs.declared.expected.Reply.TheVariants as replies
 use Rattle.air_audit.specs.declared.trace_line_words.Word.TheVariants as words
-use Rattle.air_audit.specs.Standing.{ended}
+use Rattle.air_audit.specs.TraceOrder.{ended}
 use Rattle.report_lines.specs.SeenCounts.{SeenCount}
 use Rattle.runs.specs.History.{history_of}
 use Rattle.runs.specs.Said.{answer_line, exchanged_by, said_lines}

@@ -8,7 +8,7 @@ use Rattle.command_grammar.specs.declared.commands.Command.TheVariants as comman
 use Rattle.reply_grammar.specs.declared.expected.Expect.TheVariants as expects
 use Rattle.reply_grammar.specs.declared.expected.Reply.TheVariants as replies
 use Rattle.air_audit.specs.declared.trace_line_words.Word.TheVariants as words
-use Rattle.air_audit.specs.Standing.{ended}
+use Rattle.air_audit.specs.TraceOrder.{ended}
 use Rattle.reply_grammar.specs.declared.expected.Received.TheVariants.{Whole}
 use Rattle.runs.proofs.LegalPasts.{HeardLegal, first-legal, outcomes-legal}
 use Rattle.air_audit.proofs.Received.{made-again}

@@ -8,7 +8,7 @@ use Rattle.air_audit.proofs.Names.{cases_lt, Decides-eqb, not_from_Decides, deci
 use Rattle.air_audit.proofs.Names.{binary_told, binary, bits_of_digits, hyphen, fields_of, lines_of}
 use Rattle.air_audit.specs.declared.trace_line_words.Word.TheVariants as words
 use Rattle.air_audit.specs.declared.verdict.AuditReason.TheVariants as reasons
-use Rattle.air_audit.specs.Standing.{ended}
+use Rattle.air_audit.specs.TraceOrder.{ended}
 use Rattle.bit_strings.specs.Family.{IsBadAt, IsShortAt}
 use Rattle.text_fields.proofs.BinaryLaws.{bits_of_digits-map}
 use Rattle.checked_lines.specs.laws.TextLaws.{whole_ends}

@@ -13,7 +13,7 @@ use Rattle.wire_text.specs.CommandText.{side_letter}
 use Rattle.lock_rules.specs.declared.locks.Locks.{Locks}
 use Rattle.lock_rules.specs.declared.locks.Pair.{Pair}
 use Rattle.q_round.specs.declared.round.RoundEnd.TheVariants as ends
-use Rattle.report_lines.specs.ModeReport.{text_in}
+use Rattle.report_lines.specs.ModeSpelling.{text_in}
 use Rattle.session_flags.specs.declared.flags.Flags.{Flags}
 use Rattle.tag_machine.specs.StateNames.{name_of}
 use Rattle.tag_machine.specs.declared.states.StateName.{StateName}

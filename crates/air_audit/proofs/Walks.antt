@@ -4,7 +4,7 @@ use Rattle.air_audit.proofs.Names.{AuditorIsBegun, IsEarly, AuditorStandsAt, IsF
 use Rattle.air_audit.proofs.Names.{IsText, HasReadTo, NextLine, all_read, fault_read, none_read, one_read, unended_read, TagValue, AreLegalTags, lines_of}
 use Rattle.air_audit.specs.declared.auditor.Position.TheVariants as positions
 use Rattle.air_audit.specs.declared.verdict.AuditReason.TheVariants as reasons
-use Rattle.air_audit.specs.Standing.{ended}
+use Rattle.air_audit.specs.TraceOrder.{ended}
 
 -- the lines before the rest lead to where the auditor stands; the next line has this number
 pub record Walked (start : Start) (trace rest : List ℕ) (number : ℕ) (auditor : AuditorValue) : Type 0 where

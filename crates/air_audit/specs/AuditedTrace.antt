@@ -5,7 +5,7 @@ use Rattle.checked_lines.specs.TextRules.{TextRules, IsText}
 use Rattle.air_audit.specs.declared.verdict.AuditReason.{AuditReason}
 use Rattle.air_audit.specs.declared.verdict.AuditReason.TheVariants as reasons
 use Rattle.air_audit.specs.LineRefusals.{IsRefusedHere}
-use Rattle.air_audit.specs.Standing.{TraceStanding, TraceGoesOn, begun, ended}
+use Rattle.air_audit.specs.TraceOrder.{TraceStanding, TraceGoesOn, begun, ended}
 
 -- a trace ends behind its last line
 abbrev pub TraceMayEnd : TraceStanding → Type 0

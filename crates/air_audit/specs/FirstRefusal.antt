@@ -7,7 +7,7 @@ use Rattle.air_audit.specs.declared.verdict.AuditReason.{AuditReason}
 use Rattle.air_audit.specs.declared.verdict.Verdict.{Verdict}
 use Rattle.air_audit.specs.declared.verdict.Verdict.TheVariants.{Yes, No}
 use Rattle.air_audit.specs.AuditedTrace.{IsAudited, trace_rules}
-use Rattle.air_audit.specs.Standing.{TraceStanding, begun, ended}
+use Rattle.air_audit.specs.TraceOrder.{TraceStanding, begun, ended}
 
 -- the first refused line of the bytes, counted from 1, with its first reason
 abbrev pub IsFirstRefusal : Start → List ℕ → ℕ → AuditReason → Type 0

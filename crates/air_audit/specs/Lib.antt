@@ -1,13 +1,13 @@
 pub mod TraceLines
 pub mod TraceLineWords
-pub mod Standing
+pub mod TraceOrder
 pub mod LineRefusals
 pub mod AuditedTrace
 pub mod FirstRefusal
 pub mod OwnTraces
 pub mod SentFrame
 pub mod HeardLevels
-pub mod Auditing
-pub mod TraceBehind
+pub mod AuditorStanding
+pub mod ScenarioAndTrace
 pub mod VerdictText
 pub mod ReceivedLists

@@ -15,7 +15,7 @@ use Rattle.air_audit.specs.declared.trace_line_words.Word.TheVariants as words
 use Rattle.air_audit.specs.declared.verdict.AuditReason.{AuditReason}
 use Rattle.air_audit.specs.declared.verdict.AuditReason.TheVariants as reasons
 use Rattle.air_audit.specs.TraceLineWords.{word_of_line}
-use Rattle.air_audit.specs.Standing.{TraceStanding, begun, between, sending, listing, telling, ended, link_line, rx_line, told_line, next_tag}
+use Rattle.air_audit.specs.TraceOrder.{TraceStanding, begun, between, sending, listing, telling, ended, link_line, rx_line, told_line, next_tag}
 use Rattle.air_audit.specs.TraceLines.{Sends}
 
 -- a line whose fields are not of their forms is refused for this reason

@@ -9,9 +9,9 @@ ghost use Rattle.reply_wire.specs.Codes.{table_of};
 ghost use Rattle.reply_grammar.specs.Reception.{reception_from};
 ghost use Rattle.reply_wire.specs.Heard.{pair_received};
 ghost use Rattle.reply_wire.specs.Received.{IsReceived};
-ghost use Rattle.air_audit.specs.Auditing.{ExpectsList, GoesOnOrStops, AuditorIsAt, AuditorIsBegun, IsEarly, IsHearing, AuditIsUnderway, KeepsUp, Lists, SendsTo, AuditorStandsAt, TellsLine, TellsOther, WritesTold};
+ghost use Rattle.air_audit.specs.AuditorStanding.{ExpectsList, GoesOnOrStops, AuditorIsAt, AuditorIsBegun, IsEarly, IsHearing, AuditIsUnderway, KeepsUp, Lists, SendsTo, AuditorStandsAt, TellsLine, TellsOther, WritesTold};
 ghost use Rattle.air_audit.specs.LineRefusals.{IsNoTxLine};
-ghost use Rattle.air_audit.specs.Standing.{TraceStanding, begun, between, listing, sending, telling, told_line};
+ghost use Rattle.air_audit.specs.TraceOrder.{TraceStanding, begun, between, listing, sending, telling, told_line};
 ghost use Rattle.report_lines.specs.ReadLines.{first_field};
 
 use crate::AuditReason;
@@ -100,7 +100,7 @@ impl<'a, L: Ledger> Drop for Auditor<'a, L> {
 impl<'a, L: Ledger> Model for Auditor<'a, L> {
     ghost use Rattle.std.specs.Prelude.{◌≤◌, length};
     ghost use Rattle.std.specs.String.{string_bytes};
-    ghost use Rattle.air_audit.specs.Auditing.{AuditorValue};
+    ghost use Rattle.air_audit.specs.AuditorStanding.{AuditorValue};
     ghost use Rattle.air_audit.specs.HeardLevels.{room_for_audited_streams};
 
     ghost Value = { AuditorValue };

@@ -3,7 +3,7 @@ ghost use Rattle.std.specs.Prelude.{◌≡◌, ℕ, List};
 ghost use Rattle.air_model.specs.Past.{Start};
 ghost use Rattle.report_lines.specs.declared.mode.Mode.TheVariants.{Trace};
 ghost use Rattle.runs.specs.Report.{report_text_of};
-ghost use Rattle.runs.specs.ScenarioStart.{start_of};
+ghost use Rattle.runs.specs.ScenarioHistory.{start_of};
 ghost use Rattle.scenario.specs.Limits.{IsScenario};
 ghost use Rattle.scenario.specs.declared.values.Scenario.{Scenario};
 ghost use Rattle.tag_machine.specs.TagsInExchange.{AreLegalTags};

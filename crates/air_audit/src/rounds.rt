@@ -1,6 +1,6 @@
 //! Rounds and slots.
 ghost use Rattle.std.specs.Prelude.{◌≡◌, ◌≤◌, ◌<◌, ◌+◌, ◌^◌};
-ghost use Rattle.air_audit.specs.Standing.{place_of_command};
+ghost use Rattle.air_audit.specs.TraceOrder.{place_of_command};
 
 use command_grammar::Command;
 

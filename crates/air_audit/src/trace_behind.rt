@@ -1,7 +1,7 @@
 //! A scenario and behind it a trace.
 ghost use Rattle.std.specs.Prelude.{◌≡◌, ◌≤◌, IsFalse, IsTrue, length};
 ghost use Rattle.air_audit.specs.OwnTraces.{HasNoEventStep};
-ghost use Rattle.air_audit.specs.TraceBehind.{scenario_part, trace_part};
+ghost use Rattle.air_audit.specs.ScenarioAndTrace.{scenario_part, trace_part};
 
 use scenario::Step;
 use text_fields::split_line;

@@ -2,11 +2,11 @@
 ghost use Rattle.std.specs.Prelude.{◌≡◌, ◌≤◌, ◌^◌, length, map, vec_len, IfOk};
 ghost use Rattle.tag_machine.specs.Hearing.{tag_value_of};
 ghost use Rattle.air_model.specs.Past.{Start};
-ghost use Rattle.air_audit.specs.Auditing.{AreAsGiven, IsEarly, AuditorStandsAt};
+ghost use Rattle.air_audit.specs.AuditorStanding.{AreAsGiven, IsEarly, AuditorStandsAt};
 ghost use Rattle.air_audit.specs.FirstRefusal.{IsAuditVerdict};
 ghost use Rattle.air_audit.specs.ReceivedLists.{ListsWhatIsReceived};
 ghost use Rattle.air_audit.specs.declared.verdict.Verdict.TheVariants.{Yes};
-ghost use Rattle.air_audit.specs.Standing.{begun};
+ghost use Rattle.air_audit.specs.TraceOrder.{begun};
 
 use crate::auditor::Auditor;
 use crate::laws::list_lines_are_received;

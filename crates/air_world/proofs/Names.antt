@@ -19,10 +19,10 @@ pub use Rattle.air_model.specs.declared.got.Got.{Got, Got as Gave}
 pub use Rattle.air_world.specs.Counting.{CountsLines, Fits, counted_line, counted_lines, nothing_counted}
 pub use Rattle.air_world.specs.Listing.{HearsPairs, first_fault_of, pair_told, pairs_told}
 pub use Rattle.air_world.specs.NewAir.{IsGroupOfTags, new_air}
-pub use Rattle.air_world.specs.Playing.{Begun, HasRoomForExchanges, IsBetweenSteps, IsEndedBy, IsHeard, IsPlayable, IsSent, IsUnderway, NamesItsTags, RunIsAt, RunValue, StandsAt, StandsOrFails}
+pub use Rattle.air_world.specs.Playing.{Begun, HasRoomForExchanges, IsBetweenSteps, IsEndedBy, IsHeard, IsPlayable, IsSentOver, IsUnderway, NamesItsTags, RunIsAt, RunValue, StandsAt, StandsOrFails}
 pub use Rattle.air_world.specs.Playing.{begun_with, counted_on, most_in_round, most_in_slot, most_slots}
 pub use Rattle.air_world.specs.Saying.{AnswersCommand, AreOfDifferentTags, AreShort, IsBehind, IsOneOf}
-pub use Rattle.air_world.specs.Telling.{EndsOrFails, IsCut, IsCutOff, IsCutShort, PlaysOrFails, Tells, lines_to_tell}
+pub use Rattle.air_world.specs.Telling.{EndsOrFails, IsCut, IsCutOff, IsCutShort, PlaysOrFails, IsToldWhole, lines_to_tell}
 pub use Rattle.air_world.specs.declared.seen_listener.SeenListener.{SeenListener}
 pub use Rattle.air_world.specs.laws.CountingLaws.{counted-append, counts-more, uncounted, uncounted-frame}
 pub use Rattle.bit_strings.specs.ItemList.{ItemList}
@@ -57,7 +57,7 @@ pub use Rattle.runs.specs.NextItem.{expectation_of}
 pub use Rattle.runs.specs.Report.{exchange_lines, item_lines, last_lines, list_line, report_text_of, run_lines, tag_lines, wave_lines}
 pub use Rattle.runs.specs.RoundsTold.{GoesByTags, pair_listed, pairs_listed_by, pairs_since, played_of, round_ended, rounds_told}
 pub use Rattle.runs.specs.Said.{answer_line, exchanged_by, gave_of, said_lines}
-pub use Rattle.runs.specs.ScenarioStart.{history, scenario_tag, start_of}
+pub use Rattle.runs.specs.ScenarioHistory.{history, scenario_tag, start_of}
 pub use Rattle.runs.specs.Summary.{all_quiet, is_quiet, pairs_in, slots_past, summary_of}
 pub use Rattle.runs.specs.laws.Replies.{AnswersSo, AreReplies, StaysLegal, replies-in-answered}
 pub use Rattle.scenario.specs.Groups.{copies, copies_from, copies_of, copy_of, raised, tags_of}

@@ -1,7 +1,7 @@
 -- What is told one after another, and what was heard where a run is cut off.
 use Rattle.std.proofs.lemmas.List.{append-nil}
 use Rattle.air_world.proofs.Names.{◌≡◌, ℕ, ◌≤◌, List, ◌∷◌, ◌++◌, Option, Some, Result, Ok, Err, sym, ◌∙◌, ap, subst, arith, append_assoc, [], AirValue, AreEntriesLeft, Item, exchanges_in, rounds_in}
-use Rattle.air_world.proofs.Names.{tags_behind, Begun, IsUnderway, RunValue, StandsAt, StandsOrFails, counted_on, EndsOrFails, IsCut, IsCutOff, Tells, lines_to_tell, ReportLine, PlayFault, Grows}
+use Rattle.air_world.proofs.Names.{tags_behind, Begun, IsUnderway, RunValue, StandsAt, StandsOrFails, counted_on, EndsOrFails, IsCut, IsCutOff, IsToldWhole, lines_to_tell, ReportLine, PlayFault, Grows}
 use Rattle.air_world.proofs.Names.{added_lines, past_lines-more, item_lines, IfErr, IsErrAnd}
 
 -- fewer exchanges more fit as well
@@ -10,16 +10,16 @@ pub underway-fewer : {A : Type 0} {hears : A → List ReportLine → A → Type 
 underway-fewer few fewer r = record { begun = r.begun; past = r.past; stands = r.stands; room = omega (arith, r.room) }
 
 -- nothing is told
-pub tells-nothing : {A : Type 0} {hears : A → List ReportLine → A → Type 0} {now : A} → Tells hears [] now now
+pub tells-nothing : {A : Type 0} {hears : A → List ReportLine → A → Type 0} {now : A} → IsToldWhole hears [] now now
 tells-nothing {hears} {now} = record { on = λ first before heard. subst (λ (lines : List ReportLine). hears first lines now) (sym (append-nil before)) heard }
 
 -- the same lines
-pub tells-same : {A : Type 0} {hears : A → List ReportLine → A → Type 0} {lines same : List ReportLine} {old new : A} → lines ≡ same → Tells hears lines old new → Tells hears same old new
-tells-same {hears} {old} {new} is told = subst (λ (l : List ReportLine). Tells hears l old new) is told
+pub tells-same : {A : Type 0} {hears : A → List ReportLine → A → Type 0} {lines same : List ReportLine} {old new : A} → lines ≡ same → IsToldWhole hears lines old new → IsToldWhole hears same old new
+tells-same {hears} {old} {new} is told = subst (λ (l : List ReportLine). IsToldWhole hears l old new) is told
 
 -- lines are told one after another
 pub tells-then : {A : Type 0} {hears : A → List ReportLine → A → Type 0} {lines more : List ReportLine} {old between new : A}
-    → Tells hears lines old between → Tells hears more between new → Tells hears (lines ++ more) old new
+    → IsToldWhole hears lines old between → IsToldWhole hears more between new → IsToldWhole hears (lines ++ more) old new
 tells-then {hears} {lines} {more} {new} told then = record {
   on = λ first before heard. subst (λ (all : List ReportLine). hears first all new) (append_assoc before lines more) (then.on first (before ++ lines) (told.on first before heard));
 }
@@ -65,7 +65,7 @@ ends-checked failed (Err fault) stands cause = cut-behind failed fault stands ca
 
 -- behind an item that is neither an exchange nor an event, whose lines were told
 pub stands-told : {A : Type 0} {hears : A → List ReportLine → A → Type 0} {begun : Begun A} {past : List Item} {air : AirValue} {run after : RunValue} {report next : A} (item : Item)
-    → StandsAt hears begun past air run report → Tells hears (item_lines begun.start.link item) report next → tags_behind begun.start (item ∷ past) ≡ tags_behind begun.start past
+    → StandsAt hears begun past air run report → IsToldWhole hears (item_lines begun.start.link item) report next → tags_behind begun.start (item ∷ past) ≡ tags_behind begun.start past
     → exchanges_in (item ∷ past) ≡ exchanges_in past → after ≡ record run { rounds = rounds_in (item ∷ past) } → StandsAt hears begun (item ∷ past) air after next
 stands-told {begun} {past} {after} item stands told tags exchanges after_is =
     let was = stands.at in

@@ -1,7 +1,7 @@
 -- Who said what in an exchange, told or left out.
 use Rattle.std.proofs.lemmas.Bool.{eqb-true}
 use Rattle.air_world.proofs.Names.{◌≡◌, ◌≢◌, ◌<◌, ◌≤◌, ◌%◌, ◌==◌, ◌⊎◌, inl, inr, ℕ, ◌+◌, Bool, true, false, Option, Some, None, eq-eqb, List, ◌∷◌, ◌++◌, length, map, take, refl, sym, ◌∙◌, ap, arith}
-use Rattle.air_world.proofs.Names.{subst, append_assoc, append-nil, slice_get, [], Given, silence, whole, broken, raw, got_of, levels_of, Record, AreShort, IsOneOf, Tells, LinkValue, longest_reply}
+use Rattle.air_world.proofs.Names.{subst, append_assoc, append-nil, slice_get, [], Given, silence, whole, broken, raw, got_of, levels_of, Record, AreShort, IsOneOf, IsToldWhole, LinkValue, longest_reply}
 use Rattle.air_world.proofs.Names.{is_of_exchanges, ReportLine, MissedLine, answer_line, gave_of, said_lines, AreReplies, slice_get-map, AllByRecursion, option_map, Sent, Replied, AnswerValue}
 use Rattle.air_world.proofs.Names.{answer_of, answers_of, answer_value_of, All-from_recursion, All-get_or, get_or_from_slice_get, map-append, none-some, same_Some, slice_get-get_or, slice_get_within}
 use Rattle.air_world.proofs.Names.{take_more}
@@ -110,12 +110,12 @@ skipped hears now same (line ∷ lines) are first before heard =
 -- an exchange of which nobody wants to hear who said what
 pub said-skipped : {A : Type 0} (hears : A → List ReportLine → A → Type 0) (now : A) (link : LinkValue) (sent : Record)
     → ((first : A) (lines : List ReportLine) (line : ReportLine) → is_of_exchanges line ≡ true → hears first lines now → hears first (lines ++ line ∷ []) now)
-    → Tells hears (said_lines link sent) now now
+    → IsToldWhole hears (said_lines link sent) now now
 said-skipped hears now link sent same = record { on = λ first before heard. skipped hears now same (said_lines link sent) (said-kind link sent) first before heard }
 
 -- one thing more was told, of a list of things of which a front was told
 pub tells-more : {A B : Type 0} {hears : A → List ReportLine → A → Type 0} {old between new : A} (make : B → ReportLine) (lines : List ReportLine) (items : List B) (at : ℕ) (item : B)
-    → slice_get items at ≡ Some item → Tells hears (lines ++ map make (take at items)) old between
-    → Tells hears (make item ∷ []) between new → Tells hears (lines ++ map make (take (at + 1) items)) old new
+    → slice_get items at ≡ Some item → IsToldWhole hears (lines ++ map make (take at items)) old between
+    → IsToldWhole hears (make item ∷ []) between new → IsToldWhole hears (lines ++ map make (take (at + 1) items)) old new
 tells-more make lines items at item found told more =
     tells-same (append_assoc lines (map make (take at items)) (make item ∷ []) ∙ ap (λ (all : List ReportLine). lines ++ all) (map-more make items at item found)) (tells-then told more)

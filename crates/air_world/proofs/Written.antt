@@ -4,7 +4,7 @@ use Rattle.air_world.proofs.Names.{◌≡◌, ◌≤◌, inl, inr, ℕ, List, �
 use Rattle.air_world.proofs.Names.{tags_behind, history, AirValue, PlaysOrFails, ReportLine, IsAdded, spelling_behind, text_from, PlayFault, Write, ModeSpelling, report_text_of, run_lines, start_of}
 use Rattle.air_world.proofs.Names.{Scenario}
 use Rattle.air_io.specs.Flow.{Adds, FaultsRose}
-use Rattle.report_lines.specs.ModeReport.{line_of_mode, mode_behind, new_spelling}
+use Rattle.report_lines.specs.ModeSpelling.{line_of_mode, mode_behind, new_spelling}
 use Rattle.report_lines.proofs.SpelledLaws.{told-in-mode}
 use Rattle.report_lines.specs.laws.TextReportLaws.{text_from-append}
 use Rattle.report_lines.specs.declared.mode.Mode.{Mode}

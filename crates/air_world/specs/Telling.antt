@@ -6,7 +6,7 @@ use Rattle.report_lines.specs.ReportLine.{ReportLine}
 use Rattle.report_lines.specs.declared.mode.PlayFault.{PlayFault}
 use Rattle.report_lines.specs.declared.mode.PlayFault.TheVariants.{OutOfMemory}
 use Rattle.runs.specs.Report.{past_lines, run_lines}
-use Rattle.runs.specs.ScenarioStart.{start_of, history}
+use Rattle.runs.specs.ScenarioHistory.{start_of, history}
 use Rattle.scenario.specs.declared.values.Scenario.{Scenario}
 
 -- All that a run has to tell of a past is told. What of it stays unsaid is the listener's choice.
@@ -14,7 +14,7 @@ abbrev pub lines_to_tell : Start → List Item → List ReportLine
 lines_to_tell start past = past_lines start.link past
 
 -- these lines are told: who had heard some lines has then heard these behind them
-pub record Tells {A : Type 0} (hears : A → List ReportLine → A → Type 0) (lines : List ReportLine) (old new : A) : Type 0 where
+pub record IsToldWhole {A : Type 0} (hears : A → List ReportLine → A → Type 0) (lines : List ReportLine) (old new : A) : Type 0 where
   pub on : (first : A) (before : List ReportLine) → hears first before old → hears first (before ++ lines) new
 
 -- a run was cut off by this fault, and a front of these lines was heard

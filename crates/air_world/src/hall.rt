@@ -1,7 +1,7 @@
 //! Tags that an interrogator reads by whole rounds, on an air of their own.
 ghost use Rattle.std.specs.Prelude.{◌≡◌, ◌+◌, ◌≤◌, ◌++◌, [], length, IfOk};
 ghost use Rattle.runs.specs.RoundsTold.{played_of};
-ghost use Rattle.runs.specs.ScenarioStart.{start_of};
+ghost use Rattle.runs.specs.ScenarioHistory.{start_of};
 ghost use Rattle.scenario.specs.Limits.{IsScenario, no_operations};
 ghost use Rattle.tag_machine.specs.TagsInExchange.{AreLegalTags};
 

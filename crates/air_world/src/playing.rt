@@ -8,7 +8,7 @@ ghost use Rattle.air_world.specs.Telling.{PlaysOrFails};
 ghost use Rattle.runs.specs.CompleteRounds.{RoundsAreComplete};
 ghost use Rattle.runs.specs.Headline.{AreHeardAsListed, Headline};
 ghost use Rattle.runs.specs.Report.{report_of, report_text_of};
-ghost use Rattle.runs.specs.ScenarioStart.{history, start_of};
+ghost use Rattle.runs.specs.ScenarioHistory.{history, start_of};
 ghost use Rattle.scenario.specs.Limits.{IsScenario};
 
 use crate::run::{Run, check};

@@ -1,6 +1,6 @@
 //! Two portals over one scenario.
 ghost use Rattle.std.specs.Prelude.{◌≡◌, IfOk};
-ghost use Rattle.runs.specs.Portals.{IsOfPortals, portals_told, specs_of};
+ghost use Rattle.runs.specs.PortalHistories.{IsOfPortals, portals_told, specs_of};
 ghost use Rattle.scenario.specs.Limits.{IsScenario};
 
 use crate::hall::AirHall;

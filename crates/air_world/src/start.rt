@@ -1,7 +1,7 @@
 //! The air of a scenario.
 ghost use Rattle.std.specs.Prelude.{◌≡◌, ◌≤◌, ◌++◌, IfOk, OnOk, map};
 ghost use Rattle.air_world.specs.NewAir.{IsGroupOfTags, new_air};
-ghost use Rattle.runs.specs.ScenarioStart.{start_of, scenario_tag};
+ghost use Rattle.runs.specs.ScenarioHistory.{start_of, scenario_tag};
 ghost use Rattle.scenario.specs.Groups.{copies_of, copy_of, raised};
 ghost use Rattle.scenario.specs.Limits.{IsScenario};
 ghost use Rattle.scenario_lines.specs.TagForm.{IsTag, epc_length};

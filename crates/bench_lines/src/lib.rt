@@ -6,7 +6,6 @@
 mod effect;
 mod events;
 mod judging;
-mod log_answers;
 mod log_entries;
 mod log_laws;
 mod log_reading;
@@ -17,6 +16,7 @@ mod probe_laws;
 mod probe_line;
 mod probe_printing;
 mod probe_reading;
+mod seen_fields;
 mod stimuli;
 mod verdict_printing;
 

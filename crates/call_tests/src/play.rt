@@ -1,7 +1,7 @@
 //! A whole run. Scenarios with their reports stand in rows/runs; here is what the air is behind one, which no report shows.
 ghost use Rattle.std.specs.Prelude.{◌≡◌, ◌<◌, IfSome, length};
 ghost use Rattle.air_world.specs.NewAir.{new_air};
-ghost use Rattle.runs.specs.ScenarioStart.{start_of};
+ghost use Rattle.runs.specs.ScenarioHistory.{start_of};
 ghost use Rattle.scenario.specs.Limits.{IsScenario};
 
 use air_channel::Air;

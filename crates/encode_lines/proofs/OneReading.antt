@@ -24,7 +24,7 @@ use Rattle.checked_lines.specs.laws.OneLine.{TellLines}
 use Rattle.encode_lines.proofs.ReadFields.{six_filled}
 use Rattle.encode_lines.proofs.Shapes.{command_shape, reply_shape, shaped}
 use Rattle.encode_lines.specs.EncodeLines.{encode_rules}
-use Rattle.encode_lines.specs.Request.{all_kinds, kind_found, lead_word, kind_word, encode_request_kind, request_fields, AreDurations, IsWithinEncodeLimits, AsksToEncodeBehind, AsksToEncode, NamesNone, HasEncodeShape, AreFaultyToEncode, HasFaultyFieldsToEncode, IsFaultyToEncode}
+use Rattle.encode_lines.specs.Request.{all_encode_kinds, kind_found, lead_word, kind_word, encode_request_kind, request_fields, AreDurations, IsWithinEncodeLimits, AsksToEncodeBehind, AsksToEncode, NamesNone, HasEncodeShape, AreFaultyToEncode, HasFaultyFieldsToEncode, IsFaultyToEncode}
 use Rattle.encode_lines.specs.declared.request.Durations.{Durations}
 use Rattle.encode_lines.specs.declared.request.LineKind.{LineKind}
 use Rattle.encode_lines.specs.declared.request.LineKind.TheVariants.{Stream as StreamKind, Pie as PieKind, Command as CommandKind, Reply as ReplyKind, Heard as HeardKind}
@@ -33,7 +33,7 @@ use Rattle.encode_lines.specs.declared.request.Request.TheVariants.{Stream, Pie,
 
 -- a first field says one kind
 kind_told : (one other : LineKind) → kind_word one ≡ kind_word other → one ≡ other
-kind_told = told kind_word all_kinds kind_found
+kind_told = told kind_word all_encode_kinds kind_found
 
 -- two readings of fields are one
 one_reading : (kind kind' : LineKind) (others others' : List (List ℕ)) → kind_word kind ∷ others ≡ kind_word kind' ∷ others' → (kind ≡ kind') × (others ≡ others')

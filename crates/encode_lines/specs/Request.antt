@@ -53,11 +53,11 @@ kind_word ReplyKind = codes "reply"
 kind_word HeardKind = codes "heard"
 
 -- all kinds of encode lines, each of which has a word of its own
-abbrev pub all_kinds : List LineKind
-all_kinds = StreamKind Fm0 ∷ StreamKind M2 ∷ StreamKind M4 ∷ StreamKind M8 ∷ PieKind ∷ CommandKind ∷ ReplyKind ∷ HeardKind ∷ []
+abbrev pub all_encode_kinds : List LineKind
+all_encode_kinds = StreamKind Fm0 ∷ StreamKind M2 ∷ StreamKind M4 ∷ StreamKind M8 ∷ PieKind ∷ CommandKind ∷ ReplyKind ∷ HeardKind ∷ []
 
 -- each kind of encode lines is the first of all kinds with its word
-pub kind_found : EachFound kind_word all_kinds
+pub kind_found : EachFound kind_word all_encode_kinds
 kind_found (StreamKind Fm0) = refl
 kind_found (StreamKind M2) = refl
 kind_found (StreamKind M4) = refl

@@ -4,7 +4,7 @@ ghost use Rattle.std.specs.Fmt.{decimal};
 ghost use Rattle.text_fields.specs.Lines.{fields_of};
 ghost use Rattle.pie_line.specs.declared.frame.Lead.{Lead};
 ghost use Rattle.wire_text.specs.ReplyText.{IsReplyText};
-ghost use Rattle.encode_lines.specs.Request.{all_kinds, kind_found, lead_word, kind_word, AreDurations, AsksToEncodeBehind, AsksToEncode, AreFaultyToEncode, IsFaultyToEncode, IsFaultyReplyBehind};
+ghost use Rattle.encode_lines.specs.Request.{all_encode_kinds, kind_found, lead_word, kind_word, AreDurations, AsksToEncodeBehind, AsksToEncode, AreFaultyToEncode, IsFaultyToEncode, IsFaultyReplyBehind};
 
 use bit_strings::Code;
 use checked_lines::{FaultReason, heard_as};
@@ -101,7 +101,7 @@ fn lead_named(field: &[u8]) -> Option<Lead>
 impl Named for LineKind {
     ghost word = { kind_word };
 
-    ghost values = { all_kinds };
+    ghost values = { all_encode_kinds };
 
     ghost finds = { kind_found };
 

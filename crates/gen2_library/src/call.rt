@@ -8,8 +8,8 @@ ghost use Rattle.top_call.specs.Jobs.{job_of};
 ghost use Rattle.top_call.specs.StatusMeanings.{input_limit, SpeaksOfNoInput};
 ghost use Rattle.top_call.specs.declared.forms.Form.{Form};
 ghost use Rattle.top_call.specs.declared.status.Status.{Status};
-ghost use Rattle.top_call.specs.words.Generated.{CountsEveryTag};
-ghost use Rattle.top_call.specs.words.Reported.{SaysHeadline, SaysInventory};
+ghost use Rattle.top_call.specs.words.Generate.{CountsEveryTag};
+ghost use Rattle.top_call.specs.words.Run.{SaysHeadline, SaysInventory};
 
 use crate::lent_room::Room;
 use air_io::SureSource;

@@ -13,8 +13,8 @@ ghost use Rattle.top_call.specs.Job.{Defines};
 ghost use Rattle.top_call.specs.Jobs.{job_of};
 ghost use Rattle.top_call.specs.StatusMeanings.{input_limit};
 ghost use Rattle.top_call.specs.declared.forms.Form.{Form};
-ghost use Rattle.top_call.specs.words.Generated.{CountsEveryTag};
-ghost use Rattle.top_call.specs.words.Reported.{SaysHeadline, SaysInventory};
+ghost use Rattle.top_call.specs.words.Generate.{CountsEveryTag};
+ghost use Rattle.top_call.specs.words.Run.{SaysHeadline, SaysInventory};
 
 mod call;
 mod lent_room;

@@ -17,7 +17,7 @@ use Rattle.log_judge.specs.laws.Kinds.{Kind, Settled, Enters, Gives, outcome_fro
 use Rattle.log_judge.specs.laws.Known.{Known, Covers, CoversState, Follows, guessed, is_enters, any_behind, placed, prepared, waits}
 use Rattle.log_judge.proofs.KindsOfSteps.{of_kind}
 use Rattle.log_judge.proofs.OneKind.{AreSmall, none_small}
-use Rattle.log_judge.specs.laws.Standing.{IsValid}
+use Rattle.log_judge.specs.laws.StandingLaws.{IsValid}
 use Rattle.log_judge.proofs.OneExchange.{arrives, mine_of, stands}
 
 abbrev tag_as : StateValue → BodyValue → TagValue

@@ -10,7 +10,7 @@ use Rattle.log_judge.specs.Explaining.{seen_answer_to, outcome_of_heard, seen_of
 use Rattle.log_judge.specs.laws.Logs.{IsLegalHeard, number_seen}
 use Rattle.log_judge.specs.laws.Kinds.{Kind, Settled, Enters, Replies, Gives, outcome_from, reworded, count_kind, kind_of, ArbitrateMove, Stays, Leaves, Counts, kind_at, move_of, HasSmallQ}
 use Rattle.log_judge.specs.laws.Known.{Known, Covers, CoversState, draws_slot, guessed, is_enters, any_behind, placed, prepared, waits}
-use Rattle.log_judge.specs.laws.Standing.{IsValid}
+use Rattle.log_judge.specs.laws.StandingLaws.{IsValid}
 use Rattle.log_judge.proofs.Guesses.{not_zero}
 use Rattle.log_judge.proofs.KindsOfSteps.{of_kind, of_move}
 use Rattle.log_judge.proofs.OneKind.{AreSmall, ComesBy, IsSlotWithin, StandsFor, body_kept, body_of, comes_by, guess, moved_over, replied, settled_comes, slot_within, stands_for}

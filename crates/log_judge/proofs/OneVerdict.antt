@@ -10,7 +10,7 @@ use Rattle.log_judge.specs.Explaining.{Allows, IsAllowed, IsExcused, IsExplained
 use Rattle.log_judge.specs.Verdicts.{FailsFirst, IsHandle, IsRn16, IsVerdict, IsWanted, Means, Verdict, Yes, Profile, No, Want, Nothing, Exactly, AnyRn16, AnyHandle, NothingOrAnyRn16}
 use Rattle.log_judge.specs.laws.Logs.{Deed, IsLegalEntry, IsLegalLog, Sends, Brings, log_made}
 use Rattle.log_judge.specs.laws.Known.{Known, Follows, want_of}
-use Rattle.log_judge.specs.laws.Standing.{StandsBehind}
+use Rattle.log_judge.specs.laws.StandingLaws.{StandsBehind}
 use Rattle.log_judge.proofs.Decided.{event_follows, may_follow, some_is}
 use Rattle.log_judge.proofs.Standing.{allowed_by, allowed_where_stands, fails_on, stands_first, stands_on, words_of}
 use Rattle.log_judge.proofs.Wants.{wanted}

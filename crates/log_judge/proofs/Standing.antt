@@ -7,7 +7,7 @@ use Rattle.log_judge.specs.Explaining.{Allows, IsAllowed, IsLedBy, Leads, Manner
 use Rattle.log_judge.specs.laws.Logs.{IsLegalEntry}
 use Rattle.log_judge.specs.laws.Kinds.{reworded}
 use Rattle.log_judge.specs.laws.Known.{Known, Covers, CoversState, Follows}
-use Rattle.log_judge.specs.laws.Standing.{ComesTo, StandsBehind}
+use Rattle.log_judge.specs.laws.StandingLaws.{ComesTo, StandsBehind}
 use Rattle.log_judge.proofs.OneEntry.{comes, follows_one, goes, valid_behind}
 use Rattle.log_judge.proofs.OneKind.{AreSmall, none_small}
 

@@ -14,7 +14,7 @@ use Rattle.log_judge.specs.Verdicts.{IsRn16, IsWanted, Means, AnyRn16, NothingOr
 use Rattle.log_judge.specs.laws.Logs.{IsLegalHeard}
 use Rattle.log_judge.specs.laws.Kinds.{Kind, Settled, Enters, Replies, Gives, outcome_from, reworded, count_kind, kind_of, ArbitrateMove, Stays, Leaves, Counts, kind_at, move_of, HasSmallQ}
 use Rattle.log_judge.specs.laws.Known.{Known, CoversState, want_at, want_of, want_of_answer, want_of_kind, want_of_move}
-use Rattle.log_judge.specs.laws.Standing.{StandsBehind}
+use Rattle.log_judge.specs.laws.StandingLaws.{StandsBehind}
 use Rattle.log_judge.proofs.Guesses.{slot_below_power, enters_now, enters_later, behind_inside}
 use Rattle.log_judge.proofs.KindsOfSteps.{of_kind, of_move}
 use Rattle.log_judge.proofs.OneKind.{AreSmall, ComesBy, at_once_comes, later_comes, none_small, number_comes, reply_comes, settled_comes}

@@ -2,7 +2,7 @@ pub mod Answers
 pub mod Drawing
 pub mod KnownTag
 pub mod Optional
-pub mod Judging
+pub mod JudgeStanding
 pub mod Log
 pub mod Explaining
 pub mod Verdicts

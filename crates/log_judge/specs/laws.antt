@@ -2,4 +2,4 @@
 pub mod Logs
 pub mod Kinds
 pub mod Known
-pub mod Standing
+pub mod StandingLaws

@@ -5,11 +5,11 @@ ghost use Rattle.tag_memory.specs.Image.{sizes_fit, pc_fits};
 ghost use Rattle.log_judge.specs.Log.{Befalls, Exchange, LogEntry, LoggedTag};
 ghost use Rattle.log_judge.specs.Verdicts.{IsVerdict};
 ghost use Rattle.log_judge.specs.Answers.{seen_in, verdict_in};
-ghost use Rattle.log_judge.specs.Judging.{HasHeard, verdict_noted};
+ghost use Rattle.log_judge.specs.JudgeStanding.{HearsEntry, verdict_noted};
 
 use crate::answer::Answer;
+use crate::asking::Rooms;
 use crate::known_tag::KnownTag;
-use crate::rooms::Rooms;
 use crate::shown::Shown;
 use crate::verdict::Verdict;
 use air_events::Event;
@@ -82,7 +82,7 @@ impl Findings {
 
 impl Model for Judge {
     ghost use Rattle.log_judge.specs.Answers.{verdict_in};
-    ghost use Rattle.log_judge.specs.Judging.{JudgeValue};
+    ghost use Rattle.log_judge.specs.JudgeStanding.{JudgeValue};
 
     ghost Value = { JudgeValue };
 
@@ -100,7 +100,7 @@ impl Judge {
         requires sizes { sizes_fit image.now ≡ true }
         requires pc { pc_fits image.now ≡ true }
         ensures { IfOk result
-            (λ judge. HasHeard (record { image = image.now; locks = locks }) [] judge) }
+            (λ judge. HearsEntry (record { image = image.now; locks = locks }) [] judge) }
     {
         let known = KnownTag::new(alloc, image, locks)?;
         let rooms = Rooms::new(alloc)?;
@@ -117,8 +117,8 @@ impl Judge {
     pub fn hear<L: Ledger>(self, command: &Command, seen: &Answer, steps: &mut Steps<L>) -> Judge
         requires legal { IsLegalCommand command.now }
         requires early { self.line < 2 ^ 31 }
-        ensures heard { (tag : LoggedTag) (log : List LogEntry) → HasHeard tag log self
-            → HasHeard tag (log ++ Exchange (Some command.now) (seen_in seen.now) ∷ []) result }
+        ensures heard { (tag : LoggedTag) (log : List LogEntry) → HearsEntry tag log self
+            → HearsEntry tag (log ++ Exchange (Some command.now) (seen_in seen.now) ∷ []) result }
         ensures line { result.line ≡ self.line + 2 }
     {
         let Judge {
@@ -135,8 +135,8 @@ impl Judge {
     /// The tag was sent bits that spell no command, and was seen to answer this.
     pub fn hear_no_command(self, seen: &Answer) -> Judge
         requires early { self.line < 2 ^ 31 }
-        ensures heard { (tag : LoggedTag) (log : List LogEntry) → HasHeard tag log self
-            → HasHeard tag (log ++ Exchange None (seen_in seen.now) ∷ []) result }
+        ensures heard { (tag : LoggedTag) (log : List LogEntry) → HearsEntry tag log self
+            → HearsEntry tag (log ++ Exchange None (seen_in seen.now) ∷ []) result }
         ensures line { result.line ≡ self.line + 2 }
     {
         let Judge {
@@ -153,8 +153,8 @@ impl Judge {
     /// This befell the tag.
     pub fn befall(self, event: Event) -> Judge
         requires early { self.line < 2 ^ 31 }
-        ensures heard { (tag : LoggedTag) (log : List LogEntry) → HasHeard tag log self
-            → HasHeard tag (log ++ Befalls event ∷ []) result }
+        ensures heard { (tag : LoggedTag) (log : List LogEntry) → HearsEntry tag log self
+            → HearsEntry tag (log ++ Befalls event ∷ []) result }
         ensures line { result.line ≡ self.line + 1 }
     {
         let Judge {
@@ -168,7 +168,7 @@ impl Judge {
 
     /// What is judged of the log that was heard: its one verdict.
     pub fn verdict(self) -> Verdict
-        ensures { (tag : LoggedTag) (log : List LogEntry) → HasHeard tag log self
+        ensures { (tag : LoggedTag) (log : List LogEntry) → HearsEntry tag log self
             → IsVerdict tag log (verdict_in result) }
     {
         let Judge { known: _, findings } = self;

@@ -9,9 +9,9 @@ ghost use Rattle.log_judge.specs.Answers.{seen_in};
 ghost use Rattle.log_judge.specs.KnownTag.{Goes, IsReadyFor, LacksHere, Shows, known_of};
 
 use crate::answer::Answer;
-use crate::draws::{Draws, draws_at, fallen, first_word, slots_behind, want_behind};
+use crate::asking::Rooms;
+use crate::draws::{Draws, draws_at, fallen, slot_word_of, slots_behind, want_behind};
 use crate::optional_commands::answers_optional;
-use crate::rooms::Rooms;
 use crate::shown::Shown;
 use crate::verdict::Want;
 use air_events::Event;
@@ -123,7 +123,7 @@ impl KnownTag {
             let most = Some(most);
             return (KnownTag { tag, most }, Shown::Explained);
         }
-        let first = first_word(draws_at(command), seen);
+        let first = slot_word_of(draws_at(command), seen);
         let number = seen.number();
         tag.give_words(&[first, number]);
         if !seen.is_some() && answers_optional(&tag, command) {

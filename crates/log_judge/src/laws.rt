@@ -6,7 +6,7 @@ ghost use Rattle.log_judge.specs.Explaining.{IsAllowed, Manner};
 ghost use Rattle.log_judge.specs.Verdicts.{IsVerdict, IsWanted, No, Profile, Verdict, Want, Yes};
 ghost use Rattle.log_judge.specs.laws.Logs.{Deed, IsLegalEntry, IsLegalHeard, IsLegalLog, log_made};
 ghost use Rattle.log_judge.specs.laws.Known.{Follows, Known, want_of};
-ghost use Rattle.log_judge.specs.laws.Standing.{StandsBehind};
+ghost use Rattle.log_judge.specs.laws.StandingLaws.{StandsBehind};
 
 /// A log has exactly one verdict.
 pub fn logs_have_one_verdict()

@@ -5,12 +5,12 @@
 #![tactic(auto)]
 
 mod answer;
+mod asking;
 mod draws;
 mod judge;
 mod known_tag;
 mod laws;
 mod optional_commands;
-mod rooms;
 mod shown;
 mod verdict;
 

@@ -6,7 +6,7 @@ ghost use Rattle.log_judge.specs.Answers.{seen_in};
 ghost use Rattle.log_judge.specs.Optional.{AnswersOptional, IsUndone, Undoes, answers_held, answers_now, is_header, takes_access, takes_half};
 
 use crate::answer::Answer;
-use crate::rooms::Rooms;
+use crate::asking::Rooms;
 use bit_strings::Pointer;
 use command_grammar::{Bank, BlockWords, Command};
 use reply_grammar::Reply;

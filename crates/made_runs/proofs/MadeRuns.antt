@@ -4,9 +4,9 @@ use Rattle.std.proofs.Common.{◌≡◌, ◌==◌, ℕ, zero, suc, Bool, true, f
 use Rattle.std.proofs.lemmas.Bool.{and_parts}
 use Rattle.std.proofs.lemmas.List.{length-map}
 use Rattle.air_model.specs.Past.{Item, befell, exchanged, operated, ended}
-use Rattle.runs.specs.ScenarioStart.{history, start_of, scenario_tag}
+use Rattle.runs.specs.ScenarioHistory.{history, start_of, scenario_tag}
 use Rattle.runs.specs.Summary.{is_quiet, all_quiet}
-use Rattle.runs.specs.Complete.{HasNumber}
+use Rattle.runs.specs.CompleteRound.{HasNumber}
 use Rattle.runs.specs.EveryTag.{AllTakePart, HaveOwnEpcs}
 use Rattle.runs.specs.MomentsOfRound.{Ending, ending_of}
 use Rattle.made_runs.specs.Made.{made_scenario, made_round, made_tag, numbers_below}

@@ -7,7 +7,7 @@ use Rattle.wave_dump.specs.DumpValue.{DrawingValue}
 use Rattle.wave_dump.specs.Waves.{new_dump}
 use Rattle.report_lines.specs.ModeLines.{keeps, kept_line_text, kept_text, line_text_of}
 use Rattle.report_lines.specs.ReportLine.{ReportLine, text_by}
-use Rattle.report_lines.specs.ModeReport.{drawing_after, drawn_line, drawn_text, line_of_mode, mode_behind, new_spelling, text_in, SpellingValue}
+use Rattle.report_lines.specs.ModeSpelling.{drawing_after, drawn_line, drawn_text, line_of_mode, mode_behind, new_spelling, text_in, SpellingValue}
 use Rattle.report_lines.specs.TextReport.{text_from}
 use Rattle.report_lines.specs.declared.mode.Mode.{Mode}
 use Rattle.report_lines.specs.declared.mode.Mode.TheVariants.{Vcd}

@@ -6,7 +6,7 @@ pub mod JsonObject
 pub mod Unescaped
 pub mod Names
 pub mod ModeLines
-pub mod ModeReport
+pub mod ModeSpelling
 pub mod TextReport
 pub mod SeenCounts
 pub mod Entries

@@ -4,7 +4,7 @@ ghost use Rattle.std.specs.String.{string_bytes};
 ghost use Rattle.report_lines.specs.ModeLines.{is_of_exchanges, is_of_trace, keeps};
 ghost use Rattle.report_lines.specs.Line.{line_of};
 ghost use Rattle.report_lines.specs.ReportLine.{ReportLine};
-ghost use Rattle.report_lines.specs.ModeReport.{drawing_after, drawn_line, new_spelling};
+ghost use Rattle.report_lines.specs.ModeSpelling.{drawing_after, drawn_line, new_spelling};
 
 use crate::json_writing::push_json_line;
 use crate::line::Line;
@@ -30,7 +30,7 @@ pub struct ModeSpelling {
 }
 
 impl Model for ModeSpelling {
-    ghost use Rattle.report_lines.specs.ModeReport.{SpellingValue};
+    ghost use Rattle.report_lines.specs.ModeSpelling.{SpellingValue};
 
     ghost Value = { SpellingValue };
 
@@ -53,7 +53,7 @@ impl ModeSpelling {
 }
 
 impl Spelling for ModeSpelling {
-    ghost use Rattle.report_lines.specs.ModeReport.{line_of_mode, mode_behind};
+    ghost use Rattle.report_lines.specs.ModeSpelling.{line_of_mode, mode_behind};
 
     ghost text_of = { line_of_mode };
 

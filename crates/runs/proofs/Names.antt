@@ -66,7 +66,7 @@ pub use Rattle.report_lines.specs.ReportLine.{DoneLine, ExchangeLine, GivenLine,
 pub use Rattle.report_lines.specs.SeenCounts.{SeenCount, distinct, seen_counts}
 pub use Rattle.report_lines.specs.declared.mode.Mode.{Mode}
 pub use Rattle.report_lines.specs.declared.mode.Mode.TheVariants.{Exchanges, Trace, Vcd}
-pub use Rattle.runs.specs.Complete.{CompleteInventory, EndsByLimit, HasNumber, IsMatchedTag, IsQuietComplete, ListsNoTagTwice, StepsFlags}
+pub use Rattle.runs.specs.CompleteRound.{CompleteInventory, EndsByLimit, HasNumber, IsMatchedTag, IsQuietComplete, ListsNoTagTwice, StepsFlags}
 pub use Rattle.runs.specs.CountedTags.{CountedRound, is_spoken_to, tags_spoken_to}
 pub use Rattle.runs.specs.EventsAndRecords.{IsConcluded, events_and_records_of}
 pub use Rattle.runs.specs.EveryTag.{AllTakePart, HaveOwnEpcs, ListsEveryTag, pairs_listed}
@@ -82,13 +82,13 @@ pub use Rattle.runs.specs.Listing.{Listed, listed_by, listed_from, listing_of, r
 pub use Rattle.runs.specs.MomentsOfRound.{Ending, begins_later_slot, ending_of, flags_after_query, flags_behind, is_matched_in, is_query, is_query_of, past_after_query, tag_after_query}
 pub use Rattle.runs.specs.NextItem.{GrowsByNext, dialogue_behind_exchange, dialogue_behind_record, dialogue_behind_result, dialogue_left, expectation_of, finished_in, item_by_rule, item_in_round}
 pub use Rattle.runs.specs.NextItem.{item_of_slots, item_of_step, next_item, outcomes_of_round, reception_of_slot, results_behind_exchange, results_told_in, rn_of, rn_received}
-pub use Rattle.runs.specs.Portals.{ArePortalsIndependent, AreTurns, IsOfPortals, alone, is_round_of, lines_told, other_portal, portals_told, specs_of}
+pub use Rattle.runs.specs.PortalHistories.{ArePortalsIndependent, AreTurns, IsOfPortals, alone, is_round_of, lines_told, other_portal, portals_told, specs_of}
 pub use Rattle.runs.specs.Recounts.{AreInTurn, HoldsOfEach, IsFresh, IsListedBySound, IsRecount, IsSound, IsThere, MayTakePart, Recount, enough_from_any, enough_from_fresh, history_with}
 pub use Rattle.runs.specs.Recounts.{is_inventoried_in, other_side, round_behind, steps_with, tag_where, unsound_from}
 pub use Rattle.runs.specs.Report.{exchange_lines, first_lines, item_lines, last_lines, list_line, past_lines, report_of, run_lines, tag_lines}
 pub use Rattle.runs.specs.RoundsTold.{GoesByTags, IsBetweenRounds, IsPlain, first_round, pair_listed, pairs_listed_by, pairs_since, played_of, round_ended, rounds_told, senders_since, start_with}
 pub use Rattle.runs.specs.Said.{answer_line, exchanged_by}
-pub use Rattle.runs.specs.ScenarioStart.{history, scenario_tag, start_of}
+pub use Rattle.runs.specs.ScenarioHistory.{history, scenario_tag, start_of}
 pub use Rattle.runs.specs.TagAtEnd.{IsListedOnce, StandsAtEnd, StandsAtQuiet, is_acknowledged}
 pub use Rattle.runs.specs.TagInRound.{HasAnswered, IsAfterSlot, IsBeforeSlot, IsCounter, IsCounterBefore, IsToCome, IsUnlisted, KeepsBody, StandsAfterSlot, StandsBeforeSlot, flags_behind_query}
 pub use Rattle.runs.specs.TagInRound.{flags_closed, flags_in_round, is_acknowledged_by, is_matched, slot_answer_of}

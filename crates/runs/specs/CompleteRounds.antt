@@ -7,14 +7,14 @@ use Rattle.q_round.specs.SpecValue.{SpecValue}
 use Rattle.scenario.specs.declared.values.Scenario.{Scenario}
 use Rattle.scenario.specs.declared.values.Step.{Step}
 use Rattle.scenario.specs.declared.values.Step.TheVariants as steps
-use Rattle.runs.specs.Complete.{CompleteInventory, HasNumber}
+use Rattle.runs.specs.CompleteRound.{CompleteInventory, HasNumber}
 use Rattle.runs.specs.CountedTags.{CountedRound}
 use Rattle.runs.specs.Headline.{rounds_of}
 use Rattle.runs.specs.Honest.{IsHonest, IsApart}
 use Rattle.runs.specs.ListLines.{IsOfRepliesIn, IsEntryOf, entries_in}
 use Rattle.runs.specs.Listed.{tags_listed_in}
 use Rattle.runs.specs.Recounts.{IsFresh, IsListedBySound, IsRecount, IsThere, Recount, enough_from_any, enough_from_fresh, steps_with}
-use Rattle.runs.specs.ScenarioStart.{history, start_of}
+use Rattle.runs.specs.ScenarioHistory.{history, start_of}
 use Rattle.tag_machine.specs.TagValue.{TagValue}
 
 -- Which tags each honest round lists, and what it leaves of every tag. Rounds are numbered from 1 over the steps.

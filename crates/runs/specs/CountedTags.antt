@@ -3,7 +3,7 @@ use Rattle.std.specs.Prelude.{◌≡◌, ℕ, ◌+◌, ◌≤◌, ◌==◌, ◌&
 use Rattle.air_model.specs.Past.{Start, Record, Item, tag_behind}
 use Rattle.runs.specs.Headline.{IsRecordOf}
 use Rattle.runs.specs.Listing.{listed_by}
-use Rattle.runs.specs.Complete.{HasNumber, IsMatchedTag}
+use Rattle.runs.specs.CompleteRound.{HasNumber, IsMatchedTag}
 use Rattle.runs.specs.Listed.{sender_listed_by, tags_listed_in, tags_listed_in_slot, times, listed_as}
 use Rattle.runs.specs.MomentsOfRound.{Ending, ending_of, is_matched_in, tag_after_query, flags_behind, flags_after_query}
 use Rattle.runs.specs.TagInRound.{flags_in_round}

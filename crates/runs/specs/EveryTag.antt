@@ -2,7 +2,7 @@
 use Rattle.std.specs.Prelude.{◌≡◌, ℕ, true, List, length, map}
 use Rattle.air_model.specs.Past.{Start, Item}
 use Rattle.runs.specs.Listing.{listing_of}
-use Rattle.runs.specs.Complete.{HasNumber}
+use Rattle.runs.specs.CompleteRound.{HasNumber}
 use Rattle.q_round.specs.SpecValue.{SpecValue}
 use Rattle.report_lines.specs.SeenCounts.{distinct}
 use Rattle.session_flags.specs.Flags.{matches}

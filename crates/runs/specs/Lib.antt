@@ -1,6 +1,6 @@
 pub mod History
 pub mod Listing
-pub mod ScenarioStart
+pub mod ScenarioHistory
 pub mod Said
 pub mod Report
 pub mod Summary
@@ -11,7 +11,7 @@ pub mod Listed
 pub mod TagInRound
 pub mod MomentsOfRound
 pub mod TagAtEnd
-pub mod Complete
+pub mod CompleteRound
 pub mod CountedTags
 pub mod Honest
 pub mod EveryTag
@@ -19,5 +19,5 @@ pub mod ListLines
 pub mod CompleteRounds
 pub mod Recounts
 pub mod RoundsTold
-pub mod Portals
+pub mod PortalHistories
 pub mod laws

@@ -5,9 +5,9 @@ use Rattle.air_model.specs.Past.{Start, Record, Item, befell, exchanged, operate
 use Rattle.runs.specs.History.{history_of}
 use Rattle.runs.specs.Listing.{Listed, listed_by, listing_of}
 use Rattle.runs.specs.Said.{said_lines}
-use Rattle.runs.specs.ScenarioStart.{start_of}
+use Rattle.runs.specs.ScenarioHistory.{start_of}
 use Rattle.report_lines.specs.ModeLines.{keeps}
-use Rattle.report_lines.specs.ModeReport.{text_in}
+use Rattle.report_lines.specs.ModeSpelling.{text_in}
 use Rattle.report_lines.specs.declared.mode.Mode.{Mode}
 use Rattle.pie_line.specs.Link.{LinkValue, blf_of}
 use Rattle.report_lines.specs.ReportLine.{ReportLine, BlfLine, TxLine, RxLine, ListLine, OpLine, RoundLine, SeenLine, TagLine, DoneLine}

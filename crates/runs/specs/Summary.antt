@@ -2,7 +2,7 @@
 use Rattle.std.specs.Prelude.{ℕ, ◌+◌, Bool, true, false, ◌&&◌, List, [], ◌∷◌, length, map}
 use Rattle.air_model.specs.Past.{Start, Item, befell, exchanged, operated, ended}
 use Rattle.runs.specs.Listing.{listing_of}
-use Rattle.runs.specs.ScenarioStart.{start_of, history}
+use Rattle.runs.specs.ScenarioHistory.{start_of, history}
 use Rattle.runs.specs.declared.summary.Summary.{Summary}
 use Rattle.q_round.specs.declared.round.RoundEnd.{RoundEnd}
 use Rattle.q_round.specs.declared.round.RoundEnd.TheVariants as ends

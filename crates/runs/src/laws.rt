@@ -13,7 +13,7 @@ ghost use Rattle.runs.specs.Headline.{AreHeardAsListed, AreLegalSteps, Headline,
 ghost use Rattle.runs.specs.History.{history_of};
 ghost use Rattle.runs.specs.NextItem.{GrowsByNext, next_item, expectation_of};
 ghost use Rattle.runs.specs.Report.{report_of, report_text_of};
-ghost use Rattle.runs.specs.ScenarioStart.{history, start_of};
+ghost use Rattle.runs.specs.ScenarioHistory.{history, start_of};
 ghost use Rattle.report_lines.specs.declared.mode.Mode.{Mode};
 ghost use Rattle.reply_wire.specs.Codes.{table_of};
 ghost use Rattle.reply_grammar.specs.Reception.{reception_from};

@@ -1,6 +1,6 @@
 //! How often a population is to be read, so that every tag is counted although some rounds are spoiled.
 ghost use Rattle.std.specs.Prelude.{◌≡◌, ℕ, ◌≤◌, ◌++◌, length};
-ghost use Rattle.runs.specs.Complete.{HasNumber};
+ghost use Rattle.runs.specs.CompleteRound.{HasNumber};
 ghost use Rattle.runs.specs.Headline.{AreLegalSteps};
 ghost use Rattle.runs.specs.Recounts.{
   IsFresh,
@@ -12,7 +12,7 @@ ghost use Rattle.runs.specs.Recounts.{
   enough_from_fresh,
   steps_with,
 };
-ghost use Rattle.runs.specs.ScenarioStart.{start_of};
+ghost use Rattle.runs.specs.ScenarioHistory.{start_of};
 ghost use Rattle.scenario.specs.Limits.{IsScenario};
 ghost use Rattle.scenario.specs.declared.values.Scenario.{Scenario};
 ghost use Rattle.tag_machine.specs.TagValue.{TagValue};

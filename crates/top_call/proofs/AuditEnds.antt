@@ -4,10 +4,10 @@ use Rattle.std.proofs.lemmas.List.{length-map}
 use Rattle.std.proofs.lemmas.List.Elements.{All-head, All-tail}
 use Rattle.std.specs.Prelude.{All, IfSome}
 use Rattle.air_audit.specs.AuditedTrace.{IsAudited}
-use Rattle.air_audit.specs.Auditing.{AreAsGiven, GivesStream}
+use Rattle.air_audit.specs.AuditorStanding.{AreAsGiven, GivesStream}
 use Rattle.air_audit.specs.FirstRefusal.{IsAuditVerdict}
 use Rattle.air_audit.specs.OwnTraces.{HasNoEventStep}
-use Rattle.air_audit.specs.TraceBehind.{trace_part}
+use Rattle.air_audit.specs.ScenarioAndTrace.{trace_part}
 use Rattle.air_audit.specs.VerdictText.{verdict_line}
 use Rattle.air_audit.specs.declared.verdict.Verdict.{Verdict}
 use Rattle.air_events.specs.Entries.{entry_at}
@@ -18,14 +18,14 @@ use Rattle.air_model.specs.Past.{Start}
 use Rattle.air_world.proofs.Beginning.{scenario-few, scenario-names}
 use Rattle.report_lines.specs.declared.mode.Mode.TheVariants.{Trace}
 use Rattle.runs.specs.Report.{report_text_of}
-use Rattle.runs.specs.ScenarioStart.{start_of, scenario_tag}
+use Rattle.runs.specs.ScenarioHistory.{start_of, scenario_tag}
 use Rattle.scenario.specs.Groups.{tags_of}
 use Rattle.scenario.specs.Limits.{IsEntry, IsScenario}
 use Rattle.scenario.specs.declared.values.Scenario.{Scenario}
 use Rattle.scenario_lines.specs.LineForm.{IsChoice}
 use Rattle.tag_machine.specs.TagValue.{TagValue}
-use Rattle.top_call.specs.words.Audited.{Audits, SaysEvent, SaysVerdict}
-use Rattle.top_call.specs.words.Reported.{IsOwnTrace, Reports}
+use Rattle.top_call.specs.words.Audit.{Audits, SaysEvent, SaysVerdict}
+use Rattle.top_call.specs.words.Run.{IsOwnTrace, Reports}
 use Rattle.top_call.proofs.RunEnds.{AreToldApart}
 
 -- what the law of verdicts says: no two verdicts on a trace are right

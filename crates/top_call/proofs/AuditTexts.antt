@@ -5,12 +5,12 @@ use Rattle.air_audit.specs.AuditedTrace.{IsAudited}
 use Rattle.air_audit.specs.FirstRefusal.{IsAuditVerdict}
 use Rattle.air_audit.specs.OwnTraces.{HasNoEventStep, IsToldByLines}
 use Rattle.air_audit.specs.ReceivedLists.{ListsWhatIsReceived}
-use Rattle.air_audit.specs.TraceBehind.{scenario_part, trace_part}
+use Rattle.air_audit.specs.ScenarioAndTrace.{scenario_part, trace_part}
 use Rattle.air_audit.specs.VerdictText.{event_line, verdict_line}
 use Rattle.air_audit.specs.declared.verdict.Verdict.{Verdict}
 use Rattle.air_audit.specs.declared.verdict.Verdict.TheVariants.{Yes, No}
 use Rattle.air_model.specs.Past.{Start, Item, tags_behind, tags_behind_from}
-use Rattle.runs.specs.ScenarioStart.{history, start_of}
+use Rattle.runs.specs.ScenarioHistory.{history, start_of}
 use Rattle.scenario.specs.Limits.{IsScenario}
 use Rattle.scenario.specs.ScenarioText.{IsScenarioText, scenario_text}
 use Rattle.scenario.specs.declared.values.Scenario.{Scenario}
@@ -18,7 +18,7 @@ use Rattle.scenario.specs.declared.values.Step.{Step}
 use Rattle.scenario.specs.declared.values.Step.TheVariants as steps
 use Rattle.tag_machine.specs.TagsInExchange.{AreLegalTags}
 use Rattle.tag_machine.specs.TagValue.{TagValue}
-use Rattle.top_call.specs.words.Audited.{Audits, SaysReceived}
+use Rattle.top_call.specs.words.Audit.{Audits, SaysReceived}
 use Rattle.top_call.proofs.RunEnds.{AreToldApart}
 
 -- the laws of traces and of scenarios that the promise goes by

@@ -8,7 +8,7 @@ use Rattle.bench_lines.specs.VerdictLine.{line_of_verdict}
 use Rattle.log_judge.specs.Log.{AreDrawn, LogEntry, LoggedTag, tag_with}
 use Rattle.log_judge.specs.Verdicts.{IsVerdict, Verdict, Yes}
 use Rattle.log_judge.specs.laws.Logs.{Deed, log_made}
-use Rattle.top_call.specs.words.Judged.{IsSomeLog, TellsVerdict, SaysYesOfTags}
+use Rattle.top_call.specs.words.Judge.{IsSomeLog, TellsVerdict, SaysYesOfTags}
 
 -- what the laws of logs say: a log that bytes say has one verdict,
 abbrev pub HasOneVerdict : Type 0

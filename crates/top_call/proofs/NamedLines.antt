@@ -11,7 +11,7 @@ use Rattle.top_call.specs.StatusMeanings.{AddsFront}
 use Rattle.top_call.specs.UnwrittenBytes.{WritesWaiting, Loses}
 use Rattle.text_fields.specs.FaultLine.{fault_line}
 use Rattle.checked_lines.specs.FaultWords.{reason_word}
-use Rattle.top_call.specs.words.Named.{IsOfLines, AddsNames, IsCutAt, RefusesCutLine}
+use Rattle.top_call.specs.words.Names.{IsOfLines, AddsNames, IsCutAt, RefusesCutLine}
 use Rattle.checked_lines.specs.declared.fault.FaultReason.TheVariants.{End}
 use Rattle.text_fields.proofs.LineLaws.{some_line}
 use Rattle.text_fields.proofs.ListLaws.{flat_map_push, zip_push}

@@ -8,12 +8,12 @@ use Rattle.report_lines.specs.declared.mode.Mode.{Mode}
 use Rattle.report_lines.specs.declared.mode.Mode.TheVariants.{Exchanges}
 use Rattle.top_call.specs.Job.{Job, Defines, IsLawful}
 use Rattle.top_call.specs.StatusMeanings.{EndsSo, NothingFailed, ReadsWithin, SinkChange, SourceChange, TakesInput, Tells, WritesWhole, status_of}
-use Rattle.top_call.specs.words.Audited.{audit_job}
-use Rattle.top_call.specs.words.Decoded.{decode_job}
-use Rattle.top_call.specs.words.Judged.{judge_job}
+use Rattle.top_call.specs.words.Audit.{audit_job}
+use Rattle.top_call.specs.words.Decode.{decode_job}
+use Rattle.top_call.specs.words.Judge.{judge_job}
 use Rattle.top_call.specs.words.Objects.{objects_job, objects_of_job, plain_job}
-use Rattle.top_call.specs.words.Probed.{probe_job}
-use Rattle.top_call.specs.words.Reported.{run_job}
+use Rattle.top_call.specs.words.Probe.{probe_job}
+use Rattle.top_call.specs.words.Run.{run_job}
 use Rattle.top_call.specs.declared.ending.Wrote.{Wrote}
 use Rattle.top_call.specs.declared.ending.Wrote.TheVariants.{Text, FaultLine}
 use Rattle.top_call.specs.declared.ending.WriteEnd.{WriteEnd}

@@ -3,7 +3,7 @@ use Rattle.std.proofs.Common.{◌≡◌, ◌⊎◌, inl, inr, ℕ, List, Option,
 use Rattle.std.specs.Prelude.{All, true}
 use Rattle.top_call.specs.PortalFault.{portal_fault}
 use Rattle.top_call.specs.PortalText.{portals_text}
-use Rattle.runs.specs.Portals.{ArePortalsIndependent, IsOfPortals, portals_told}
+use Rattle.runs.specs.PortalHistories.{ArePortalsIndependent, IsOfPortals, portals_told}
 use Rattle.scenario.specs.declared.values.Scenario.{Scenario}
 use Rattle.scenario.specs.Limits.{IsScenario}
 use Rattle.scenario.specs.ScenarioText.{IsScenarioText, scenario_text}
@@ -12,8 +12,8 @@ use Rattle.checked_lines.specs.FaultWords.{reason_word}
 use Rattle.scenario.specs.Faults.{IsFirstScenarioFault}
 use Rattle.text_fields.specs.FaultLine.{fault_line}
 use Rattle.top_call.specs.Job.{Defines}
-use Rattle.top_call.specs.words.Compared.{Compares, IsPortalsText, ProvesPortals, RefusesPortal, RefusesPortals, portals_job}
-use Rattle.top_call.specs.words.Reported.{RefusesScenario}
+use Rattle.top_call.specs.words.Portals.{Compares, IsPortalsText, ProvesPortals, RefusesPortal, RefusesPortals, portals_job}
+use Rattle.top_call.specs.words.Run.{RefusesScenario}
 use Rattle.top_call.proofs.RunEnds.{AreNotFaulty, AreToldApart, HasOneFault, same_refusal, text_not_refused}
 
 -- two numbers of one fault

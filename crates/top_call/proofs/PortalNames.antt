@@ -10,7 +10,7 @@ pub use Rattle.pie_line.specs.Link.{LinkValue}
 pub use Rattle.top_call.specs.PortalFault.{captures, first_refused, head_length, lines_of_steps, portal_fault}
 pub use Rattle.top_call.specs.PortalText.{portal_line_text}
 pub use Rattle.q_round.specs.SpecValue.{SpecValue}
-pub use Rattle.runs.specs.Portals.{AreTurns, IsOfPortals, other_portal, specs_of}
+pub use Rattle.runs.specs.PortalHistories.{AreTurns, IsOfPortals, other_portal, specs_of}
 pub use Rattle.scenario.proofs.Groups.{count_copies}
 pub use Rattle.scenario.specs.EntryLines.{air_lines, entry_lines}
 pub use Rattle.scenario.specs.Groups.{copies_of, tags_of}

@@ -15,7 +15,7 @@ use Rattle.top_call.specs.StatusMeanings.{AddsFront, EndsSo, SinkChange}
 use Rattle.top_call.specs.declared.ending.Wrote.{Wrote}
 use Rattle.top_call.specs.declared.ending.Wrote.TheVariants.{Text}
 use Rattle.top_call.specs.declared.ending.WriteEnd.{WriteEnd}
-use Rattle.top_call.specs.words.Probed.{RefusesProbe, TellsProbe, probe_job}
+use Rattle.top_call.specs.words.Probe.{RefusesProbe, TellsProbe, probe_job}
 
 -- what the laws of probes say: bytes are the text of one probe,
 abbrev pub AreToldApart : Type 0

@@ -10,7 +10,7 @@ use Rattle.checked_lines.specs.FaultWords.{reason_word}
 use Rattle.text_fields.specs.FaultLine.{fault_line}
 use Rattle.report_lines.specs.declared.mode.Mode.{Mode}
 use Rattle.runs.specs.Report.{report_text_of}
-use Rattle.top_call.specs.words.Reported.{Reports, RefusesScenario}
+use Rattle.top_call.specs.words.Run.{Reports, RefusesScenario}
 use Rattle.top_call.specs.StatusMeanings.{AddsFront}
 
 -- what the laws of scenarios say: a text spells one scenario,

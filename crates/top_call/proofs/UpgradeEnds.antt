@@ -6,8 +6,8 @@ use Rattle.scenario.specs.declared.values.Scenario.{Scenario}
 use Rattle.scenario.specs.Limits.{IsScenario}
 use Rattle.scenario.specs.Upgraded.{upgraded}
 use Rattle.scenario.specs.ScenarioText.{scenario_text}
-use Rattle.top_call.specs.words.Reported.{Reports}
-use Rattle.top_call.specs.words.Upgraded.{Upgrades, ProvesUpgrade}
+use Rattle.top_call.specs.words.Run.{Reports}
+use Rattle.top_call.specs.words.Upgrade.{Upgrades, ProvesUpgrade}
 use Rattle.top_call.proofs.RunEnds.{AreToldApart}
 
 -- what the laws of upgraded scenarios say: they keep the limits,

@@ -6,17 +6,17 @@ use Rattle.top_call.specs.declared.forms.Form.{Form}
 use Rattle.top_call.specs.declared.forms.Form.TheVariants.{Decode, Encode, Run, Upgrade, Portals, Names, Probe, Judge, Audit, Objects, Gen, Help, Version}
 use Rattle.top_call.specs.declared.status.Status.{Status}
 use Rattle.top_call.specs.declared.status.Status.TheVariants.{OutOfMemory}
-use Rattle.top_call.specs.words.Audited.{audit_job}
-use Rattle.top_call.specs.words.Decoded.{decode_job}
-use Rattle.top_call.specs.words.Encoded.{encode_job}
-use Rattle.top_call.specs.words.Reported.{run_job}
-use Rattle.top_call.specs.words.Upgraded.{upgrade_job}
-use Rattle.top_call.specs.words.Compared.{portals_job}
-use Rattle.top_call.specs.words.Named.{names_job}
-use Rattle.top_call.specs.words.Probed.{probe_job}
-use Rattle.top_call.specs.words.Judged.{judge_job}
+use Rattle.top_call.specs.words.Audit.{audit_job}
+use Rattle.top_call.specs.words.Decode.{decode_job}
+use Rattle.top_call.specs.words.Encode.{encode_job}
+use Rattle.top_call.specs.words.Run.{run_job}
+use Rattle.top_call.specs.words.Upgrade.{upgrade_job}
+use Rattle.top_call.specs.words.Portals.{portals_job}
+use Rattle.top_call.specs.words.Names.{names_job}
+use Rattle.top_call.specs.words.Probe.{probe_job}
+use Rattle.top_call.specs.words.Judge.{judge_job}
 use Rattle.top_call.specs.words.Objects.{objects_job}
-use Rattle.top_call.specs.words.Generated.{gen_job}
+use Rattle.top_call.specs.words.Generate.{gen_job}
 use Rattle.top_call.specs.words.OwnTexts.{text_job}
 use Rattle.top_call.specs.HelpAndVersion.{help_text, version_text}
 
@@ -37,7 +37,7 @@ job_of Help = text_job help_text
 job_of Version = text_job version_text
 
 -- How the words of a form are answered, where the last two say that the source and the sink are untouched.
-pub record Answers (form : Form) (source : SourceChange) (sink : SinkChange) (unread untouched : Type 0) (status : Status) : Type 0 where
+pub record AnswersForm (form : Form) (source : SourceChange) (sink : SinkChange) (unread untouched : Type 0) (status : Status) : Type 0 where
   -- what the status says of the words' job
   pub tells : Tells (job_of form) source sink untouched status
   -- words that have no input read nothing, and no status comes that speaks of one

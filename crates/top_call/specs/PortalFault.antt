@@ -3,7 +3,7 @@ use Rattle.std.specs.Prelude.{ℕ, ◌+◌, ◌==◌, not, Bool, true, false, Li
 use Rattle.std.specs.List.{flat_map}
 use Rattle.air_events.specs.declared.Several.{Several}
 use Rattle.air_events.specs.declared.Several.TheVariants as severals
-use Rattle.runs.specs.Portals.{other_portal}
+use Rattle.runs.specs.PortalHistories.{other_portal}
 use Rattle.scenario.specs.ScenarioText.{scenario_lines, step_lines}
 use Rattle.scenario.specs.declared.values.Scenario.{Scenario}
 use Rattle.scenario.specs.declared.values.Step.{Step}

@@ -1,13 +1,13 @@
 -- What each word of the command line does.
-pub mod Audited
-pub mod Decoded
-pub mod Encoded
-pub mod Reported
-pub mod Named
-pub mod Probed
-pub mod Judged
-pub mod Generated
+pub mod Audit
+pub mod Decode
+pub mod Encode
+pub mod Run
+pub mod Names
+pub mod Probe
+pub mod Judge
+pub mod Generate
 pub mod OwnTexts
-pub mod Upgraded
+pub mod Upgrade
 pub mod Objects
-pub mod Compared
+pub mod Portals

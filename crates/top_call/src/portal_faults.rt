@@ -1,7 +1,7 @@
 //! Which line of a scenario none of two portals has.
 ghost use Rattle.std.specs.Prelude.{◌≡◌, ◌+◌, ◌<◌, ◌^◌, None, length};
 ghost use Rattle.top_call.specs.PortalFault.{first_refused, head_length, lines_of_steps, portal_fault};
-ghost use Rattle.runs.specs.Portals.{IsOfPortals, other_portal};
+ghost use Rattle.runs.specs.PortalHistories.{IsOfPortals, other_portal};
 ghost use Rattle.scenario.specs.Limits.{IsScenario};
 ghost use Rattle.scenario.specs.declared.values.Scenario.{Scenario as ScenarioValue};
 ghost use Rattle.scenario_lines.specs.declared.version.Version.{Version as ScenarioVersion};

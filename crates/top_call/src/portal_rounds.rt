@@ -1,6 +1,6 @@
 //! The parameters of the rounds of two portals.
 ghost use Rattle.std.specs.Prelude.{◌≡◌, IfOk};
-ghost use Rattle.runs.specs.Portals.{specs_of};
+ghost use Rattle.runs.specs.PortalHistories.{specs_of};
 
 use bit_strings::OutOfMemory;
 use q_round::RoundSpec;

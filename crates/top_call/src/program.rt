@@ -3,10 +3,10 @@ ghost use Rattle.std.specs.Prelude.{◌≡◌, ◌≢◌, true, false, ◌<◌, 
 ghost use Rattle.air_io.specs.Flow.{FaultsRose};
 ghost use Rattle.top_call.specs.declared.forms.Form.{Form};
 ghost use Rattle.top_call.specs.Form.{texts, SpellForm, SpellSomeForm, IsForm};
-ghost use Rattle.top_call.specs.Jobs.{Answers, job_of};
+ghost use Rattle.top_call.specs.Jobs.{AnswersForm, job_of};
 ghost use Rattle.top_call.specs.StatusMeanings.{input_limit, WritesWhole, WritesFront, ReadsWithin, ReadsTooMuch, SpeaksOfNoInput, source_change, sink_change};
-ghost use Rattle.top_call.specs.words.Generated.{CountsEveryTag, gen_job};
-ghost use Rattle.top_call.specs.words.Reported.{IsOwnTrace, SaysHeadline, SaysInventory, run_job};
+ghost use Rattle.top_call.specs.words.Generate.{CountsEveryTag, gen_job};
+ghost use Rattle.top_call.specs.words.Run.{IsOwnTrace, SaysHeadline, SaysInventory, run_job};
 ghost use Rattle.report_lines.specs.declared.mode.Mode.{Mode};
 
 use crate::forms::{Form, form_of};
@@ -142,10 +142,10 @@ pub fn gen2run_surely(
     gen2run(alloc, words, input, output)
 }
 
-/// Answers the words of a form, and lets the sink hand on what it holds back of a whole text.
+/// AnswersForm the words of a form, and lets the sink hand on what it holds back of a whole text.
 fn answer<I: Source, O: Sink>(alloc: Global, form: Form, input: &mut I, output: &mut O) -> Status
     requires { IsForm form }
-    ensures { Answers form (source_change I.left I.faults input.old input.new)
+    ensures { AnswersForm form (source_change I.left I.faults input.old input.new)
         (sink_change O.written O.faults output.old output.new) (input.new ≡ input.old)
         (output.new ≡ output.old) result }
 {
@@ -176,7 +176,7 @@ fn write_answer<I: Source, O: Sink>(
     output: &mut O,
 ) -> Status
     requires { IsForm form }
-    ensures { Answers form (source_change I.left I.faults input.old input.new)
+    ensures { AnswersForm form (source_change I.left I.faults input.old input.new)
         (sink_change O.written O.faults output.old output.new) (input.new ≡ input.old)
         (output.new ≡ output.old) result }
 {

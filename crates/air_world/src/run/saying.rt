@@ -2,7 +2,7 @@
 ghost use Rattle.std.specs.Prelude.{◌≡◌, ℕ, ◌≤◌, List, [], ◌∷◌, Some, length, map, slice_get};
 ghost use Rattle.air_model.specs.Past.{Record};
 ghost use Rattle.air_world.specs.Saying.{AnswersCommand, AreOfDifferentTags, AreShort, IsBehind};
-ghost use Rattle.air_world.specs.Telling.{Tells};
+ghost use Rattle.air_world.specs.Telling.{IsToldWhole};
 ghost use Rattle.pie_line.specs.Link.{LinkValue};
 ghost use Rattle.reply_grammar.specs.Replies.{longest_reply};
 ghost use Rattle.report_lines.specs.ReportLine.{ExchangeLine, GivenLine, MissedLine};
@@ -34,7 +34,7 @@ fn read(command: &Command, answer: &[bool], bits: &mut Bits) -> Reply
     reply_to(command, bits)
 }
 
-/// Tells what each tag answered, in the order of their numbers.
+/// IsToldWhole what each tag answered, in the order of their numbers.
 fn tell_answers<R: Listener>(
     answers: &Answers,
     exchange: u64,
@@ -47,7 +47,7 @@ fn tell_answers<R: Listener>(
     ensures room { bits.new.capacity ≡ bits.old.capacity }
     ensures told { (replies : List Replied) → answers.now.items ≡ answers_of replies
         → AreReplies (AnswersCommand command.now) replies
-        → Tells R.hears (map (answer_line exchange) replies) report.old report.new }
+        → IsToldWhole R.hears (map (answer_line exchange) replies) report.old report.new }
 {
     for place in 0..answers.len() {
         let Some(answer) = answers.get(place) else {
@@ -101,7 +101,7 @@ fn gave_of(air: &Air, got: Got, command: &Command, bits: &mut Bits) -> Gave
     }
 }
 
-/// Tells who said what in the last exchange of an air, to a listener that wants it: the command, which tags missed it, what each tag
+/// IsToldWhole who said what in the last exchange of an air, to a listener that wants it: the command, which tags missed it, what each tag
 /// answered, and what the channel gave.
 pub(crate) fn tell_said<R: Listener>(
     air: &Air,
@@ -117,7 +117,7 @@ pub(crate) fn tell_said<R: Listener>(
     ensures room { bits.new.capacity ≡ bits.old.capacity }
     ensures told { (link : LinkValue) (sent : Record)
         → IsBehind link sent air.now got → exchange ≡ sent.exchange → command.now ≡ sent.command
-        → entry.now ≡ sent.entry → Tells R.hears (said_lines link sent) report.old report.new }
+        → entry.now ≡ sent.entry → IsToldWhole R.hears (said_lines link sent) report.old report.new }
 {
     if !report.wants_exchanges() {
         return;
@@ -141,11 +141,11 @@ pub(crate) fn tell_said<R: Listener>(
     }));
 }
 
-/// Tells of the waves of the last exchange of an air, to a listener that wants them: the frame that was sent, and the stream that came.
+/// IsToldWhole of the waves of the last exchange of an air, to a listener that wants them: the frame that was sent, and the stream that came.
 pub(crate) fn tell_waves<R: Listener>(air: &Air, exchange: u64, report: &mut R)
     ensures { (got : Got) (link : LinkValue) (sent : Record)
         → IsBehind link sent air.now got → exchange ≡ sent.exchange
-        → Tells R.hears (wave_lines link sent) report.old report.new }
+        → IsToldWhole R.hears (wave_lines link sent) report.old report.new }
 {
     if !report.wants_frames() {
         return;

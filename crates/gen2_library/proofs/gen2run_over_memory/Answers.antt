@@ -13,8 +13,8 @@ use Rattle.top_call.specs.declared.forms.Form.{Form}
 use Rattle.top_call.specs.declared.forms.Form.TheVariants.{Run, Gen}
 use Rattle.top_call.specs.declared.status.Status.{Status}
 use Rattle.top_call.specs.declared.status.Status.TheVariants.{Done, BadWords, BadInput, ReadFault, WriteFault, TooLong, OutOfMemory}
-use Rattle.top_call.specs.words.Generated.{CountsEveryTag}
-use Rattle.top_call.specs.words.Reported.{SaysHeadline, SaysInventory}
+use Rattle.top_call.specs.words.Generate.{CountsEveryTag}
+use Rattle.top_call.specs.words.Run.{SaysHeadline, SaysInventory}
 use Rattle.gen2_library.proofs.gen2run_over_memory.Goals as goal
 
 abbrev call_of : goal.After-drop-words-2 → Call

@@ -5,11 +5,11 @@ use Rattle.line_objects.specs.declared.line_members.LineSet.{LineSet}
 use Rattle.line_objects.specs.declared.line_members.LineSet.TheVariants as sets
 use Rattle.report_lines.specs.declared.mode.Mode.TheVariants.{Exchanges}
 use Rattle.top_call.specs.Job.{Job}
-use Rattle.top_call.specs.words.Audited.{audit_job}
-use Rattle.top_call.specs.words.Decoded.{decode_job}
-use Rattle.top_call.specs.words.Judged.{judge_job}
-use Rattle.top_call.specs.words.Probed.{probe_job}
-use Rattle.top_call.specs.words.Reported.{run_job}
+use Rattle.top_call.specs.words.Audit.{audit_job}
+use Rattle.top_call.specs.words.Decode.{decode_job}
+use Rattle.top_call.specs.words.Judge.{judge_job}
+use Rattle.top_call.specs.words.Probe.{probe_job}
+use Rattle.top_call.specs.words.Run.{run_job}
 
 -- the word whose lines these are
 abbrev pub plain_job : LineSet → Job

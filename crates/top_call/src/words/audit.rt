@@ -3,7 +3,7 @@ ghost use Rattle.std.specs.Prelude.{◌≡◌, ◌≤◌, ◌⊎◌, ℕ, List, 
 ghost use Rattle.scenario.specs.Limits.{IsScenario};
 ghost use Rattle.top_call.specs.Job.{Defines, IsLawful};
 ghost use Rattle.top_call.specs.StatusMeanings.{EndsSo, input_limit, sink_change};
-ghost use Rattle.top_call.specs.words.Audited.{SaysEvent, SaysVerdict, audit_job};
+ghost use Rattle.top_call.specs.words.Audit.{SaysEvent, SaysVerdict, audit_job};
 
 use crate::ending::{WriteEnd, Wrote, write_text};
 use crate::words::refusal::write_refusal;

@@ -4,7 +4,7 @@ ghost use Rattle.std.specs.String.{string_bytes};
 ghost use Rattle.decode_lines.specs.DecodeLines.{Decodes, IsFirstDecodeFault};
 ghost use Rattle.top_call.specs.Job.{IsLawful};
 ghost use Rattle.top_call.specs.StatusMeanings.{EndsSo, Tells, source_change, sink_change};
-ghost use Rattle.top_call.specs.words.Decoded.{decode_job};
+ghost use Rattle.top_call.specs.words.Decode.{decode_job};
 
 use crate::ending::{MOST_INPUT_BYTES, WriteEnd, Wrote, status_of, unread_status, write_text};
 use crate::status::Status;

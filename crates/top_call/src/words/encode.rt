@@ -7,7 +7,7 @@ ghost use Rattle.encode_lines.specs.declared.request.Request.{Request};
 ghost use Rattle.top_call.specs.Job.{IsLawful};
 ghost use Rattle.top_call.specs.StatusMeanings.{input_limit, EndsSo, sink_change};
 ghost use Rattle.top_call.specs.UnwrittenBytes.{WritesWaiting, Loses};
-ghost use Rattle.top_call.specs.words.Encoded.{encode_job};
+ghost use Rattle.top_call.specs.words.Encode.{encode_job};
 
 use crate::ending::{WriteEnd, Wrote, write_text};
 use crate::words::page::Page;

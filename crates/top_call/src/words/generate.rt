@@ -2,7 +2,7 @@
 ghost use Rattle.std.specs.Prelude.{◌≡◌, ◌+◌, ◌≤◌, ℕ, List, [], ◌∷◌, ◌++◌, length};
 ghost use Rattle.std.specs.Fmt.{decimal};
 ghost use Rattle.top_call.specs.Job.{IsLawful};
-ghost use Rattle.top_call.specs.words.Generated.{end_line, summary_text, gen_job};
+ghost use Rattle.top_call.specs.words.Generate.{end_line, summary_text, gen_job};
 ghost use Rattle.top_call.specs.StatusMeanings.{EndsSo, sink_change};
 ghost use Rattle.made_runs.specs.Made.{most_made_tags};
 ghost use Rattle.text_fields.specs.Lines.{line_feed};

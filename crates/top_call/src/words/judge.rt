@@ -2,7 +2,7 @@
 ghost use Rattle.std.specs.Prelude.{◌≡◌, ◌⊎◌, ℕ, List};
 ghost use Rattle.top_call.specs.Job.{Defines, IsLawful};
 ghost use Rattle.top_call.specs.StatusMeanings.{EndsSo, sink_change};
-ghost use Rattle.top_call.specs.words.Judged.{judge_job};
+ghost use Rattle.top_call.specs.words.Judge.{judge_job};
 
 use crate::ending::{WriteEnd, Wrote, write_text};
 use air_io::Sink;

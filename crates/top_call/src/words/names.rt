@@ -5,7 +5,7 @@ ghost use Rattle.text_fields.specs.Lines.{line_feed, text_with};
 ghost use Rattle.report_lines.specs.Names.{BecomesLines};
 ghost use Rattle.epc_sgtin.specs.SgtinText.{name_line};
 ghost use Rattle.top_call.specs.Job.{Defines, IsLawful};
-ghost use Rattle.top_call.specs.words.Named.{IsOfLines, IsCutAt, names_job};
+ghost use Rattle.top_call.specs.words.Names.{IsOfLines, IsCutAt, names_job};
 ghost use Rattle.top_call.specs.StatusMeanings.{input_limit, EndsSo, sink_change};
 ghost use Rattle.top_call.specs.UnwrittenBytes.{WritesWaiting, Loses};
 

@@ -3,11 +3,11 @@ ghost use Rattle.std.specs.Prelude.{◌≡◌, None, IfOk, ℕ, List};
 ghost use Rattle.std.specs.String.{string_bytes};
 ghost use Rattle.top_call.specs.PortalFault.{portal_fault};
 ghost use Rattle.top_call.specs.PortalText.{portals_text};
-ghost use Rattle.runs.specs.Portals.{portals_told};
+ghost use Rattle.runs.specs.PortalHistories.{portals_told};
 ghost use Rattle.scenario.specs.Limits.{IsScenario};
 ghost use Rattle.top_call.specs.Job.{Defines, IsLawful};
 ghost use Rattle.top_call.specs.StatusMeanings.{EndsSo, sink_change};
-ghost use Rattle.top_call.specs.words.Compared.{portals_job};
+ghost use Rattle.top_call.specs.words.Portals.{portals_job};
 
 use crate::ending::{WriteEnd, Wrote, write_text};
 use crate::portal_faults::{portal_fault, portal_scenarios};

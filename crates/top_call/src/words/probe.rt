@@ -2,7 +2,7 @@
 ghost use Rattle.std.specs.Prelude.{◌≡◌};
 ghost use Rattle.top_call.specs.Job.{IsLawful};
 ghost use Rattle.top_call.specs.StatusMeanings.{EndsSo, sink_change};
-ghost use Rattle.top_call.specs.words.Probed.{probe_job};
+ghost use Rattle.top_call.specs.words.Probe.{probe_job};
 
 use crate::ending::{WriteEnd, Wrote, write_text};
 use air_io::Sink;

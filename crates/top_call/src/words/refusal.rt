@@ -4,7 +4,7 @@ ghost use Rattle.scenario.specs.Faults.{IsRefused};
 ghost use Rattle.top_call.specs.declared.forms.Form.{Form};
 ghost use Rattle.top_call.specs.Jobs.{job_of};
 ghost use Rattle.top_call.specs.StatusMeanings.{EndsSo, sink_change};
-ghost use Rattle.top_call.specs.words.Reported.{RefusesScenario};
+ghost use Rattle.top_call.specs.words.Run.{RefusesScenario};
 
 use crate::ending::{WriteEnd, Wrote, write_text};
 use air_io::Sink;

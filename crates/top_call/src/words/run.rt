@@ -3,7 +3,7 @@ ghost use Rattle.std.specs.Prelude.{◌≡◌, ℕ, List};
 ghost use Rattle.report_lines.specs.declared.mode.Mode.{Mode};
 ghost use Rattle.top_call.specs.Job.{Defines, IsLawful};
 ghost use Rattle.top_call.specs.StatusMeanings.{EndsSo, sink_change};
-ghost use Rattle.top_call.specs.words.Reported.{run_job};
+ghost use Rattle.top_call.specs.words.Run.{run_job};
 
 use crate::ending::{WriteEnd, Wrote};
 use crate::words::refusal::write_refusal;

@@ -2,7 +2,7 @@
 ghost use Rattle.std.specs.Prelude.{◌≡◌, ◌≢◌, ◌≤◌, Err, length};
 ghost use Rattle.top_call.specs.declared.forms.Form.{Form};
 ghost use Rattle.top_call.specs.Form.{IsForm, ReadsFirst};
-ghost use Rattle.top_call.specs.Jobs.{Answers, job_of};
+ghost use Rattle.top_call.specs.Jobs.{AnswersForm, job_of};
 ghost use Rattle.top_call.specs.StatusMeanings.{EndsSo, input_limit, source_change, sink_change};
 
 use crate::ending::{MOST_INPUT_BYTES, WriteEnd, Wrote, status_of, unread_status};
@@ -25,7 +25,7 @@ pub fn answer<I: Source, O: Sink>(
 ) -> Status
     requires form { IsForm form }
     requires first { ReadsFirst form }
-    ensures { Answers form (source_change I.left I.faults input.old input.new)
+    ensures { AnswersForm form (source_change I.left I.faults input.old input.new)
         (sink_change O.written O.faults output.old output.new) (input.new ≡ input.old)
         (output.new ≡ output.old) result }
 {

@@ -1,5 +1,5 @@
 use Rattle.runs.proofs.PortalRounds.{new-at-start, rounds-of-portals}
-use Rattle.runs.specs.Portals.{portals_told, specs_of}
+use Rattle.runs.specs.PortalHistories.{portals_told, specs_of}
 use Rattle.std.specs.Global.{Vec}
 use Rattle.air_world.proofs.Names.{◌≡◌, ◌≤◌, List, ◌∷◌, length, sym, ap, ◌∙◌, subst, arith, [], All, SpecValue, played_of, start_of, Scenario, Step, IfOk-weaker, TagValue}
 use Rattle.scenario.specs.declared.values.Step.TheVariants as steps

@@ -1,8 +1,8 @@
 use Rattle.std.proofs.Common.{inl, inr}
 use Rattle.gen2_library.proofs.Over.{whole, front, too-long, fits, none-rose, completes, refuses, wrote-whole}
 use Rattle.top_call.specs.Jobs.{job_of}
-use Rattle.top_call.specs.words.Generated.{CountsEveryTag, gen_job}
-use Rattle.top_call.specs.words.Reported.{SaysHeadline, SaysInventory, run_job}
+use Rattle.top_call.specs.words.Generate.{CountsEveryTag, gen_job}
+use Rattle.top_call.specs.words.Run.{SaysHeadline, SaysInventory, run_job}
 use Rattle.gen2_library.proofs.call.run_over.Goals as goal
 
 pub returns-clause-done : goal.returns-clause-done

@@ -1,7 +1,7 @@
 use Rattle.std.proofs.Common.{◌≡◌, ◌∙◌, [], refl, arith}
 use Rattle.air_events.specs.declared.Several.TheVariants as severals
 use Rattle.runs.specs.Headline.{IsLegalRound}
-use Rattle.runs.specs.ScenarioStart.{start_of}
+use Rattle.runs.specs.ScenarioHistory.{start_of}
 use Rattle.made_runs.proofs.MadeRuns.{made-own-epcs, made-round-legal, made-tags-count, made-take-part, quiet-made}
 use Rattle.made_runs.proofs.laws.quiet_made_runs_list_every_tag.Goals as goal
 use Rattle.made_runs.specs.Made.{made_scenario, made_round}

@@ -1,4 +1,4 @@
-use Rattle.runs.specs.ScenarioStart.{start_of}
+use Rattle.runs.specs.ScenarioHistory.{start_of}
 use Rattle.runs.proofs.CompleteRound.{complete-inventory}
 use Rattle.runs.proofs.inventory.complete_inventory.Goals as goal
 

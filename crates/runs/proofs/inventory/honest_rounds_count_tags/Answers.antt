@@ -1,4 +1,4 @@
-use Rattle.runs.specs.ScenarioStart.{start_of}
+use Rattle.runs.specs.ScenarioHistory.{start_of}
 use Rattle.runs.proofs.CompleteRound.{counted-round}
 use Rattle.runs.proofs.inventory.honest_rounds_count_tags.Goals as goal
 

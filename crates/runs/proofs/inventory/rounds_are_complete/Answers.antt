@@ -1,4 +1,4 @@
-use Rattle.runs.specs.ScenarioStart.{history}
+use Rattle.runs.specs.ScenarioHistory.{history}
 use Rattle.runs.proofs.inventory.rounds_are_complete.Goals as goal
 
 pub returns : goal.returns

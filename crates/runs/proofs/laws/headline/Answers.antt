@@ -1,4 +1,4 @@
-use Rattle.runs.specs.ScenarioStart.{start_of}
+use Rattle.runs.specs.ScenarioHistory.{start_of}
 use Rattle.runs.proofs.HeadlineAll.{headline-holds}
 use Rattle.runs.proofs.HeadlineHeard.{heard-as-listed}
 use Rattle.runs.proofs.laws.headline.Goals as goal

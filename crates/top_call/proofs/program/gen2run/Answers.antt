@@ -2,8 +2,8 @@ use Rattle.std.proofs.Common.{◌≡◌, ap, refl}
 use Rattle.report_lines.specs.declared.mode.Mode.TheVariants.{Trace}
 use Rattle.top_call.specs.Jobs.{job_of}
 use Rattle.top_call.specs.declared.forms.Form.TheVariants.{Run, Gen}
-use Rattle.top_call.specs.words.Generated.{CountsEveryTag, gen_job}
-use Rattle.top_call.specs.words.Reported.{IsOwnTrace, SaysHeadline, SaysInventory, run_job}
+use Rattle.top_call.specs.words.Generate.{CountsEveryTag, gen_job}
+use Rattle.top_call.specs.words.Run.{IsOwnTrace, SaysHeadline, SaysInventory, run_job}
 use Rattle.top_call.proofs.Ends.{completes, keeps, passes_limit, reads_told, refuses, writes_told}
 use Rattle.top_call.proofs.program.gen2run.Goals as goal
 

@@ -1,5 +1,5 @@
-use Rattle.air_audit.specs.TraceBehind.{scenario_part}
-use Rattle.top_call.specs.words.Audited.{Audits}
+use Rattle.air_audit.specs.ScenarioAndTrace.{scenario_part}
+use Rattle.top_call.specs.words.Audit.{Audits}
 use Rattle.top_call.proofs.AuditTexts.{audited-text}
 use Rattle.top_call.proofs.RunEnds.{some_text}
 use Rattle.top_call.proofs.words.audit.audit_inputs_have_a_text.Goals as goal

@@ -1,4 +1,4 @@
-use Rattle.air_audit.specs.TraceBehind.{scenario_part}
+use Rattle.air_audit.specs.ScenarioAndTrace.{scenario_part}
 use Rattle.top_call.proofs.AuditEnds.{same-audit}
 use Rattle.top_call.proofs.AuditTexts.{received-said}
 use Rattle.top_call.proofs.RunEnds.{same_refusal, text_not_refused}

@@ -1,6 +1,6 @@
 use Rattle.std.proofs.Common.{◌≡◌, length, arith, subst}
 use Rattle.std.specs.Prelude.{vec_len}
-use Rattle.air_audit.specs.Auditing.{AreAsGiven}
+use Rattle.air_audit.specs.AuditorStanding.{AreAsGiven}
 use Rattle.tag_machine.specs.Hearing.{tag_value_of}
 use Rattle.top_call.proofs.AuditEnds.{given-tags}
 use Rattle.top_call.proofs.words.audit.audited_line.Goals as goal

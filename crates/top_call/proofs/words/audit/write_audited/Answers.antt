@@ -1,6 +1,6 @@
 -- The verdict on the trace, or the line of the first fault of the scenario.
 use Rattle.top_call.specs.declared.forms.Form.TheVariants.{Audit}
-use Rattle.top_call.specs.words.Audited.{audit_job}
+use Rattle.top_call.specs.words.Audit.{audit_job}
 use Rattle.top_call.proofs.Ends.{ends_so}
 use Rattle.top_call.proofs.words.audit.write_audited.Goals as goal
 

@@ -1,5 +1,5 @@
 -- The answers, or the line of the first fault.
-use Rattle.top_call.specs.words.Decoded.{decode_job}
+use Rattle.top_call.specs.words.Decode.{decode_job}
 use Rattle.top_call.proofs.Ends.{ends_so}
 use Rattle.top_call.proofs.words.decode.write_answered.Goals as goal
 

@@ -1,5 +1,5 @@
 -- The line of the first fault.
-use Rattle.top_call.specs.words.Encoded.{encode_job}
+use Rattle.top_call.specs.words.Encode.{encode_job}
 use Rattle.top_call.proofs.Ends.{ends_so}
 use Rattle.top_call.proofs.words.encode.write_encoded.Goals as goal
 

@@ -2,7 +2,7 @@
 use Rattle.std.proofs.Common.{ℕ, [], ◌++◌, ◌∙◌, Err, refl, rules, ap, subst}
 use Rattle.air_io.specs.Flow.{FaultsRose}
 use Rattle.top_call.specs.declared.ending.WriteEnd.TheVariants.{Fault, OutOfMemory}
-use Rattle.top_call.specs.words.Encoded.{encode_job}
+use Rattle.top_call.specs.words.Encode.{encode_job}
 use Rattle.top_call.proofs.Ends.{ends_early}
 use Rattle.top_call.proofs.EncodedLines.{encodes_all, encodes_more, encodes_none, front_of_lines, next_asks, unstarted}
 use Rattle.top_call.proofs.Waits.{sends_more, sends_none, sends_whole, loses_later, loses_last}

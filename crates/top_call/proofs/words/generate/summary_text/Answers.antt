@@ -1,6 +1,6 @@
 use Rattle.std.proofs.Common.{◌∷◌, ◌++◌, [], codes}
 use Rattle.std.specs.Fmt.{decimal}
-use Rattle.top_call.specs.words.Generated.{end_line}
+use Rattle.top_call.specs.words.Generate.{end_line}
 use Rattle.top_call.proofs.SummaryLines.{six_joined}
 use Rattle.top_call.proofs.words.generate.summary_text.Goals as goal
 

@@ -1,7 +1,7 @@
 -- The summary.
 use Rattle.std.proofs.Common.{◌∙◌, ap}
 use Rattle.runs.specs.Summary.{summary_of}
-use Rattle.top_call.specs.words.Generated.{gen_job, summary_text}
+use Rattle.top_call.specs.words.Generate.{gen_job, summary_text}
 use Rattle.top_call.proofs.Ends.{ends_so}
 use Rattle.top_call.proofs.words.generate.write_summary.Goals as goal
 

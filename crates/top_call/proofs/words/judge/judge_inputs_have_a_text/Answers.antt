@@ -9,7 +9,7 @@ use Rattle.log_judge.specs.Log.{LogEntry, LoggedTag}
 use Rattle.log_judge.specs.Verdicts.{Verdict}
 use Rattle.text_fields.specs.FaultLine.{fault_line}
 use Rattle.top_call.specs.Job.{Defines}
-use Rattle.top_call.specs.words.Judged.{judge_job}
+use Rattle.top_call.specs.words.Judge.{judge_job}
 use Rattle.top_call.proofs.words.judge.judge_inputs_have_a_text.Goals as goal
 
 -- each log has a verdict

@@ -2,7 +2,7 @@
 use Rattle.std.proofs.Common.{◌≡◌}
 use Rattle.bench_lines.specs.Answers.{verdict_in}
 use Rattle.bench_lines.specs.VerdictLine.{line_of_verdict}
-use Rattle.top_call.specs.words.Judged.{judge_job}
+use Rattle.top_call.specs.words.Judge.{judge_job}
 use Rattle.top_call.proofs.Ends.{ends_so}
 use Rattle.top_call.proofs.words.judge.write_judged.Goals as goal
 

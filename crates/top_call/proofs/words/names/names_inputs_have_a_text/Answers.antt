@@ -4,7 +4,7 @@ use Rattle.text_fields.specs.Lines.{lines_of}
 use Rattle.text_fields.specs.FaultLine.{fault_line}
 use Rattle.checked_lines.specs.FaultWords.{reason_word}
 use Rattle.top_call.specs.Job.{Defines}
-use Rattle.top_call.specs.words.Named.{IsCutAt, names_job}
+use Rattle.top_call.specs.words.Names.{IsCutAt, names_job}
 use Rattle.checked_lines.specs.declared.fault.FaultReason.TheVariants.{End}
 use Rattle.text_fields.proofs.LineLaws.{some_line}
 use Rattle.top_call.proofs.NamedLines.{BecomeSome, some_names}

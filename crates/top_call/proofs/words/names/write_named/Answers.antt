@@ -3,7 +3,7 @@ use Rattle.std.proofs.Common.{ℕ, ◌++◌, ◌∙◌, rules, subst}
 use Rattle.air_io.specs.Flow.{FaultsRose}
 use Rattle.text_fields.specs.Lines.{text_with}
 use Rattle.top_call.specs.declared.ending.WriteEnd.TheVariants.{Fault}
-use Rattle.top_call.specs.words.Named.{names_job}
+use Rattle.top_call.specs.words.Names.{names_job}
 use Rattle.top_call.proofs.Ends.{ends_early}
 use Rattle.top_call.proofs.Waits.{sends_more, sends_whole, loses_later, loses_last}
 use Rattle.top_call.proofs.NamedLines.{names_more, names_all, front_of_names}

@@ -1,5 +1,5 @@
 -- The fault line.
-use Rattle.top_call.specs.words.Named.{names_job}
+use Rattle.top_call.specs.words.Names.{names_job}
 use Rattle.top_call.proofs.Ends.{ends_so, no_memory_taken}
 use Rattle.top_call.proofs.words.names.write_with_names.Goals as goal
 

@@ -1,5 +1,5 @@
 use Rattle.top_call.specs.PortalText.{portals_text}
-use Rattle.runs.specs.Portals.{portals_told}
+use Rattle.runs.specs.PortalHistories.{portals_told}
 use Rattle.top_call.proofs.RunEnds.{same_of_scenario}
 use Rattle.top_call.proofs.PortalEnds.{portals_not_refused, proves_portals, same_refusals}
 use Rattle.top_call.proofs.words.portals.portals_are_lawful.Goals as goal

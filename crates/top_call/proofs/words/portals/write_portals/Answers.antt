@@ -1,7 +1,7 @@
 -- The lines of two portals, or the line of the first fault.
 use Rattle.std.proofs.Common.{◌∙◌, inl, sym}
 use Rattle.top_call.specs.declared.forms.Form.TheVariants.{Portals}
-use Rattle.top_call.specs.words.Compared.{portals_job}
+use Rattle.top_call.specs.words.Portals.{portals_job}
 use Rattle.top_call.proofs.PortalEnds.{portal_refused, portals_written}
 use Rattle.top_call.proofs.Ends.{ends_so}
 use Rattle.top_call.proofs.words.portals.write_portals.Goals as goal

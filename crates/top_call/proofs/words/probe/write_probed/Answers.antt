@@ -1,6 +1,6 @@
 -- What comes of the probe, or the line of the first fault.
 use Rattle.std.proofs.Common.{rules}
-use Rattle.top_call.specs.words.Probed.{probe_job}
+use Rattle.top_call.specs.words.Probe.{probe_job}
 use Rattle.top_call.proofs.ProbeEnds.{play_failed, played_whole}
 use Rattle.top_call.proofs.Ends.{ends_so}
 use Rattle.top_call.proofs.words.probe.write_probed.Goals as goal

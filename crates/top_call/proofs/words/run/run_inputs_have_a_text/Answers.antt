@@ -1,7 +1,7 @@
 -- The report of the scenario, or the line of the first fault.
 use Rattle.std.proofs.Common.{refl}
 use Rattle.runs.specs.Report.{report_text_of}
-use Rattle.top_call.specs.words.Reported.{Reports}
+use Rattle.top_call.specs.words.Run.{Reports}
 use Rattle.top_call.proofs.RunEnds.{some_text}
 use Rattle.top_call.proofs.words.run.run_inputs_have_a_text.Goals as goal
 

@@ -1,7 +1,7 @@
 use Rattle.std.proofs.Common.{subst}
 use Rattle.report_lines.specs.declared.mode.Mode.{Mode}
 use Rattle.runs.specs.Report.{report_text_of}
-use Rattle.top_call.specs.words.Reported.{Reports}
+use Rattle.top_call.specs.words.Run.{Reports}
 use Rattle.top_call.proofs.AuditEnds.{own_trace}
 use Rattle.top_call.proofs.RunEnds.{same_of_scenario, same_refusal, text_not_refused}
 use Rattle.top_call.proofs.words.run.run_is_lawful.Goals as goal

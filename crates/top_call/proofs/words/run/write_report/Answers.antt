@@ -1,7 +1,7 @@
 use Rattle.std.proofs.Common.{◌∙◌, Err, ap}
 use Rattle.std.proofs.lemmas.Result.{err_from_is_err_and}
 use Rattle.top_call.specs.declared.forms.Form.TheVariants.{Run}
-use Rattle.top_call.specs.words.Reported.{run_job}
+use Rattle.top_call.specs.words.Run.{run_job}
 use Rattle.top_call.proofs.Ends.{cut_off}
 use Rattle.top_call.proofs.RunEnds.{front_of_report}
 use Rattle.top_call.proofs.words.run.write_report.Goals as goal

@@ -2,7 +2,7 @@
 use Rattle.std.proofs.Common.{refl}
 use Rattle.scenario.specs.Upgraded.{upgraded}
 use Rattle.scenario.specs.ScenarioText.{scenario_text}
-use Rattle.top_call.specs.words.Upgraded.{Upgrades}
+use Rattle.top_call.specs.words.Upgrade.{Upgrades}
 use Rattle.top_call.proofs.RunEnds.{some_text}
 use Rattle.top_call.proofs.words.upgrade.upgrade_inputs_have_a_text.Goals as goal
 

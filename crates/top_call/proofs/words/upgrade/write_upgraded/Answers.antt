@@ -2,7 +2,7 @@
 use Rattle.std.proofs.Common.{◌∙◌, ap}
 use Rattle.scenario.specs.ScenarioText.{scenario_text}
 use Rattle.top_call.specs.declared.forms.Form.TheVariants.{Upgrade}
-use Rattle.top_call.specs.words.Upgraded.{upgrade_job}
+use Rattle.top_call.specs.words.Upgrade.{upgrade_job}
 use Rattle.top_call.proofs.Ends.{ends_so}
 use Rattle.top_call.proofs.words.upgrade.write_upgraded.Goals as goal
 

@@ -6,7 +6,7 @@ use Rattle.scenario.specs.Upgraded.{upgraded}
 use Rattle.scenario.specs.ScenarioText.{IsScenarioText, scenario_text}
 use Rattle.report_lines.specs.declared.mode.Mode.{Mode}
 use Rattle.top_call.specs.Job.{Job}
-use Rattle.top_call.specs.words.Reported.{Reports, RefusesScenario}
+use Rattle.top_call.specs.words.Run.{Reports, RefusesScenario}
 
 -- the text is that of the scenario that the bytes spell, in version 2
 pub record Upgrades (bytes text : List ℕ) : Type 0 where

@@ -4,7 +4,7 @@ use Rattle.tag_machine.specs.Step.{step}
 use Rattle.tag_machine.specs.declared.any_tag.Answered.TheVariants.{Silent}
 use Rattle.tag_machine.specs.laws.Replies.{expect_of}
 use Rattle.log_judge.proofs.HeardAnswers.{has_sent, seen_told, silence_told}
-use Rattle.log_judge.proofs.rooms.Rooms.hear.Goals as goal
+use Rattle.log_judge.proofs.asking.Rooms.hear.Goals as goal
 
 pub returns-then-eq-clause-answer : goal.returns-then-eq-clause-answer
 returns-then-eq-clause-answer g c =

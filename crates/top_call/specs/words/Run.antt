@@ -14,7 +14,7 @@ use Rattle.air_audit.specs.OwnTraces.{HasNoEventStep}
 use Rattle.runs.specs.CompleteRounds.{RoundsAreComplete}
 use Rattle.runs.specs.Headline.{Headline, AreHeardAsListed}
 use Rattle.runs.specs.Report.{report_of, report_text_of}
-use Rattle.runs.specs.ScenarioStart.{history, start_of}
+use Rattle.runs.specs.ScenarioHistory.{history, start_of}
 use Rattle.top_call.specs.Job.{Job}
 
 -- the text is the report of the scenario that the bytes spell

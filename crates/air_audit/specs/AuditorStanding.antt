@@ -19,7 +19,7 @@ use Rattle.report_lines.specs.ReportLine.{ReportLine, report_line_text}
 use Rattle.runs.specs.Listing.{Listed, listed_by}
 use Rattle.runs.specs.Report.{list_line}
 use Rattle.air_audit.specs.LineRefusals.{IsRefusedHere}
-use Rattle.air_audit.specs.Standing.{TraceStanding, begun, between, sending, listing, telling, ended, TraceGoesOn, place_in, record_of, told_line}
+use Rattle.air_audit.specs.TraceOrder.{TraceStanding, begun, between, sending, listing, telling, ended, TraceGoesOn, place_in, record_of, told_line}
 use Rattle.report_lines.specs.ReadLines.{text_of}
 use Rattle.air_audit.specs.TraceLines.{Sends}
 use Rattle.air_audit.specs.declared.auditor.Position.{Position}

@@ -6,7 +6,7 @@ use Rattle.tag_machine.specs.Step.{step}
 use Rattle.log_judge.specs.Explaining.{seen_answer_to}
 use Rattle.log_judge.specs.Optional.{IsUndone, Undoes}
 use Rattle.log_judge.proofs.Undone.{answers_some, erase_undone, write_undone}
-use Rattle.log_judge.proofs.rooms.Rooms.ask.Goals as goal
+use Rattle.log_judge.proofs.asking.Rooms.ask.Goals as goal
 
 pub hear_and_undo-requires : goal.hear_and_undo-requires
 hear_and_undo-requires g c =

@@ -4,7 +4,7 @@ use Rattle.log_judge.specs.Log.{LogEntry, LoggedTag, last_line}
 use Rattle.log_judge.specs.Explaining.{ByTables, WithLiberties}
 use Rattle.log_judge.specs.Verdicts.{IsVerdict, Verdict, Yes, Profile, No}
 use Rattle.log_judge.specs.laws.Known.{Known}
-use Rattle.log_judge.specs.laws.Standing.{StandsBehind}
+use Rattle.log_judge.specs.laws.StandingLaws.{StandsBehind}
 use Rattle.log_judge.specs.Answers.{want_in}
 use Rattle.log_judge.specs.declared.shown.Shown.{Shown}
 use Rattle.log_judge.specs.declared.shown.Shown.TheVariants as shown
@@ -22,7 +22,7 @@ Stands tag log known (Profile number want) = StandsBehind WithLiberties tag log 
 Stands tag log known (No number want) = Unit {0}
 
 -- The judge has heard this log of this tag.
-pub record HasHeard (tag : LoggedTag) (log : List LogEntry) (judge : JudgeValue) : Type 0 where
+pub record HearsEntry (tag : LoggedTag) (log : List LogEntry) (judge : JudgeValue) : Type 0 where
   pub line : judge.line ≡ last_line log
   pub verdict : IsVerdict tag log judge.verdict
   pub stands : Stands tag log judge.known judge.verdict

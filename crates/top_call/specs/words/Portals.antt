@@ -2,13 +2,13 @@
 use Rattle.std.specs.Prelude.{◌≡◌, ◌⊎◌, ℕ, true, List, All, None, Some, codes}
 use Rattle.top_call.specs.PortalFault.{portal_fault}
 use Rattle.top_call.specs.PortalText.{portals_text}
-use Rattle.runs.specs.Portals.{ArePortalsIndependent, portals_told}
+use Rattle.runs.specs.PortalHistories.{ArePortalsIndependent, portals_told}
 use Rattle.scenario.specs.declared.values.Scenario.{Scenario}
 use Rattle.scenario.specs.Limits.{IsScenario}
 use Rattle.scenario.specs.ScenarioText.{scenario_text}
 use Rattle.text_fields.specs.FaultLine.{fault_line}
 use Rattle.top_call.specs.Job.{Job}
-use Rattle.top_call.specs.words.Reported.{RefusesScenario}
+use Rattle.top_call.specs.words.Run.{RefusesScenario}
 
 -- the bytes spell a scenario of two portals
 pub record IsPortalsText (bytes : List ℕ) : Type 0 where

@@ -4,16 +4,16 @@ use Rattle.std.specs.Prelude.{◌≡◌, ◌⊎◌, ℕ, true, List}
 use Rattle.air_audit.specs.FirstRefusal.{IsAuditVerdict}
 use Rattle.air_audit.specs.OwnTraces.{HasNoEventStep}
 use Rattle.air_audit.specs.ReceivedLists.{ListsWhatIsReceived}
-use Rattle.air_audit.specs.TraceBehind.{scenario_part, trace_part}
+use Rattle.air_audit.specs.ScenarioAndTrace.{scenario_part, trace_part}
 use Rattle.air_audit.specs.VerdictText.{event_line, verdict_line}
 use Rattle.air_audit.specs.declared.verdict.Verdict.{Verdict}
 use Rattle.air_audit.specs.declared.verdict.Verdict.TheVariants.{Yes}
-use Rattle.runs.specs.ScenarioStart.{start_of}
+use Rattle.runs.specs.ScenarioHistory.{start_of}
 use Rattle.scenario.specs.Limits.{IsScenario}
 use Rattle.scenario.specs.ScenarioText.{IsScenarioText, scenario_text}
 use Rattle.scenario.specs.declared.values.Scenario.{Scenario}
 use Rattle.top_call.specs.Job.{Job}
-use Rattle.top_call.specs.words.Reported.{RefusesScenario}
+use Rattle.top_call.specs.words.Run.{RefusesScenario}
 
 -- the text says whether a trace is one of the scenario
 pub record SaysVerdict (scenario : Scenario) (trace text : List ℕ) : Type 0 where

@@ -10,7 +10,7 @@ use Rattle.two_portals.specs.PortalLines.{HaveTheSameSenders, portal_lines_of, p
 use Rattle.two_portals.specs.declared.portal_line.PortalLine.{PortalLine}
 use Rattle.runs.specs.History.{history_of}
 use Rattle.runs.specs.RoundsTold.{rounds_told}
-use Rattle.runs.specs.ScenarioStart.{history, start_of}
+use Rattle.runs.specs.ScenarioHistory.{history, start_of}
 
 -- the parameters of the rounds among steps
 abbrev pub specs_of : List Step → List SpecValue

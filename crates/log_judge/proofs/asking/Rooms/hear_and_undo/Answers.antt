@@ -5,7 +5,7 @@ use Rattle.tag_machine.specs.Step.{step}
 use Rattle.tag_machine.specs.TagValue.{TagValue}
 use Rattle.log_judge.specs.Optional.{IsUndone, is_header}
 use Rattle.log_judge.proofs.Undone.{header_told, legal_fits, other_told, replies_as, stays_past, stays_refused, stays_undone}
-use Rattle.log_judge.proofs.rooms.Rooms.hear_and_undo.Goals as goal
+use Rattle.log_judge.proofs.asking.Rooms.hear_and_undo.Goals as goal
 
 pub returns-in-None-clause-tag : goal.returns-in-None-clause-tag
 returns-in-None-clause-tag g c =
