@@ -3,6 +3,7 @@
 //! are profile.
 #![tactic(auto)]
 
+mod bench_reading;
 mod effect;
 mod events;
 mod judging;
@@ -15,7 +16,6 @@ mod probe;
 mod probe_laws;
 mod probe_line;
 mod probe_printing;
-mod probe_reading;
 mod seen_fields;
 mod stimuli;
 mod verdict_printing;

@@ -11,10 +11,10 @@ ghost use Rattle.bench_lines.specs.declared.log_entries.SaidEntry.{SaidEntry};
 ghost use Rattle.bench_lines.specs.LogText.{IsLogText, asked, ended, log_rules, start};
 ghost use Rattle.bench_lines.specs.ReadEntries.{HasHeardEntry, HasReadEntry, HasReadLog, IsFaultOf, entry_in, lines_said};
 
+use crate::bench_reading::fault_behind;
 use crate::effect::{SaidEffect, effect_of};
 use crate::log_reading::{read_next, read_seen};
 use crate::probe_line::SaidLine;
-use crate::probe_reading::fault_behind;
 use air_events::Event;
 use bit_strings::{Bits, OutOfMemory};
 use checked_lines::{FaultReason, FaultyLine};

@@ -8,10 +8,10 @@ ghost use Rattle.text_fields.specs.Lines.{fields_of};
 ghost use Rattle.bench_lines.specs.LogText.{IsFaultyNext, IsFaultySeen};
 ghost use Rattle.bench_lines.specs.SeenLine.{BeginsAsAnswer, SpellSeen};
 
+use crate::bench_reading::{read_behind, read_probe_line};
 use crate::log_laws::seen_laws;
 use crate::probe_laws::line_laws;
 use crate::probe_line::SaidLine;
-use crate::probe_reading::{read_behind, read_probe_line};
 use crate::seen_fields::{behind_answer, read_answer_to};
 use checked_lines::FaultReason;
 use command_grammar::Command;

@@ -5,7 +5,7 @@ ghost use Rattle.text_fields.specs.Lines.{fields_of};
 ghost use Rattle.bench_lines.specs.Judged.{IsNoTagFor};
 ghost use Rattle.bench_lines.specs.LogText.{with_word};
 
-use crate::probe_reading::read_tag_line;
+use crate::bench_reading::read_tag_line;
 use checked_lines::{Unread, unread_at};
 use scenario_lines::TagSpec;
 use std::alloc::Global;

@@ -11,12 +11,12 @@ ghost use Rattle.bench_lines.specs.Played.{HasPlayed, WritesFrontOf, StopsIn, Te
 ghost use Rattle.bench_lines.specs.ProbeLine.{IsProbeLine};
 ghost use Rattle.bench_lines.specs.ProbeText.{AreStimuli};
 
+use crate::bench_reading::FIRST_NUMBER;
 use crate::effect::{SaidEffect, effect_of};
 use crate::probe::Probe;
 use crate::probe_laws::stimuli_have_one_effect;
 use crate::probe_line::SaidStimulus;
 use crate::probe_printing::{push_answer_line, push_silence, push_state_line};
-use crate::probe_reading::FIRST_NUMBER;
 use crate::stimuli::Stimuli;
 use air_io::{Sink, write_all};
 use bit_strings::{Bits, OutOfMemory};
@@ -65,7 +65,7 @@ fn write_text<O: Sink>(out: &mut O, text: &str) -> Result<(), PlayFault>
     }
 }
 
-/// Room for a command, for bits, for a reply and for what waits to be written, taken once for all lines.
+/// Room for a command, for bits, for a reply and for what waits to be written, taken once for all lines of a probe.
 #[derive(Drop)]
 struct Rooms {
     command: Command,

@@ -5,7 +5,7 @@ ghost use Rattle.bench_lines.specs.Stimuli.{Stimulus};
 ghost use Rattle.bench_lines.specs.ProbeLine.{version_line};
 ghost use Rattle.bench_lines.specs.ProbeText.{AreStimuli, IsFirstProbeFault, IsProbe};
 
-use crate::probe_reading::read_tag_line;
+use crate::bench_reading::read_tag_line;
 use crate::stimuli::Stimuli;
 use checked_lines::{FaultReason, FaultyLine};
 use scenario_lines::TagText;

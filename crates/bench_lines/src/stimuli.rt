@@ -5,9 +5,9 @@ ghost use Rattle.bench_lines.specs.Stimuli.{Does, Stimulus, stimulus_with};
 ghost use Rattle.bench_lines.specs.ProbeLine.{IsProbeLine};
 ghost use Rattle.bench_lines.specs.ProbeText.{EndProbe, IsFirstFaultBehind, SayStimuli};
 
+use crate::bench_reading::{fault_behind, read_behind, read_probe_line};
 use crate::probe_laws::line_laws;
 use crate::probe_line::{SaidLine, SaidStimulus};
-use crate::probe_reading::{fault_behind, read_behind, read_probe_line};
 use checked_lines::{FaultReason, FaultyLine};
 use command_grammar::Command;
 use std::marker::Model;

@@ -23,11 +23,11 @@ use Rattle.encode_lines.specs.declared.request.LineKind.TheVariants.{Stream as S
 use Rattle.encode_lines.specs.declared.request.Request.{Request}
 use Rattle.encode_lines.specs.declared.request.Request.TheVariants.{Stream, Pie, Command, Reply, Heard}
 
--- the most bits of a frame, which each command has room in
+-- the most bits of a frame that `encode` is asked for, which each command has room in
 abbrev pub most_frame_bits : ℕ
 most_frame_bits = 8240
 
--- how many intervals the longest frame has: seven of its header (6.3.1.2.8), and two a bit
+-- how many intervals the longest frame has that `encode` is asked for: seven of its header (6.3.1.2.8), and two a bit
 abbrev pub most_frame_intervals : ℕ
 most_frame_intervals = 7 + 2 * most_frame_bits
 

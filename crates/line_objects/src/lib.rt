@@ -2,13 +2,13 @@
 //! objects are profile).
 #![tactic(auto)]
 
+mod field_members;
 mod laws;
 mod line_members;
 mod member_names;
 mod members;
 mod objects;
 mod plain_text;
-mod reading;
 mod values;
 
 pub use laws::{fields_are_told, texts_have_objects};

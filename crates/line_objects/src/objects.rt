@@ -3,10 +3,10 @@ ghost use Rattle.std.specs.Prelude.{◌≡◌, ◌++◌, ℕ, List, IfOk, OnOk, 
 ghost use Rattle.line_objects.specs.Objects.{AreObjectsOf, object_of};
 ghost use Rattle.line_objects.specs.Values.{AreUris};
 
+use crate::field_members::members_of;
 use crate::laws::fields_have_uris;
 use crate::line_members::LineSet;
 use crate::members::Object;
-use crate::reading::members_of;
 use bit_strings::OutOfMemory;
 use std::alloc::Global;
 use text_fields::split_line;

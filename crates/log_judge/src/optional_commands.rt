@@ -1,4 +1,4 @@
-//! Commands that a tag need not have (6.3.2.11.3 Access commands).
+//! Commands that a tag need not have (6.3.2.11.3 Access commands), and the BlockWrite that undoes what one did to the memory.
 ghost use Rattle.std.specs.Prelude.{◌≡◌, ◌≤◌, Some};
 ghost use Rattle.tag_machine.specs.Hearing.{tag_value_of};
 ghost use Rattle.log_judge.specs.Explaining.{seen_answer_to};

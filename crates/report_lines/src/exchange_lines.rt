@@ -6,7 +6,7 @@ ghost use Rattle.std.specs.Fmt.{decimal};
 ghost use Rattle.text_fields.specs.Lines.{line_feed, line_with, space};
 ghost use Rattle.report_lines.specs.ReportLine.{AnswerLine, ExchangeLine, MissedLine, given_fields, preamble_word, report_line_text};
 
-use crate::lines::end_line;
+use crate::line_writing::end_line;
 use bit_strings::OutOfMemory;
 use command_grammar::Command;
 use reply_grammar::Reply;

@@ -10,7 +10,7 @@ use crate::json_shapes::{
     DoneObject, ListObject, OpObject, RoundObject, SeenObject, TagObject, push_object,
 };
 use crate::line::Line;
-use crate::lines::end_name;
+use crate::line_writing::end_name;
 use crate::member_texts::{MemberTexts, set_flags, set_locks, set_result, set_word, set_words};
 use crate::tag_line::state_text;
 use access_ops::OpResult;

@@ -4,7 +4,7 @@ ghost use Rattle.std.specs.String.{string_bytes};
 ghost use Rattle.text_fields.specs.Lines.{line_with, space};
 ghost use Rattle.report_lines.specs.ReportLine.{OpLine, report_line_text, result_fields};
 
-use crate::lines::end_line;
+use crate::line_writing::end_line;
 use access_ops::OpResult;
 use bit_strings::OutOfMemory;
 use text_fields::{push_byte_hex, push_next_name, push_next_number, push_next_words};

@@ -9,7 +9,7 @@ use crate::exchange_lines::{
     push_answer_line, push_exchange_line, push_given_line, push_missed_line,
 };
 use crate::line::Line;
-use crate::lines::{
+use crate::line_writing::{
     push_blf_line, push_done_line, push_list_line, push_round_line, push_rx_line, push_seen_line,
     push_tx_line,
 };

@@ -8,7 +8,7 @@ ghost use Rattle.wire_text.specs.PasswordsAndLocks.{locks_text};
 ghost use Rattle.tag_machine.specs.Hearing.{tag_value_of};
 ghost use Rattle.report_lines.specs.ReportLine.{TagLine, flags_word, report_line_text, state_word};
 
-use crate::lines::end_line;
+use crate::line_writing::end_line;
 use bit_strings::OutOfMemory;
 use command_grammar::Bank;
 use lock_rules::Locks;

@@ -118,7 +118,7 @@ abbrev pub is_round_line : ℕ → ReportLine → Bool
 is_round_line round (RoundLine number end slots) = number == round
 is_round_line round line = false
 
--- a line for a tag
+-- whether a line of a report is that of a tag
 abbrev pub is_tag_line : ReportLine → Bool
 is_tag_line (TagLine number tag) = true
 is_tag_line line = false

@@ -29,7 +29,7 @@ use Rattle.scenario.specs.StepLinesSoFar.{IsBareRound, StepLinesValue, steps_of,
 use Rattle.scenario.specs.Faults.{DisagreesBy, IsFirstUnmet}
 use Rattle.scenario.proofs.Counts.{tags_more}
 use Rattle.scenario.proofs.Settled.{not_empty, same_count}
-use Rattle.scenario.specs.LineOrder.{is_air, is_step, tags_by, tags_in, version_in, airs_in, steps_in, ops_behind, EndsInRound, IsFullBefore, IsNoEnd, IsRoundLine, MayStandBehind, happening_turn, ComesBefore, ChoosesOther, KeepsOrderBehind, ChoosesFirst, DisagreesWith}
+use Rattle.scenario.specs.OrderFaults.{is_air, is_step, tags_by, tags_in, version_in, airs_in, steps_in, ops_behind, EndsInRound, IsFullBefore, IsNoEnd, IsRoundLine, MayStandBehind, happening_turn, ComesBefore, ChoosesOther, KeepsOrderBehind, ChoosesFirst, DisagreesWith}
 
 -- lists with one more
 

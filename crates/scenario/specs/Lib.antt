@@ -11,7 +11,7 @@ pub mod Standing
 pub mod Faults
 pub mod ReaderAnswers
 pub mod Beginnings
-pub mod LineOrder
+pub mod OrderFaults
 pub mod laws
 pub use Rattle.scenario_lines.specs.TagForm
 pub use Rattle.scenario_lines.specs.LineForm

@@ -120,7 +120,7 @@ standing_after (within draft) lines.End = ended draft
 standing_after (within draft) line = within (draft_after draft line)
 standing_after standing line = standing
 
--- the lines follow one another from here on, and lead there
+-- from where the scenario stands here each line may follow the one before it, and they lead there
 abbrev pub LinesLead : ScenarioStanding → List Line → ScenarioStanding → Type 0
 LinesLead from [] to = from ≡ to
 LinesLead from (line ∷ lines) to = MayStandNext from line × LinesLead (standing_after from line) lines to

@@ -5,7 +5,7 @@ use Rattle.scenario.specs.declared.values.TagGroup.{TagGroup}
 use Rattle.scenario.specs.Groups.{tags_of}
 use Rattle.scenario.specs.Limits.{most_tags_of}
 
--- they are no more than the limits allow, and each line names one or more
+-- the tag lines so far name no more tags than the limits allow, and each names one or more
 pub record AreFewTagLines (groups : List TagGroup) : Type 0 where
   pub lines : length groups ≤ length (tags_of groups)
   pub tags : length (tags_of groups) ≤ most_tags_of Two

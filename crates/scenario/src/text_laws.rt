@@ -9,7 +9,7 @@ ghost use Rattle.scenario.specs.ScenarioText.{scenario_lines, scenario_text, IsS
 ghost use Rattle.scenario.specs.Limits.{IsScenario};
 ghost use Rattle.scenario.specs.laws.LineLaws.{LineLaws};
 ghost use Rattle.scenario.specs.Faults.{DisagreesBy, IsFirstScenarioFault};
-ghost use Rattle.scenario.specs.LineOrder.{DisagreesWith, IsFullBefore, MayStandBehind};
+ghost use Rattle.scenario.specs.OrderFaults.{DisagreesWith, IsFullBefore, MayStandBehind};
 ghost use Rattle.scenario.specs.Beginnings.{BeginsScenario, FirstLinesBegin};
 ghost use Rattle.scenario.specs.Draft.{DraftValue, scenario_of};
 ghost use Rattle.scenario.specs.Standing.{HasRoomForLine, IsSaid, LinesLead, MayStand, ended, ScenarioStanding, start, within};

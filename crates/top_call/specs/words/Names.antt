@@ -29,7 +29,7 @@ pub record IsCutAt (bytes : List ℕ) (number : ℕ) : Type 0 where
   pub filled : last ≢ []
   pub count : number ≡ length before + 1
 
--- the text is the fault line of bytes whose last line has no line feed
+-- what `names` writes where the last line has no line feed: the fault line of that
 pub record RefusesCutLine (bytes text : List ℕ) : Type 0 where
   pub number : ℕ
   pub at : IsCutAt bytes number

@@ -2,7 +2,7 @@ use Rattle.std.proofs.Common.{arith}
 use Rattle.text_fields.specs.Lines.{fields_of}
 use Rattle.bench_lines.specs.Stimuli.{stimulus_with}
 use Rattle.bench_lines.proofs.FaultyLines.{one_too_many}
-use Rattle.bench_lines.proofs.probe_reading.read_behind.Goals as goal
+use Rattle.bench_lines.proofs.bench_reading.read_behind.Goals as goal
 
 pub returns-then-count-ge-MOST_STIMULI-clause-refused : goal.returns-then-count-ge-MOST_STIMULI-clause-refused
 returns-then-count-ge-MOST_STIMULI-clause-refused c =

@@ -1,6 +1,6 @@
 use Rattle.std.proofs.lemmas.Result.{IfOk-equal}
 use Rattle.report_lines.proofs.Pieces.{sent_intervals}
-use Rattle.report_lines.proofs.lines.push_tx_line.Goals as goal
+use Rattle.report_lines.proofs.line_writing.push_tx_line.Goals as goal
 
 pub returns : goal.returns
 returns c = IfOk-equal _ _ _ _ c.end_line.ensures

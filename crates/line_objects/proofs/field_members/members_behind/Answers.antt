@@ -1,7 +1,7 @@
 use Rattle.std.proofs.Common.{◌∙◌, sym}
 use Rattle.std.proofs.lemmas.Result.{IfOk-weaker}
 use Rattle.line_objects.proofs.FieldPairs.{kind_alone, kind_first}
-use Rattle.line_objects.proofs.reading.members_behind.Goals as goal
+use Rattle.line_objects.proofs.field_members.members_behind.Goals as goal
 
 pub returns-in_default : goal.returns-in_default
 returns-in_default c uris are =

@@ -1,5 +1,5 @@
 use Rattle.std.proofs.Common.{length}
-use Rattle.line_objects.proofs.reading.+push_fields.Given as goal
+use Rattle.line_objects.proofs.field_members.+push_fields.Given as goal
 
 abbrev pub decreases-push_fields : goal.decreases-push_fields
 decreases-push_fields l = length l.fields

@@ -1,5 +1,5 @@
 use Rattle.std.proofs.Common.{ℕ, refl, ap, ◌∙◌, List, ◌∷◌, codes}
-use Rattle.report_lines.proofs.tx_line.read_tx_line.Goals as goal
+use Rattle.report_lines.proofs.tx_reading.read_tx_line.Goals as goal
 
 pub returns-clause-fields : goal.returns-clause-fields
 returns-clause-fields c =

@@ -4,7 +4,7 @@ use Rattle.line_objects.specs.Members.{pairs_of}
 use Rattle.line_objects.specs.Objects.{Pair, fields_pairs}
 use Rattle.line_objects.specs.declared.member_names.Key.{Key}
 use Rattle.line_objects.proofs.FieldPairs.{added_both, one_more}
-use Rattle.line_objects.proofs.reading.+push_fields.Goals as goal
+use Rattle.line_objects.proofs.field_members.+push_fields.Goals as goal
 
 pub returns-in_ok-push_field-in-Some : goal.returns-in_ok-push_field-in-Some
 returns-in_ok-push_field-in-Some t c uris are =

@@ -4,7 +4,7 @@ use Rattle.scenario_lines.specs.Reading.{MisreadsTag}
 use Rattle.text_fields.specs.Lines.{fields_of}
 use Rattle.bench_lines.specs.ProbeText.{IsFaultyTagLine}
 use Rattle.bench_lines.proofs.TagLines.{line_faulty}
-use Rattle.bench_lines.proofs.probe_reading.read_tag_line.Goals as goal
+use Rattle.bench_lines.proofs.bench_reading.read_tag_line.Goals as goal
 
 pub returns-clause-refused : goal.returns-clause-refused
 returns-clause-refused c =

@@ -6,7 +6,7 @@ use Rattle.line_objects.specs.Objects.{Pair}
 use Rattle.line_objects.specs.Values.{text_value}
 use Rattle.line_objects.specs.declared.member_names.Shape.TheVariants.{EpcText}
 use Rattle.line_objects.proofs.FieldPairs.{added_both, epc_pairs}
-use Rattle.line_objects.proofs.reading.push_field.Goals as goal
+use Rattle.line_objects.proofs.field_members.push_field.Goals as goal
 
 pub returns-in_ok-push_member-in-EpcText : goal.returns-in_ok-push_member-in-EpcText
 returns-in_ok-push_member-in-EpcText c uris are =

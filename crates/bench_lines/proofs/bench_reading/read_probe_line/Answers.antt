@@ -1,7 +1,7 @@
 use Rattle.text_fields.specs.Lines.{fields_of}
 use Rattle.bench_lines.specs.declared.probe_line.LineWord.TheVariants as words
 use Rattle.bench_lines.proofs.FaultyLines.{faulty_behind}
-use Rattle.bench_lines.proofs.probe_reading.read_probe_line.Goals as goal
+use Rattle.bench_lines.proofs.bench_reading.read_probe_line.Goals as goal
 
 pub returns-in_err-read_bits-in-Some-Bits-default-clause-refused : goal.returns-in_err-read_bits-in-Some-Bits-default-clause-refused
 returns-in_err-read_bits-in-Some-Bits-default-clause-refused c =

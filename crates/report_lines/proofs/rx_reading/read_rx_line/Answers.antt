@@ -1,6 +1,6 @@
 use Rattle.std.proofs.Common.{ℕ, refl, sym, ap, ◌∙◌, List, [], ◌∷◌, codes}
 use Rattle.bit_strings.specs.BitString.{BitString}
-use Rattle.report_lines.proofs.rx_line.read_rx_line.Goals as goal
+use Rattle.report_lines.proofs.rx_reading.read_rx_line.Goals as goal
 
 pub returns-clause-fields : goal.returns-clause-fields
 returns-clause-fields c =
