@@ -142,7 +142,7 @@ pub fn gen2run_surely(
     gen2run(alloc, words, input, output)
 }
 
-/// AnswersForm the words of a form, and lets the sink hand on what it holds back of a whole text.
+/// Answers the words of a form, and lets the sink hand on what it holds back of a whole text.
 fn answer<I: Source, O: Sink>(alloc: Global, form: Form, input: &mut I, output: &mut O) -> Status
     requires { IsForm form }
     ensures { AnswersForm form (source_change I.left I.faults input.old input.new)

@@ -12,7 +12,7 @@ use report_lines::{Line, Listener, SeenCounts};
 use std::sync::ledger::Ledger;
 
 impl<'a, L: Ledger> Run<'a, L> {
-    /// IsToldWhole how often each pair of PC and EPC was listed, what each tag is, and that this is all.
+    /// Tells how often each pair of PC and EPC was listed, what each tag is, and that this is all.
     pub(crate) fn finish<R: Listener>(&mut self, air: &mut Air, seen: &SeenCounts, report: &mut R)
         ensures air { air.new ≡ air.old }
         ensures told { IsToldWhole R.hears
@@ -24,7 +24,7 @@ impl<'a, L: Ledger> Run<'a, L> {
         report.tell(&Line::Done);
     }
 
-    /// IsToldWhole what each tag is.
+    /// Tells what each tag is.
     fn tell_tags<R: Listener>(&mut self, air: &mut Air, report: &mut R)
         ensures air { air.new ≡ air.old }
         ensures told { IsToldWhole R.hears (tag_lines 0 air.old.tags) report.old report.new }
@@ -34,7 +34,7 @@ impl<'a, L: Ledger> Run<'a, L> {
         }
     }
 
-    /// IsToldWhole what the tag with this number is.
+    /// Tells what the tag with this number is.
     fn tell_tag<R: Listener>(&mut self, air: &mut Air, number: u32, report: &mut R)
         requires { number < length air.old.tags }
         ensures air { air.new ≡ air.old }
@@ -46,7 +46,7 @@ impl<'a, L: Ledger> Run<'a, L> {
     }
 }
 
-/// IsToldWhole how often each pair of PC and EPC was listed.
+/// Tells how often each pair of PC and EPC was listed.
 fn tell_counts<R: Listener>(seen: &SeenCounts, report: &mut R)
     ensures { IsToldWhole R.hears (map seen_line seen.now) report.old report.new }
 {

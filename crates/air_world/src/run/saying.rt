@@ -34,7 +34,22 @@ fn read(command: &Command, answer: &[bool], bits: &mut Bits) -> Reply
     reply_to(command, bits)
 }
 
-/// IsToldWhole what each tag answered, in the order of their numbers.
+/// Tells which command was sent, and which tags missed it.
+fn tell_command<R: Listener>(exchange: u64, command: &Command, entry: &Entry, report: &mut R)
+    ensures { IsToldWhole R.hears
+        (ExchangeLine exchange command.now ∷ map (MissedLine exchange) entry.now.missed)
+        report.old report.new }
+{
+    report.tell(&Line::Exchange { exchange, command });
+    for tag in entry.missed.as_slice() {
+        report.tell(&Line::Missed {
+            exchange,
+            tag: *tag,
+        });
+    }
+}
+
+/// Tells what each tag answered, in the order of their numbers.
 fn tell_answers<R: Listener>(
     answers: &Answers,
     exchange: u64,
@@ -101,7 +116,34 @@ fn gave_of(air: &Air, got: Got, command: &Command, bits: &mut Bits) -> Gave
     }
 }
 
-/// IsToldWhole who said what in the last exchange of an air, to a listener that wants it: the command, which tags missed it, what each tag
+/// Tells what the channel gave.
+fn tell_given<R: Listener>(
+    air: &Air,
+    got: Got,
+    exchange: u64,
+    command: &Command,
+    bits: &mut Bits,
+    report: &mut R,
+)
+    requires room { longest_reply ≤ bits.old.capacity }
+    requires short { AreShort air.now.answers }
+    ensures room { bits.new.capacity ≡ bits.old.capacity }
+    ensures told { (link : LinkValue) (sent : Record)
+        → IsBehind link sent air.now got → exchange ≡ sent.exchange → command.now ≡ sent.command
+        → IsToldWhole R.hears (GivenLine (exchanged_by link sent) ∷ []) report.old report.new }
+{
+    let given = gave_of(air, got, command, bits);
+    report.tell(&Line::Given(Exchanged {
+        number: exchange,
+        command,
+        intervals: air.intervals().as_slice(),
+        replies: air.replies(),
+        given: &given,
+        levels: air.stream(),
+    }));
+}
+
+/// Tells who said what in the last exchange of an air, to a listener that wants it: the command, which tags missed it, what each tag
 /// answered, and what the channel gave.
 pub(crate) fn tell_said<R: Listener>(
     air: &Air,
@@ -122,26 +164,12 @@ pub(crate) fn tell_said<R: Listener>(
     if !report.wants_exchanges() {
         return;
     }
-    report.tell(&Line::Exchange { exchange, command });
-    for tag in entry.missed.as_slice() {
-        report.tell(&Line::Missed {
-            exchange,
-            tag: *tag,
-        });
-    }
+    tell_command(exchange, command, entry, report);
     tell_answers(air.answers(), exchange, command, bits, report);
-    let given = gave_of(air, got, command, bits);
-    report.tell(&Line::Given(Exchanged {
-        number: exchange,
-        command,
-        intervals: air.intervals().as_slice(),
-        replies: air.replies(),
-        given: &given,
-        levels: air.stream(),
-    }));
+    tell_given(air, got, exchange, command, bits, report);
 }
 
-/// IsToldWhole of the waves of the last exchange of an air, to a listener that wants them: the frame that was sent, and the stream that came.
+/// Tells of the waves of the last exchange of an air, to a listener that wants them: the frame that was sent, and the stream that came.
 pub(crate) fn tell_waves<R: Listener>(air: &Air, exchange: u64, report: &mut R)
     ensures { (got : Got) (link : LinkValue) (sent : Record)
         → IsBehind link sent air.now got → exchange ≡ sent.exchange

@@ -1,5 +1,5 @@
 use Rattle.air_world.proofs.Names.{◌∷◌, ◌++◌, map, take, [], IsToldWhole, ExchangeLine, MissedLine}
-use Rattle.air_world.proofs.run.saying.tell_said.Given as goal
+use Rattle.air_world.proofs.run.saying.tell_command.Given as goal
 
 abbrev pub invariant-loop-tag : goal.invariant-loop-tag
 invariant-loop-tag g l = record {
