@@ -8,9 +8,9 @@ mod heard_levels;
 mod laws;
 mod rounds;
 mod rx_line;
+mod scenario_and_trace;
 mod sent_frame;
 mod stop;
-mod trace_behind;
 mod trace_line_words;
 mod traces;
 mod verdict;
@@ -20,7 +20,7 @@ pub use laws::{
     list_lines_are_received, own_traces_are_audited, refused_lines_end_the_beginnings,
     traces_have_a_verdict, traces_have_at_most_one_verdict,
 };
-pub use trace_behind::{has_event_step, split_scenario};
+pub use scenario_and_trace::{has_event_step, split_scenario};
 pub use traces::audit;
 pub use verdict::{AuditReason, Verdict};
 pub use verdict_lines::{event_text, verdict_text};

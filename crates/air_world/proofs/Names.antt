@@ -19,7 +19,7 @@ pub use Rattle.air_model.specs.declared.got.Got.{Got, Got as Gave}
 pub use Rattle.air_world.specs.Counting.{CountsLines, Fits, counted_line, counted_lines, nothing_counted}
 pub use Rattle.air_world.specs.Listing.{HearsPairs, first_fault_of, pair_told, pairs_told}
 pub use Rattle.air_world.specs.NewAir.{IsGroupOfTags, new_air}
-pub use Rattle.air_world.specs.Playing.{Begun, HasRoomForExchanges, IsBetweenSteps, IsEndedBy, IsHeard, IsPlayable, IsSentOver, IsUnderway, NamesItsTags, RunIsAt, RunValue, StandsAt, StandsOrFails}
+pub use Rattle.air_world.specs.Playing.{Begun, HasRoomForExchanges, IsBetweenSteps, IsEndedBy, IsHeard, IsPlayable, IsSentAndHeard, IsUnderway, NamesItsTags, RunIsAt, RunValue, StandsAt, StandsOrFails}
 pub use Rattle.air_world.specs.Playing.{begun_with, counted_on, most_in_round, most_in_slot, most_slots}
 pub use Rattle.air_world.specs.Saying.{AnswersCommand, AreOfDifferentTags, AreShort, IsBehind, IsOneOf}
 pub use Rattle.air_world.specs.Telling.{EndsOrFails, IsCut, IsCutOff, IsCutShort, PlaysOrFails, IsToldWhole, lines_to_tell}

@@ -2,7 +2,7 @@
 use Rattle.std.proofs.lemmas.List.{append-nil}
 use Rattle.air_world.proofs.Names.{◌≡◌, ◌≢◌, ℕ, ◌+◌, ◌||◌, Bool, false, List, ◌∷◌, ◌++◌, map, Option, Some, None, refl, sym, ◌∙◌, ap, subst, arith, append_assoc, [], Dialogue, IsAnswerFor}
 use Rattle.air_world.proofs.Names.{dialogue_of, done, OpList, AirValue, awaited_reception, stream_reception, IsReadBy, heard_levels, Start, Record, Item, exchanged, past_behind_command, Gave, Begun}
-use Rattle.air_world.proofs.Names.{HasRoomForExchanges, IsSentOver, RunIsAt, RunValue, StandsAt, IsBehind, IsToldWhole, lines_to_tell, Command, LinkValue, Reception, reception_from, no_stream, whole_reply}
+use Rattle.air_world.proofs.Names.{HasRoomForExchanges, IsSentAndHeard, RunIsAt, RunValue, StandsAt, IsBehind, IsToldWhole, lines_to_tell, Command, LinkValue, Reception, reception_from, no_stream, whole_reply}
 use Rattle.air_world.proofs.Names.{no_such_reply, Expect, pair_received, rn16_received, ReportLine, ack_reception, dialogue_begun, past_behind_ack, past_behind_answer, past_behind_dialogue}
 use Rattle.air_world.proofs.Names.{past_behind_slot, slot_reception, Listed, reception_of_ack, listed_from, listed_by, exchange_lines, list_line}
 use Rattle.air_model.specs.declared.got.Got.TheVariants as gots
@@ -57,7 +57,7 @@ rn16-heard t trext levels (receiveds.Refused place) rn is found = ap rn16_recept
 
 -- behind an exchange that lists these, which were told
 stands-exchanged : {A : Type 0} {hears : A → List ReportLine → A → Type 0} {begun : Begun A} {past : List Item} {sent : Record} {air : AirValue} {run after : RunValue} {report next : A} {got : Gave}
-    (listed : List Listed) → IsSentOver hears begun past sent air run report got → listed_by sent ≡ listed → after ≡ run
+    (listed : List Listed) → IsSentAndHeard hears begun past sent air run report got → listed_by sent ≡ listed → after ≡ run
     → hears begun.first ((lines_to_tell begun.start past ++ exchange_lines begun.start.link sent) ++ map list_line listed) next → StandsAt hears begun (exchanged sent ∷ past) air after next
 stands-exchanged {hears} {begun} {past} {sent} {air} {next} listed is lists same heard =
     let before : List ReportLine = lines_to_tell begun.start past in
@@ -70,14 +70,14 @@ stands-exchanged {hears} {begun} {past} {sent} {air} {next} listed is lists same
 
 -- where an exchange lists nothing
 pub stands-unlisted : {A : Type 0} {hears : A → List ReportLine → A → Type 0} {begun : Begun A} {past : List Item} {sent : Record} {air : AirValue} {run after : RunValue} {report : A} {got : Gave}
-    → IsSentOver hears begun past sent air run report got → listed_by sent ≡ [] → after ≡ run → StandsAt hears begun (exchanged sent ∷ past) air after report
+    → IsSentAndHeard hears begun past sent air run report got → listed_by sent ≡ [] → after ≡ run → StandsAt hears begun (exchanged sent ∷ past) air after report
 stands-unlisted {hears} {begun} {past} {sent} {report} is none same =
     stands-exchanged [] is none same
     (subst (λ (lines : List ReportLine). hears begun.first lines report) (sym (append-nil (lines_to_tell begun.start past ++ exchange_lines begun.start.link sent))) is.heard)
 
 -- where it lists one tag, which was told
 pub stands-listed : {A : Type 0} {hears : A → List ReportLine → A → Type 0} {begun : Begun A} {past : List Item} {sent : Record} {air : AirValue} {run after : RunValue} {report next : A} {got : Gave}
-    (listed : Listed) → IsSentOver hears begun past sent air run report got → listed_by sent ≡ listed ∷ [] → after ≡ run → IsToldWhole hears (list_line listed ∷ []) report next
+    (listed : Listed) → IsSentAndHeard hears begun past sent air run report got → listed_by sent ≡ listed ∷ [] → after ≡ run → IsToldWhole hears (list_line listed ∷ []) report next
     → StandsAt hears begun (exchanged sent ∷ past) air after next
 stands-listed {begun} listed is one same told = stands-exchanged (listed ∷ []) is one same (told.on begun.first _ is.heard)
 

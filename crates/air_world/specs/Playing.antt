@@ -89,7 +89,7 @@ pub record IsHeard (link : LinkValue) (sent : Record) (air : AirValue) (got : Go
       → IsReceived (table_of air.link.code) (extended || air.link.trext) expect air.stream received → reception_from received ≡ reception_with link.trext extended expect sent.given
 
 -- behind an exchange of which this is the record, when its lines are heard, but not yet what it lists
-pub record IsSentOver {A : Type 0} (hears : A → List ReportLine → A → Type 0) (begun : Begun A) (past : List Item) (sent : Record) (air : AirValue) (run : RunValue) (report : A) (got : Got) : Type 0 where
+pub record IsSentAndHeard {A : Type 0} (hears : A → List ReportLine → A → Type 0) (begun : Begun A) (past : List Item) (sent : Record) (air : AirValue) (run : RunValue) (report : A) (got : Got) : Type 0 where
   pub at : RunIsAt begun.start begun.earlier (exchanged sent ∷ past) air run
   pub behind : IsBehind begun.start.link sent air got
   pub received : IsHeard begun.start.link sent air got

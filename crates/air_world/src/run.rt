@@ -2,7 +2,7 @@
 ghost use Rattle.std.specs.Prelude.{◌≡◌, ℕ, ◌≤◌, length, List, Some, None, OnOk, IfErr, IfOk};
 ghost use Rattle.air_events.specs.Streams.{longest_stream};
 ghost use Rattle.air_model.specs.Past.{Item, next_record};
-ghost use Rattle.air_world.specs.Playing.{Begun, IsBetweenSteps, IsEndedBy, IsSentOver, IsUnderway, StandsAt, StandsOrFails, most_in_slot};
+ghost use Rattle.air_world.specs.Playing.{Begun, IsBetweenSteps, IsEndedBy, IsSentAndHeard, IsUnderway, StandsAt, StandsOrFails, most_in_slot};
 ghost use Rattle.reply_wire.specs.Codes.{table_of};
 ghost use Rattle.reply_grammar.specs.Reception.{reception_from};
 ghost use Rattle.reply_grammar.specs.declared.expected.Received.{Received};
@@ -86,7 +86,7 @@ impl<'a, L: Ledger> Run<'a, L> {
         requires { IsUnderway R.hears 1 air.old self.old report.old }
         ensures { (begun : Begun R) (past : List Item) (round slot : ℕ)
             → StandsAt R.hears begun past air.old self.old report.old
-            → IsSentOver R.hears begun past (next_record begun.start round slot command.now past)
+            → IsSentAndHeard R.hears begun past (next_record begun.start round slot command.now past)
             air.new self.new report.new result }
     {
         answers_are_replies();

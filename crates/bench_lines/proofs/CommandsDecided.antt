@@ -1,5 +1,5 @@
 -- Fields spell a command, or there is a reason for which they spell none.
-use Rattle.std.proofs.Common.{◌≡◌, ◌<◌, ◌≤◌, ◌^◌, ℕ, List, [], ◌∷◌, length, refl, arith}
+use Rattle.std.proofs.Common.{◌≡◌, ◌<◌, ◌≤◌, ◌^◌, ℕ, List, length, refl, arith}
 use Rattle.std.specs.Fmt.{decimal}
 use Rattle.command_fields.specs.declared.choices.Bank.{Bank}
 use Rattle.command_grammar.specs.Commands.{IsLegalCommand, IsWord, all_kinds}

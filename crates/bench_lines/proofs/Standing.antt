@@ -3,7 +3,7 @@ use Rattle.std.proofs.Common.{◌≡◌, ◌≢◌, ◌+◌, ℕ, List, [], ◌�
 use Rattle.std.specs.Prelude.{Some, None}
 use Rattle.command_grammar.specs.declared.commands.Command.{Command}
 use Rattle.log_judge.specs.Answers.{seen_in}
-use Rattle.log_judge.specs.JudgeStanding.{HearsEntry, JudgeValue}
+use Rattle.log_judge.specs.JudgeStanding.{HasHeardLog, JudgeValue}
 use Rattle.log_judge.specs.declared.answer.Answer.{Answer}
 use Rattle.log_judge.specs.Log.{Befalls, Exchange, LogEntry, LoggedTag, lines_in}
 use Rattle.text_fields.specs.Lines.{lines_of}
@@ -17,7 +17,7 @@ pub record StandsAt (bytes rest : List ℕ) (judge : JudgeValue) (count : ℕ) :
   pub tag : LoggedTag
   pub log : List LogEntry
   pub read : HasReadLog bytes tag log (lines_of rest)
-  pub heard : HearsEntry tag log judge
+  pub heard : HasHeardLog tag log judge
   pub counted : lines_in log ≡ count
 
 module _ (bytes rest left : List ℕ) (judge next : JudgeValue) (count : ℕ) (command : Command) (answer : Answer) where

@@ -4,7 +4,7 @@ use Rattle.checked_lines.specs.laws.ReadingOn.{HasReadTo}
 use Rattle.command_grammar.specs.declared.commands.Command.{Command}
 use Rattle.log_judge.specs.Answers.{seen_in}
 use Rattle.log_judge.specs.declared.answer.Answer.{Answer}
-use Rattle.log_judge.specs.JudgeStanding.{HearsEntry, JudgeValue}
+use Rattle.log_judge.specs.JudgeStanding.{HasHeardLog, JudgeValue}
 use Rattle.log_judge.specs.Log.{Exchange, Befalls, LogEntry, LoggedTag, lines_in}
 use Rattle.text_fields.specs.Lines.{lines_of}
 use Rattle.bench_lines.specs.declared.log_entries.SaidEntry.{SaidEntry}
@@ -37,8 +37,8 @@ HasReadEntry bytes tag log (Some entry) left = HasReadLog bytes tag (log ++ entr
 
 -- the judge has heard it behind the log, or nothing more
 abbrev pub HasHeardEntry : LoggedTag → List LogEntry → Option LogEntry → JudgeValue → Type 0
-HasHeardEntry tag log None judge = HearsEntry tag log judge
-HasHeardEntry tag log (Some entry) judge = HearsEntry tag (log ++ entry ∷ []) judge
+HasHeardEntry tag log None judge = HasHeardLog tag log judge
+HasHeardEntry tag log (Some entry) judge = HasHeardLog tag (log ++ entry ∷ []) judge
 
 -- the fault is the first of the bytes
 abbrev pub IsFaultOf : List ℕ → FaultyLine → Type 0

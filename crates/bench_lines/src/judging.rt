@@ -1,7 +1,7 @@
 //! A log, judged as its text is read.
 ghost use Rattle.std.specs.Prelude.{◌≡◌, ◌↔◌, [], IfErr, IfOk, IsTrue};
 ghost use Rattle.log_judge.specs.Answers.{verdict_in};
-ghost use Rattle.log_judge.specs.JudgeStanding.{HearsEntry};
+ghost use Rattle.log_judge.specs.JudgeStanding.{HasHeardLog};
 ghost use Rattle.log_judge.specs.Log.{LoggedTag};
 ghost use Rattle.scenario_lines.specs.TagForm.{IsTag};
 ghost use Rattle.text_fields.specs.Lines.{lines_of};
@@ -50,7 +50,7 @@ fn read_tag(alloc: Global, text: &[u8]) -> Result<(TagSpec, &[u8]), Unread>
 /// A judge that has heard nothing of the log of a tag.
 fn new_judge(alloc: Global, tag: TagSpec) -> Result<Judge, OutOfMemory>
     requires { IsTag tag }
-    ensures { IfOk result (HearsEntry (logged_tag tag) []) }
+    ensures { IfOk result (HasHeardLog (logged_tag tag) []) }
 {
     // By this law a memory can be made of the tag.
     tag_lines_fit_memories();
@@ -61,7 +61,7 @@ fn new_judge(alloc: Global, tag: TagSpec) -> Result<Judge, OutOfMemory>
 fn begin(alloc: Global, text: &[u8]) -> Result<(Judge, Rooms, &[u8]), Unread>
     ensures ok { IfOk result
         (λ it. (tag : LoggedTag) × HasReadLog text.now tag [] (lines_of it.2.now)
-        × HearsEntry tag [] it.0) }
+        × HasHeardLog tag [] it.0) }
     ensures refused { IfErr result (IsRefusedFor text.now) }
 {
     let (tag, behind) = read_tag(alloc, text)?;

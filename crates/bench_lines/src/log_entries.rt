@@ -4,7 +4,7 @@ ghost use Rattle.checked_lines.specs.laws.ReadingOn.{HasReadTo};
 ghost use Rattle.command_grammar.specs.Commands.{IsLegalCommand};
 ghost use Rattle.command_grammar.specs.declared.commands.Command.{Command};
 ghost use Rattle.log_judge.specs.Answers.{seen_in};
-ghost use Rattle.log_judge.specs.JudgeStanding.{HearsEntry};
+ghost use Rattle.log_judge.specs.JudgeStanding.{HasHeardLog};
 ghost use Rattle.log_judge.specs.Log.{Exchange, LogEntry, LoggedTag, lines_in};
 ghost use Rattle.text_fields.specs.Lines.{lines_of};
 ghost use Rattle.bench_lines.specs.declared.log_entries.SaidEntry.{SaidEntry};
@@ -96,7 +96,7 @@ impl Rooms {
     ) -> Judge
         requires legal { entry ≡ SaidEntry.Hears → IsLegalCommand self.now.command }
         requires early { judge.line < 2 ^ 31 }
-        ensures { (tag : LoggedTag) (log : List LogEntry) → HearsEntry tag log judge
+        ensures { (tag : LoggedTag) (log : List LogEntry) → HasHeardLog tag log judge
             → HasHeardEntry tag log (entry_in entry self.now.command self.now.answer) result }
     {
         match entry {

@@ -1,5 +1,5 @@
 //! What is done to the tag of a probe, line by line.
-ghost use Rattle.std.specs.Prelude.{◌≡◌, ◌≤◌, ◌<◌, ◌+◌, ℕ, List, [], ◌∷◌, length, IfOk, IfErr, IfSome, IfNone};
+ghost use Rattle.std.specs.Prelude.{◌≡◌, ◌<◌, ◌+◌, ℕ, List, [], ◌∷◌, length, IfOk, IfErr, IfSome, IfNone};
 ghost use Rattle.text_fields.specs.Lines.{lines_of};
 ghost use Rattle.bench_lines.specs.Stimuli.{Does, Stimulus, stimulus_with};
 ghost use Rattle.bench_lines.specs.ProbeLine.{IsProbeLine};

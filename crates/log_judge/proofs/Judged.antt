@@ -12,7 +12,7 @@ use Rattle.log_judge.proofs.OneVerdict.{allowed_front, goes_on as fails_still, n
 use Rattle.log_judge.proofs.Standing.{allowed_where_stands, fails_on, stands_first, stands_on}
 use Rattle.log_judge.proofs.Wants.{wanted}
 use Rattle.log_judge.specs.Answers.{want_in}
-use Rattle.log_judge.specs.JudgeStanding.{HearsEntry, JudgeValue, Stands, verdict_noted}
+use Rattle.log_judge.specs.JudgeStanding.{HasHeardLog, JudgeValue, Stands, verdict_noted}
 use Rattle.log_judge.specs.KnownTag.{Goes, IsExcusedHere, MayGo, Shows, known_of, known_wordless}
 use Rattle.log_judge.specs.declared.shown.Shown.{Shown}
 use Rattle.log_judge.specs.declared.shown.Shown.TheVariants as shown
@@ -62,7 +62,7 @@ module _ (tag : LoggedTag) (log : List LogEntry) (known : Known) (entry : LogEnt
   judge_with verdict = record { verdict = verdict; known = behind; line = new_line }
 
   -- the log is explained, and still is
-  pub explained_on : Stands tag log known Yes → Goes ByTables known entry behind → HearsEntry tag whole (judge_with Yes)
+  pub explained_on : Stands tag log known Yes → Goes ByTables known entry behind → HasHeardLog tag whole (judge_with Yes)
   explained_on stands goes =
       let stands_on_tables = goes_on tag log known entry legal behind ByTables stands.0 goes in
       record {
@@ -73,7 +73,7 @@ module _ (tag : LoggedTag) (log : List LogEntry) (known : Known) (entry : LogEnt
 
   -- a liberty was taken before, and the log is excused still
   pub excused_on : (number : ℕ) (want : Want) → IsVerdict tag log (Profile number want) → StandsBehind WithLiberties tag log known → Goes WithLiberties known entry behind
-      → HearsEntry tag whole (judge_with (Profile number want))
+      → HasHeardLog tag whole (judge_with (Profile number want))
   excused_on number want verdict stands goes =
       let stands_behind = goes_on tag log known entry legal behind WithLiberties stands goes in
       record {
@@ -87,7 +87,7 @@ module _ (tag : LoggedTag) (log : List LogEntry) (known : Known) (entry : LogEnt
       }
 
   -- the log was refused before
-  pub refused_on : (number : ℕ) (want : Want) → IsVerdict tag log (No number want) → HearsEntry tag whole (judge_with (No number want))
+  pub refused_on : (number : ℕ) (want : Want) → IsVerdict tag log (No number want) → HasHeardLog tag whole (judge_with (No number want))
   refused_on number want verdict = record { line = line_on log entry line line_is; verdict = no_stays tag log (entry ∷ []) number want verdict; stands = tt }
 
 -- an exchange at which the log first fails
@@ -109,7 +109,7 @@ module _ (tag : LoggedTag) (log : List LogEntry) (known : Known) (heard : Option
     wanted = subst (λ (w : Want). IsWanted manner tag log heard w) (sym want_is) (wanted manner tag log known heard stands legal.heard_is);
   }
 
-  pub excused_first : Stands tag log known Yes → IsExcusedHere known heard seen behind → HearsEntry tag (log ++ exchange ∷ []) (record { verdict = Profile (line + 2) want; known = behind; line = line + 2 })
+  pub excused_first : Stands tag log known Yes → IsExcusedHere known heard seen behind → HasHeardLog tag (log ++ exchange ∷ []) (record { verdict = Profile (line + 2) want; known = behind; line = line + 2 })
   excused_first stands it =
       let stands_behind = goes_on tag log known exchange legal behind WithLiberties stands.1 it.goes in
       record {
@@ -122,7 +122,7 @@ module _ (tag : LoggedTag) (log : List LogEntry) (known : Known) (heard : Option
         stands = stands_behind;
       }
 
-  pub refused_first : StandsBehind WithLiberties tag log known → ¬ MayGo WithLiberties known exchange → HearsEntry tag (log ++ exchange ∷ []) (record { verdict = No (line + 2) want; known = behind; line = line + 2 })
+  pub refused_first : StandsBehind WithLiberties tag log known → ¬ MayGo WithLiberties known exchange → HasHeardLog tag (log ++ exchange ∷ []) (record { verdict = No (line + 2) want; known = behind; line = line + 2 })
   refused_first stands none = record {
     line = line_on log exchange line line_is;
     verdict = record {
@@ -134,8 +134,8 @@ module _ (tag : LoggedTag) (log : List LogEntry) (known : Known) (heard : Option
 
 -- an exchange, by what it shows
 pub heard_on : (tag : LoggedTag) (log : List LogEntry) (verdict : Verdict) (known : Known) (line : ℕ) (heard : Option Command) (seen : Option Seen) (shown : Shown) (behind : Known)
-    → IsLegalEntry (Exchange heard seen) → HearsEntry tag log (record { verdict = verdict; known = known; line = line }) → Shows known heard seen shown behind
-    → HearsEntry tag (log ++ Exchange heard seen ∷ []) (record { verdict = verdict_noted verdict shown (line + 2); known = behind; line = line + 2 })
+    → IsLegalEntry (Exchange heard seen) → HasHeardLog tag log (record { verdict = verdict; known = known; line = line }) → Shows known heard seen shown behind
+    → HasHeardLog tag (log ++ Exchange heard seen ∷ []) (record { verdict = verdict_noted verdict shown (line + 2); known = behind; line = line + 2 })
 heard_on tag log Yes known line heard seen shown.Explained behind legal has shows =
     explained_on tag log known (Exchange heard seen) legal line has.line behind has.stands shows
 heard_on tag log Yes known line heard seen (shown.Excused want) behind legal has shows =
@@ -155,15 +155,15 @@ heard_on tag log (No number earlier) known line heard seen shown_then behind leg
 
 -- an event
 pub befallen_on : (tag : LoggedTag) (log : List LogEntry) (verdict : Verdict) (known : Known) (line : ℕ) (event : Event) (behind : Known)
-    → HearsEntry tag log (record { verdict = verdict; known = known; line = line }) → Goes ByTables known (Befalls event) behind
-    → HearsEntry tag (log ++ Befalls event ∷ []) (record { verdict = verdict; known = behind; line = line + 1 })
+    → HasHeardLog tag log (record { verdict = verdict; known = known; line = line }) → Goes ByTables known (Befalls event) behind
+    → HasHeardLog tag (log ++ Befalls event ∷ []) (record { verdict = verdict; known = behind; line = line + 1 })
 befallen_on tag log Yes known line event behind has goes = explained_on tag log known (Befalls event) tt line has.line behind has.stands goes
 befallen_on tag log (Profile number earlier) known line event behind has goes =
     excused_on tag log known (Befalls event) tt line has.line behind number earlier has.verdict has.stands (goes_with known (Befalls event) behind goes)
 befallen_on tag log (No number earlier) known line event behind has goes = refused_on tag log known (Befalls event) tt line has.line behind number earlier has.verdict
 
 -- before the first entry
-pub begun : (tag : LoggedTag) → HearsEntry tag [] (record { verdict = Yes; known = known_of (tag_with tag []) None; line = 2 })
+pub begun : (tag : LoggedTag) → HasHeardLog tag [] (record { verdict = Yes; known = known_of (tag_with tag []) None; line = 2 })
 begun tag =
     let tables = stands_wordless ByTables tag [] _ (stands_first ByTables tag []) in
     record {
@@ -174,5 +174,5 @@ begun tag =
 
 -- ... where the verdict, what is known and the line are told
 pub heard_so : (tag : LoggedTag) (log : List LogEntry) (verdict new_verdict : Verdict) (known new_known : Known) (line new_line : ℕ) → new_verdict ≡ verdict → new_known ≡ known → new_line ≡ line
-    → HearsEntry tag log (record { verdict = verdict; known = known; line = line }) → HearsEntry tag log (record { verdict = new_verdict; known = new_known; line = new_line })
+    → HasHeardLog tag log (record { verdict = verdict; known = known; line = line }) → HasHeardLog tag log (record { verdict = new_verdict; known = new_known; line = new_line })
 heard_so tag log verdict new_verdict known new_known line new_line verdict_is known_is line_is has = rw (verdict_is, known_is, line_is) has

@@ -27,15 +27,15 @@ first_slot None = 1
 first_slot (Some seen) = 0
 
 -- the word that a tag is given to draw first: its slot, or the number in its answer
-abbrev pub slot_word_of : Draws → Option Seen → ℕ
-slot_word_of (draws.Slot session) seen = first_slot seen
-slot_word_of (draws.Turn session) seen = number_seen seen
-slot_word_of draws.Number seen = number_seen seen
-slot_word_of draws.Nothing seen = number_seen seen
+abbrev pub first_word_given : Draws → Option Seen → ℕ
+first_word_given (draws.Slot session) seen = first_slot seen
+first_word_given (draws.Turn session) seen = number_seen seen
+first_word_given draws.Number seen = number_seen seen
+first_word_given draws.Nothing seen = number_seen seen
 
 -- the words that a tag is given to draw, by what it was seen to answer
 abbrev pub words_given : Draws → Option Seen → List ℕ
-words_given drawn seen = slot_word_of drawn seen ∷ number_seen seen ∷ []
+words_given drawn seen = first_word_given drawn seen ∷ number_seen seen ∷ []
 
 -- A tag in arbitrate drew its slot at a command of this session, where it is in a round of that session. One that went back has slot 0.
 abbrev pub has_drawn : (session own slot : ℕ) → Bool

@@ -22,7 +22,7 @@ Stands tag log known (Profile number want) = StandsBehind WithLiberties tag log 
 Stands tag log known (No number want) = Unit {0}
 
 -- The judge has heard this log of this tag.
-pub record HearsEntry (tag : LoggedTag) (log : List LogEntry) (judge : JudgeValue) : Type 0 where
+pub record HasHeardLog (tag : LoggedTag) (log : List LogEntry) (judge : JudgeValue) : Type 0 where
   pub line : judge.line ≡ last_line log
   pub verdict : IsVerdict tag log judge.verdict
   pub stands : Stands tag log judge.known judge.verdict

@@ -1,4 +1,4 @@
-//! Room that is taken once for a whole log.
+//! The tag of a log hears a command, and takes words to draw, in room that is taken once for the whole log.
 ghost use Rattle.std.specs.Prelude.{◌≡◌};
 ghost use Rattle.tag_machine.specs.Hearing.{tag_value_of};
 ghost use Rattle.tag_machine.specs.Step.{step};

@@ -3,7 +3,7 @@ ghost use Rattle.std.specs.Prelude.{◌≡◌, ◌-◌, ◌^◌, is_some};
 ghost use Rattle.tag_machine.specs.Hearing.{tag_value_of};
 ghost use Rattle.tag_machine.specs.StateNumbers.{numbers_of};
 ghost use Rattle.log_judge.specs.Answers.{seen_in, want_in};
-ghost use Rattle.log_judge.specs.Drawing.{comes_now, draws_at, fallen, falls_in_turn, slot_word_of, has_drawn, rn16_wanted, slots_behind, slots_told, want_behind, want_told};
+ghost use Rattle.log_judge.specs.Drawing.{comes_now, draws_at, fallen, falls_in_turn, first_word_given, has_drawn, rn16_wanted, slots_behind, slots_told, want_behind, want_told};
 
 use crate::answer::Answer;
 use crate::verdict::Want;
@@ -40,8 +40,8 @@ pub(crate) fn draws_at(command: &Command) -> Draws
 
 /// The first word that a tag is given to draw at a command, by what it was seen to answer; the second one is the number in that answer. They
 /// let it answer that, where any do. A tag that is silent behind a slot that it drew is given slot 1, whatever slot it drew.
-pub(crate) fn slot_word_of(draws: Draws, seen: &Answer) -> u16
-    ensures { result ≡ slot_word_of draws (seen_in seen.now) }
+pub(crate) fn first_word_given(draws: Draws, seen: &Answer) -> u16
+    ensures { result ≡ first_word_given draws (seen_in seen.now) }
 {
     match draws {
         Draws::Slot(_) => { if seen.is_some() { 0 } else { 1 } }

@@ -5,7 +5,7 @@ ghost use Rattle.tag_memory.specs.Image.{sizes_fit, pc_fits};
 ghost use Rattle.log_judge.specs.Log.{Befalls, Exchange, LogEntry, LoggedTag};
 ghost use Rattle.log_judge.specs.Verdicts.{IsVerdict};
 ghost use Rattle.log_judge.specs.Answers.{seen_in, verdict_in};
-ghost use Rattle.log_judge.specs.JudgeStanding.{HearsEntry, verdict_noted};
+ghost use Rattle.log_judge.specs.JudgeStanding.{HasHeardLog, verdict_noted};
 
 use crate::answer::Answer;
 use crate::asking::Rooms;
@@ -100,7 +100,7 @@ impl Judge {
         requires sizes { sizes_fit image.now ≡ true }
         requires pc { pc_fits image.now ≡ true }
         ensures { IfOk result
-            (λ judge. HearsEntry (record { image = image.now; locks = locks }) [] judge) }
+            (λ judge. HasHeardLog (record { image = image.now; locks = locks }) [] judge) }
     {
         let known = KnownTag::new(alloc, image, locks)?;
         let rooms = Rooms::new(alloc)?;
@@ -117,8 +117,8 @@ impl Judge {
     pub fn hear<L: Ledger>(self, command: &Command, seen: &Answer, steps: &mut Steps<L>) -> Judge
         requires legal { IsLegalCommand command.now }
         requires early { self.line < 2 ^ 31 }
-        ensures heard { (tag : LoggedTag) (log : List LogEntry) → HearsEntry tag log self
-            → HearsEntry tag (log ++ Exchange (Some command.now) (seen_in seen.now) ∷ []) result }
+        ensures heard { (tag : LoggedTag) (log : List LogEntry) → HasHeardLog tag log self
+            → HasHeardLog tag (log ++ Exchange (Some command.now) (seen_in seen.now) ∷ []) result }
         ensures line { result.line ≡ self.line + 2 }
     {
         let Judge {
@@ -135,8 +135,8 @@ impl Judge {
     /// The tag was sent bits that spell no command, and was seen to answer this.
     pub fn hear_no_command(self, seen: &Answer) -> Judge
         requires early { self.line < 2 ^ 31 }
-        ensures heard { (tag : LoggedTag) (log : List LogEntry) → HearsEntry tag log self
-            → HearsEntry tag (log ++ Exchange None (seen_in seen.now) ∷ []) result }
+        ensures heard { (tag : LoggedTag) (log : List LogEntry) → HasHeardLog tag log self
+            → HasHeardLog tag (log ++ Exchange None (seen_in seen.now) ∷ []) result }
         ensures line { result.line ≡ self.line + 2 }
     {
         let Judge {
@@ -153,8 +153,8 @@ impl Judge {
     /// This befell the tag.
     pub fn befall(self, event: Event) -> Judge
         requires early { self.line < 2 ^ 31 }
-        ensures heard { (tag : LoggedTag) (log : List LogEntry) → HearsEntry tag log self
-            → HearsEntry tag (log ++ Befalls event ∷ []) result }
+        ensures heard { (tag : LoggedTag) (log : List LogEntry) → HasHeardLog tag log self
+            → HasHeardLog tag (log ++ Befalls event ∷ []) result }
         ensures line { result.line ≡ self.line + 1 }
     {
         let Judge {
@@ -168,7 +168,7 @@ impl Judge {
 
     /// What is judged of the log that was heard: its one verdict.
     pub fn verdict(self) -> Verdict
-        ensures { (tag : LoggedTag) (log : List LogEntry) → HearsEntry tag log self
+        ensures { (tag : LoggedTag) (log : List LogEntry) → HasHeardLog tag log self
             → IsVerdict tag log (verdict_in result) }
     {
         let Judge { known: _, findings } = self;

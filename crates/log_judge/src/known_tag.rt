@@ -10,7 +10,7 @@ ghost use Rattle.log_judge.specs.KnownTag.{Goes, IsReadyFor, LacksHere, Shows, k
 
 use crate::answer::Answer;
 use crate::asking::Rooms;
-use crate::draws::{Draws, draws_at, fallen, slot_word_of, slots_behind, want_behind};
+use crate::draws::{Draws, draws_at, fallen, first_word_given, slots_behind, want_behind};
 use crate::optional_commands::answers_optional;
 use crate::shown::Shown;
 use crate::verdict::Want;
@@ -123,7 +123,7 @@ impl KnownTag {
             let most = Some(most);
             return (KnownTag { tag, most }, Shown::Explained);
         }
-        let first = slot_word_of(draws_at(command), seen);
+        let first = first_word_given(draws_at(command), seen);
         let number = seen.number();
         tag.give_words(&[first, number]);
         if !seen.is_some() && answers_optional(&tag, command) {

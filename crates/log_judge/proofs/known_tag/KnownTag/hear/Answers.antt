@@ -8,7 +8,7 @@ use Rattle.log_judge.specs.laws.Kinds.{reworded}
 use Rattle.log_judge.specs.laws.Known.{Known, want_of, want_of_answer}
 use Rattle.log_judge.specs.declared.draws.Draws.{Draws}
 use Rattle.log_judge.specs.Answers.{seen_in}
-use Rattle.log_judge.specs.Drawing.{draws_at, fallen, slot_word_of, words_given}
+use Rattle.log_judge.specs.Drawing.{draws_at, fallen, first_word_given, words_given}
 use Rattle.log_judge.specs.Optional.{answers_now}
 use Rattle.log_judge.specs.KnownTag.{Goes, HasFirstSlot, IsExcusedHere, known_of}
 use Rattle.log_judge.proofs.Asked.{lacks, lacks_want}
@@ -40,9 +40,9 @@ returns-then-answers_optional g c =
     let given = tag_value_of c.give_words.new.self in
     let lasts : fallen (draws_at command) (is_some seen) (numbers_of tag.state) most ≡ None
     = sym (c.fallen.ensures ∙ ap (λ (d : Draws). fallen d (is_some seen) (numbers_of tag.state) most) c.draws_at.ensures) ∙ c.in_default.is in
-    let words : c.slot_word_of-first.result ∷ c.number-number.result ∷ [] ≡ words_given (draws_at command) seen
-    = ap (λ (n : ℕ). n ∷ c.number-number.result ∷ []) (c.slot_word_of-first.ensures ∙ ap (λ (d : Draws). slot_word_of d seen) c.draws_at-2.ensures)
-    ∙ ap (λ (n : ℕ). slot_word_of (draws_at command) seen ∷ n ∷ []) c.number-number.ensures.value in
+    let words : c.first_word_given-first.result ∷ c.number-number.result ∷ [] ≡ words_given (draws_at command) seen
+    = ap (λ (n : ℕ). n ∷ c.number-number.result ∷ []) (c.first_word_given-first.ensures ∙ ap (λ (d : Draws). first_word_given d seen) c.draws_at-2.ensures)
+    ∙ ap (λ (n : ℕ). first_word_given (draws_at command) seen ∷ n ∷ []) c.number-number.ensures.value in
     let given_is = c.give_words.ensures ∙ ap (λ (l : List ℕ). let t : TagValue = record { state = tag.state; body = reworded l 0 tag.body } in t) words in
     let silent_then : is_some seen ≡ false = search rules in
     let answers : answers_now command given ≡ true = sym c.answers_optional.ensures ∙ c.if-answers_optional.true in

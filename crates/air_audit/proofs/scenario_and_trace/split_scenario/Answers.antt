@@ -1,6 +1,6 @@
 use Rattle.air_audit.proofs.Names.{◌≡◌, true, false, codes, drop, take, ap, sym, ◌∙◌, arith, bytes_eq}
 use Rattle.air_audit.proofs.Behind.{cut-end, cut-more, cut-none}
-use Rattle.air_audit.proofs.trace_behind.split_scenario.Goals as goal
+use Rattle.air_audit.proofs.scenario_and_trace.split_scenario.Goals as goal
 
 pub loop-line-init : goal.loop-line-init
 loop-line-init c = record { within = omega arith; count = omega arith }
