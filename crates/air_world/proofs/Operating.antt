@@ -1,10 +1,8 @@
 -- The moves of a dialogue with a tag, one after another.
-use Rattle.air_world.proofs.Names.{◌≡◌, ℕ, ◌+◌, ◌≤◌, ◌*◌, ◌-◌, List, ◌∷◌, length, Bool, true, false, Bor, if◌then◌else◌, Option, Some, None, refl, sym, ◌∙◌, ap, subst, arith, [], OpRunValue}
+use Rattle.air_world.proofs.Names.{◌≡◌, ℕ, ◌+◌, ◌≤◌, ◌*◌, ◌-◌, List, ◌∷◌, length, Bool, Option, Some, None, refl, sym, ◌∙◌, ap, subst, arith, [], OpRunValue}
 use Rattle.air_world.proofs.Names.{OpRunStandsFor, IsNextOperation, last_answer, turns_in, turns_left, Dialogue, sends, done, dialogue_of, Move, answered, told, reception_in, dialogue_behind}
 use Rattle.air_world.proofs.Names.{dialogue_after, IsAnswerFor, OpList, Expects, AirValue, Item, operated, past_behind_command, exchanges_in, Begun, RunValue, StandsAt, Command, Reception, Expect}
 use Rattle.air_world.proofs.Names.{ReportLine, SlotOfRun, operation_reception, past_behind_dialogue}
-use Rattle.std.specs.Bool.{then_some}
-use Rattle.std.specs.Prelude.{option_copied}
 use Rattle.access_ops.proofs.DialogueLaws.{AwaitsReplies, SendsAtMost, dialogues-await, dialogues-are-few, first-sends, first-tells, first-done}
 use Rattle.access_ops.specs.declared.op_next.Answer.{Answer}
 use Rattle.access_ops.specs.declared.op_next.OpNext.{OpNext}
@@ -70,11 +68,6 @@ operations-begin of run few goes turns = record {
   rest = refl;
   turns = omega (arith, few, turns);
 }
-
--- an answer is handed on where it was given
-pub answer-given : (given : Bool) {answer : Bor Answer} {asked : Option (Bor Answer)} → asked ≡ then_some given answer → option_copied asked ≡ (if given then Some answer.now else None)
-answer-given true is = ap option_copied is
-answer-given false is = ap option_copied is
 
 -- what a run of the operations does next, and what becomes of it
 pub record MovesOn (of : TagOperations) (here : OperationsSoFar) (past : List Item) (u : AreInDialogue of here past) (next : OpNext) (after : OpRunValue) : Type 0 where

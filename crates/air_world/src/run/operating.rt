@@ -1,5 +1,5 @@
 //! The operations of a round with a tag that was listed.
-ghost use Rattle.std.specs.Prelude.{◌≡◌, ◌||◌, ◌≤◌, ℕ, List, [], length};
+ghost use Rattle.std.specs.Prelude.{◌≡◌, ◌||◌, ◌≤◌, ℕ, List, [], None, Some, length, if◌then◌else◌, option_copied};
 ghost use Rattle.access_ops.specs.OpRunValue.{OpRunStandsFor};
 ghost use Rattle.access_ops.specs.Operations.{IsAnswerFor, dialogue_of, reception_in};
 ghost use Rattle.access_ops.specs.declared.op_next.Answer.TheVariants.{Got as GotAnswer};
@@ -48,7 +48,7 @@ impl<'a, L: Ledger> Run<'a, L> {
         let mut is_answered = false;
         let mut index = 1;
         'moves: loop {
-            run.next(operations, is_answered.then_some(&answer), &mut next);
+            run.next(operations, last_answer(is_answered, &answer), &mut next);
             match &next {
                 OpNext::Send {
                     command,
@@ -100,6 +100,13 @@ impl<'a, L: Ledger> Run<'a, L> {
             _ => hear(air, expect, extended, &mut self.bits, answer),
         }
     }
+}
+
+/// The answer, where there is one to what was done last.
+fn last_answer(is_answered: bool, answer: &Answer) -> Option<&Answer>
+    ensures { option_copied result ≡ if is_answered then Some answer.now else None }
+{
+    if is_answered { Some(answer) } else { None }
 }
 
 /// Gives what is received of the last stream of an air as what is heard, in place of what was heard before.

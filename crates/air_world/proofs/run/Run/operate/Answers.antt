@@ -1,5 +1,5 @@
 use Rattle.air_world.proofs.Names.{refl, ◌∙◌, ap, arith, operated, tags-operated}
-use Rattle.air_world.proofs.Operating.{Asked, MovesOn, answer-given, operations-begin, operations-end, operations-sent, operations-told, sends-next}
+use Rattle.air_world.proofs.Operating.{Asked, MovesOn, operations-begin, operations-end, operations-sent, operations-told, sends-next}
 use Rattle.air_world.proofs.Passing.{stands-told}
 use Rattle.air_world.proofs.Slots.{stands-same}
 use Rattle.air_world.proofs.run.Run.operate.Goals as goal
@@ -12,7 +12,7 @@ converse-requires g c =
     let r = c.requires.underway in
     let first = c.requires.first in
     let u = c.moves.invariant r.begun r.past first.epc first.rn r.stands first.stands in
-    let given = answer-given _ c.then_some.ensures ∙ u.are.last in
+    let given = c.last_answer.ensures ∙ u.are.last in
     let on : MovesOn _ _ u.past u.are _ _ = record { answers = c.next.ensures.next first.epc first.rn u.are.moves u.are.goes given; fewer = c.next.ensures.turns } in
     let asked : Asked = record { command = c.in-Send.command; expect = c.in-Send.expect; extended = c.in-Send.extended } in
     let sends = sends-next asked on c.in-Send.is in
@@ -24,7 +24,7 @@ converse-requires g c =
 pub moves-preserved-in-Send : goal.moves-preserved-in-Send
 moves-preserved-in-Send g c = λ begun past epc rn stands goes.
     let u = c.moves.invariant begun past epc rn stands goes in
-    let on : MovesOn _ _ u.past u.are _ _ = record { answers = c.next.ensures.next epc rn u.are.moves u.are.goes (answer-given _ c.then_some.ensures ∙ u.are.last); fewer = c.next.ensures.turns } in
+    let on : MovesOn _ _ u.past u.are _ _ = record { answers = c.next.ensures.next epc rn u.are.moves u.are.goes (c.last_answer.ensures ∙ u.are.last); fewer = c.next.ensures.turns } in
     record {
       past = _;
       stands = c.converse.ensures.stands begun u.past c.args.round c.args.slot u.stands;
@@ -42,7 +42,7 @@ overflow_add-index g c =
 pub moves-preserved : goal.moves-preserved
 moves-preserved g c = λ begun past epc rn stands goes.
     let u = c.moves.invariant begun past epc rn stands goes in
-    let on : MovesOn _ _ u.past u.are _ _ = record { answers = c.next.ensures.next epc rn u.are.moves u.are.goes (answer-given _ c.then_some.ensures ∙ u.are.last); fewer = c.next.ensures.turns } in
+    let on : MovesOn _ _ u.past u.are _ _ = record { answers = c.next.ensures.next epc rn u.are.moves u.are.goes (c.last_answer.ensures ∙ u.are.last); fewer = c.next.ensures.turns } in
     record {
       past = _;
       stands = stands-told (operated c.args.round c.args.slot c.moves.index c.in-Result.ended) u.stands (record { on = c.tell.ensures })
@@ -53,5 +53,5 @@ moves-preserved g c = λ begun past epc rn stands goes.
 pub returns-in-End : goal.returns-in-End
 returns-in-End g c = λ begun past epc rn stands goes.
     let u = c.moves.invariant begun past epc rn stands goes in
-    let on : MovesOn _ _ u.past u.are _ _ = record { answers = c.next.ensures.next epc rn u.are.moves u.are.goes (answer-given _ c.then_some.ensures ∙ u.are.last); fewer = c.next.ensures.turns } in
+    let on : MovesOn _ _ u.past u.are _ _ = record { answers = c.next.ensures.next epc rn u.are.moves u.are.goes (c.last_answer.ensures ∙ u.are.last); fewer = c.next.ensures.turns } in
     stands-same (operations-end on c.in-End.is) u.stands
