@@ -7,16 +7,16 @@
 #![tactic(auto)]
 
 mod ascii;
+mod binary;
 mod byte_tests;
 mod code_names;
 mod decimal_numbers;
-mod digits;
+mod either_case_hex;
 mod exact;
 mod fault_lines;
 mod fields;
 mod fields_fault;
-mod hex_bytes;
-mod hex_words;
+mod hexadecimal;
 mod laws;
 mod lines;
 mod next_fields;
@@ -25,9 +25,10 @@ mod short_text;
 mod word_lists;
 
 pub use ascii::push_ascii;
+pub use binary::{Digits, is_binary_digit, list_digits, one_bit, push_bits};
 pub use code_names::{code_named, name_of};
 pub use decimal_numbers::{number, push_long_number, push_number};
-pub use digits::{Digits, is_binary_digit, list_digits, one_bit, push_bits};
+pub use either_case_hex::HexBytes;
 pub use exact::{
     are_filled, five_fields, four_fields, is_at_end, one_field, seven_fields, six_fields,
     three_fields, two_fields,
@@ -35,8 +36,7 @@ pub use exact::{
 pub use fault_lines::fault_line;
 pub use fields::Fields;
 pub use fields_fault::FieldsFault;
-pub use hex_bytes::HexBytes;
-pub use hex_words::{byte, push_byte_hex, push_hex_digit, push_word, push_words, word};
+pub use hexadecimal::{byte, push_byte_hex, push_hex_digit, push_word, push_words, word};
 pub use laws::{
     bits_are_told_apart, fields_come_back, lines_come_back, numbers_are_told_apart,
     spellings_are_field_texts, word_lists_are_told_apart, words_are_told_apart,

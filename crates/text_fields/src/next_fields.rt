@@ -6,9 +6,9 @@ ghost use Rattle.text_fields.specs.Binary.{binary};
 ghost use Rattle.text_fields.specs.Hexadecimal.{hex_word, hex_words};
 ghost use Rattle.text_fields.specs.Lines.{fields_behind, line_with, space};
 
+use crate::binary::push_bits;
 use crate::decimal_numbers::{push_long_number, push_number};
-use crate::digits::push_bits;
-use crate::hex_words::{push_word, push_words};
+use crate::hexadecimal::{push_word, push_words};
 use bit_strings::OutOfMemory;
 
 /// Writes a name as the next field. After an error the text may hold a part of it.

@@ -5,8 +5,8 @@ ghost use Rattle.text_fields.specs.Binary.{hyphen};
 ghost use Rattle.text_fields.specs.Hexadecimal.{hex_words};
 ghost use Rattle.text_fields.specs.WordLists.{digit_number, first_word, is_upper_hex_digit};
 
+use crate::binary::list_digits;
 use crate::byte_tests::{ByteTest, all_pass};
-use crate::digits::list_digits;
 use bit_strings::OutOfMemory;
 use std::alloc::Global;
 use std::marker::Model;

@@ -4,8 +4,8 @@ use Rattle.std.proofs.lemmas.List.{length-map}
 use Rattle.std.specs.List.{AllPass}
 use Rattle.text_fields.specs.Binary.{binary_digit, bits_of_digits, is_binary_digit}
 use Rattle.text_fields.proofs.BinaryLaws.{no_hyphen, spells_bits, bits_of_digits-map, AllPass-digits}
-use Rattle.text_fields.proofs.digits.Digits.new.Goals as goal
-use Rattle.text_fields.proofs.digits.Digits.new.Goals.{then-digits-most-via-then-digits-most, then-digits-most-via-else-digits-most+then-not-all_pass}
+use Rattle.text_fields.proofs.binary.Digits.new.Goals as goal
+use Rattle.text_fields.proofs.binary.Digits.new.Goals.{then-digits-most-via-then-digits-most, then-digits-most-via-else-digits-most+then-not-all_pass}
 
 pub returns-in_err-digits-clause-only : goal.returns-in_err-digits-clause-only
 returns-in_err-digits-clause-only c = λ bits few spells.

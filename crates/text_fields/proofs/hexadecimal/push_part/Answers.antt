@@ -5,7 +5,7 @@ use Rattle.std.specs.Str.{IsAscii}
 use Rattle.text_fields.specs.Hexadecimal.{hex_byte, hex_word}
 use Rattle.text_fields.proofs.ByteDigits.{bytes_of_words}
 use Rattle.text_fields.proofs.UpperHexadecimal.{digits_ascii, words_pass}
-use Rattle.text_fields.proofs.hex_words.push_part.Goals as goal
+use Rattle.text_fields.proofs.hexadecimal.push_part.Goals as goal
 
 pub push_ascii-requires : goal.push_ascii-requires
 push_ascii-requires c =

@@ -2,7 +2,7 @@ use Rattle.std.proofs.Common.{◌≡◌, ◌++◌, length}
 use Rattle.std.specs.List.{flat_map}
 use Rattle.std.specs.String.{string_bytes}
 use Rattle.text_fields.specs.Hexadecimal.{hex_word}
-use Rattle.text_fields.proofs.hex_words.push_parts.Given as goal
+use Rattle.text_fields.proofs.hexadecimal.push_parts.Given as goal
 
 -- the words that are still to be written make the text whole
 abbrev pub invariant-loop-rest : goal.invariant-loop-rest

@@ -1,7 +1,7 @@
 use Rattle.std.proofs.Common.{◌≡◌, ◌++◌, length, map}
 use Rattle.std.specs.String.{string_bytes}
 use Rattle.text_fields.specs.Binary.{binary_digit}
-use Rattle.text_fields.proofs.digits.push_parts.Given as goal
+use Rattle.text_fields.proofs.binary.push_parts.Given as goal
 
 -- the digits that are still to be written make the text whole
 abbrev pub invariant-loop-part : goal.invariant-loop-part

@@ -3,7 +3,7 @@ use Rattle.std.proofs.Common.{◌≡◌, ◌∙◌, ℕ, Bool, List, ◌++◌, a
 use Rattle.std.proofs.lemmas.List.{map-append, take-append-drop}
 use Rattle.std.specs.String.{string_bytes}
 use Rattle.text_fields.specs.Binary.{binary_digit}
-use Rattle.text_fields.proofs.digits.push_parts.Goals as goal
+use Rattle.text_fields.proofs.binary.push_parts.Goals as goal
 
 -- bits in two parts have the digits of each
 in_parts : (text : List ℕ) (bits part behind : List Bool) (count : ℕ) → part ≡ take count bits → behind ≡ drop count bits

@@ -1,6 +1,6 @@
 use Rattle.std.proofs.Common.{◌≡◌, map, take}
 use Rattle.std.specs.Int.{to_be_bytes, w16}
-use Rattle.text_fields.proofs.hex_words.write_bytes.Given as goal
+use Rattle.text_fields.proofs.hexadecimal.write_bytes.Given as goal
 
 -- the places so far hold the bytes of their words
 abbrev pub invariant-loop-at : goal.invariant-loop-at
