@@ -4,7 +4,8 @@ use Rattle.scenario_lines.specs.declared.keywords.Keyword.TheVariants as keyword
 use Rattle.scenario_lines.specs.declared.line.Line.{Line}
 use Rattle.scenario_lines.specs.declared.line.Line.TheVariants as lines
 use Rattle.scenario_lines.specs.declared.tag.TagSpec.{TagSpec}
-use Rattle.scenario_lines.specs.LineFaults.{IsFaultyBehind, IsFaultyLine, SpellsLine}
+use Rattle.scenario_lines.specs.LineFaults.{IsFaultyBehind, IsFaultyLine}
+use Rattle.scenario_lines.specs.SpelledLines.{SpellsLine}
 use Rattle.scenario_lines.specs.LineForm.{HasForm}
 use Rattle.scenario_lines.specs.Reading.{MisreadsTag}
 use Rattle.scenario_lines.specs.Spelling.{keyword_of, other_fields, tag_spec_fields}

@@ -6,7 +6,8 @@ use Rattle.scenario_lines.specs.declared.line.Line.{Line}
 use Rattle.scenario_lines.specs.declared.line.Line.TheVariants as lines
 use Rattle.scenario_lines.specs.declared.version.Version.{Version as TextVersion}
 use Rattle.scenario_lines.specs.LineBeginnings.{spelled_begins}
-use Rattle.scenario_lines.specs.LineFaults.{IsFaultyLine, SpellsLine}
+use Rattle.scenario_lines.specs.LineFaults.{IsFaultyLine}
+use Rattle.scenario_lines.specs.SpelledLines.{SpellsLine}
 use Rattle.scenario_lines.specs.Spelling.{keyword_of, line_text}
 use Rattle.checked_lines.specs.declared.fault.FaultReason.{FaultReason}
 use Rattle.checked_lines.specs.declared.fault.FaultReason.TheVariants.{Word, Order, Limit, Number, Copies, Tag, Twice}

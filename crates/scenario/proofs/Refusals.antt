@@ -2,7 +2,8 @@
 use Rattle.std.proofs.Common.{◌≡◌, inl, inr, ℕ, List}
 use Rattle.scenario_lines.specs.declared.keywords.Keyword.{Keyword}
 use Rattle.scenario_lines.specs.declared.line.Line.{Line}
-use Rattle.scenario_lines.specs.LineFaults.{BeginsWithKeyword, IsFaultyLine, SpellsLine}
+use Rattle.scenario_lines.specs.LineFaults.{BeginsWithKeyword, IsFaultyLine}
+use Rattle.scenario_lines.specs.SpelledLines.{SpellsLine}
 use Rattle.checked_lines.specs.declared.fault.FaultReason.{FaultReason}
 use Rattle.scenario.specs.Faults.{DisagreesAt, IsFaultyAt}
 use Rattle.scenario.specs.Standing.{HasRoomForLine, MayStand, ScenarioStanding}

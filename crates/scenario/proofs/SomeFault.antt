@@ -8,7 +8,7 @@ use Rattle.scenario_lines.specs.declared.line.Line.TheVariants as lines
 use Rattle.scenario_lines.specs.declared.version.Version.{Version as TextVersion}
 use Rattle.scenario_lines.specs.declared.version.Version.TheVariants.{One, Two}
 use Rattle.scenario_lines.specs.LineBeginnings.{spelled_begins}
-use Rattle.scenario_lines.specs.LineFaults.{SpellsLine}
+use Rattle.scenario_lines.specs.SpelledLines.{SpellsLine}
 use Rattle.scenario_lines.specs.Spelling.{line_text, keyword_of}
 use Rattle.scenario.specs.ScenarioText.{IsScenarioText}
 use Rattle.checked_lines.specs.declared.fault.FaultReason.{FaultReason}

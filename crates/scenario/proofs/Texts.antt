@@ -10,7 +10,7 @@ use Rattle.checked_lines.specs.TextRules.{Lead}
 use Rattle.scenario_lines.specs.declared.line.Line.{Line}
 use Rattle.scenario_lines.specs.LineForm.{IsLine}
 use Rattle.scenario_lines.specs.Spelling.{line_fields, line_text}
-use Rattle.scenario_lines.specs.LineFaults.{SpellsLine}
+use Rattle.scenario_lines.specs.SpelledLines.{SpellsLine}
 use Rattle.scenario.specs.laws.LineLaws.{LineLaws}
 use Rattle.scenario.specs.Standing.{LinesLead, ScenarioStanding, standing_after}
 use Rattle.scenario.specs.Faults.{LeadsBy, scenario_rules}

@@ -7,7 +7,8 @@ use Rattle.scenario_lines.specs.declared.line.Line.{Line}
 use Rattle.scenario_lines.specs.declared.line.Line.TheVariants as lines
 use Rattle.scenario_lines.specs.declared.version.Version.{Version as TextVersion}
 use Rattle.scenario_lines.specs.Spelling.{line_text}
-use Rattle.scenario_lines.specs.LineFaults.{BeginsWithKeyword, IsFaultyLine, SpellsLine}
+use Rattle.scenario_lines.specs.LineFaults.{BeginsWithKeyword, IsFaultyLine}
+use Rattle.scenario_lines.specs.SpelledLines.{SpellsLine}
 use Rattle.checked_lines.specs.declared.fault.FaultReason.{FaultReason}
 use Rattle.checked_lines.specs.declared.fault.FaultReason.TheVariants.{Extra, End, Version, Word, Order, Limit, Number, Copies, Tag, Twice}
 use Rattle.checked_lines.specs.declared.fault.Unread.{Unread}

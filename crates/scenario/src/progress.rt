@@ -1,7 +1,7 @@
 //! How far the reader of a scenario has come, and what the next line says.
 ghost use Rattle.std.specs.Prelude.{◌≡◌, ◌↔◌, [], IsTrue, IfOk, IfErr, OnOk};
 ghost use Rattle.text_fields.specs.Lines.{fields_of};
-ghost use Rattle.scenario_lines.specs.LineFaults.{SpellsLine};
+ghost use Rattle.scenario_lines.specs.SpelledLines.{SpellsLine};
 ghost use Rattle.scenario_lines.specs.Spelling.{line_text};
 ghost use Rattle.scenario.specs.Faults.{DisagreesAt, IsFaultyAt, IsFaultyInScenario, LeadsBy};
 ghost use Rattle.scenario.specs.Standing.{AgreesWith, MayStandNext, HasRoomForLine, MayStand, standing_after, begun, start};

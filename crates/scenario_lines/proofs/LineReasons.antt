@@ -14,7 +14,8 @@ use Rattle.checked_lines.specs.declared.fault.FaultReason.{FaultReason}
 use Rattle.checked_lines.specs.declared.fault.FaultReason.TheVariants.{Word as WordFault, Shape, Number, Tari, RtCal, TrCal, Pw, Pc}
 use Rattle.scenario_lines.specs.Names.{keyword_text}
 use Rattle.scenario_lines.specs.LineForm.{HasForm, IsCoherent}
-use Rattle.scenario_lines.specs.LineFaults.{BeginsWithKeyword, BreaksLink, HasKnownKind, HasShape, IsFaultyLine, IsFaultyBehind, SpellsBehind, SpellsLine}
+use Rattle.scenario_lines.specs.LineFaults.{BeginsWithKeyword, BreaksLink, HasKnownKind, HasShape, IsFaultyLine, IsFaultyBehind}
+use Rattle.scenario_lines.specs.SpelledLines.{SpellsBehind, SpellsLine}
 use Rattle.scenario_lines.specs.Spelling.{line_fields, other_fields, keyword_of}
 use Rattle.scenario_lines.specs.Reading.{link_fault}
 use Rattle.scenario_lines.proofs.LineShapes.{line_shape, shaped_known}

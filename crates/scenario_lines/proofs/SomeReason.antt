@@ -16,7 +16,8 @@ use Rattle.checked_lines.specs.declared.fault.FaultReason.TheVariants.{Word as W
 use Rattle.scenario_lines.specs.Names.{air_field_count, air_word, all_keywords, event_field_count, op_field_count, keyword_found, keyword_text}
 use Rattle.scenario_lines.specs.LineForm.{HasForm, IsCoherent, IsLinkForm}
 use Rattle.scenario_lines.specs.TagForm.{IsTagForm}
-use Rattle.scenario_lines.specs.LineFaults.{BeginsWithKeyword, BreaksPc, BreaksPcOfCopies, HasKnownKind, HasShape, IsFaultyLine, SpellsLine}
+use Rattle.scenario_lines.specs.LineFaults.{BeginsWithKeyword, BreaksPc, BreaksPcOfCopies, HasKnownKind, HasShape, IsFaultyLine}
+use Rattle.scenario_lines.specs.SpelledLines.{SpellsLine}
 use Rattle.text_fields.specs.NamedFields.{AreFilled}
 use Rattle.text_fields.proofs.FilledFields.{Filled}
 use Rattle.scenario_lines.specs.Reading.{link_fault}

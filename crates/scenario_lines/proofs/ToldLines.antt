@@ -23,7 +23,7 @@ use Rattle.scenario_lines.specs.declared.line.Line.TheVariants as lines
 use Rattle.scenario_lines.specs.Names.{air_kind, air_word, event_kind, event_word, op_kind, op_word, keyword_text, several_text, version_digit}
 use Rattle.scenario_lines.specs.TagForm.{IsTagForm}
 use Rattle.scenario_lines.specs.LineForm.{HasForm, IsEvent, IsHappening, IsLinkForm, IsRound, IsSelection}
-use Rattle.scenario_lines.specs.LineFaults.{SpellsLine}
+use Rattle.scenario_lines.specs.SpelledLines.{SpellsLine}
 use Rattle.wire_text.specs.PasswordsAndLocks.{password_text}
 use Rattle.scenario_lines.specs.Spelling.{event_fields, happening_fields, line_fields, link_fields, op_fields, other_fields, round_fields, select_fields, tag_spec_fields, keyword_of}
 use Rattle.scenario_lines.proofs.Counted.{field_at}

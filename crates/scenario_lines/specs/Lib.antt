@@ -6,3 +6,4 @@ pub mod Spelling
 pub mod LineFaults
 pub mod LineBeginnings
 pub mod Reading
+pub mod SpelledLines

@@ -3,7 +3,8 @@ use Rattle.std.proofs.Common.{List, ℕ, refl, subst, sym}
 use Rattle.scenario_lines.specs.declared.line.Line.{Line}
 use Rattle.scenario_lines.specs.declared.line.Line.TheVariants as lines
 use Rattle.scenario_lines.specs.Names.{air_kind, event_kind, op_kind}
-use Rattle.scenario_lines.specs.LineFaults.{BeginsWithKeyword, HasKnownKind, SpellsLine}
+use Rattle.scenario_lines.specs.LineFaults.{BeginsWithKeyword, HasKnownKind}
+use Rattle.scenario_lines.specs.SpelledLines.{SpellsLine}
 use Rattle.scenario_lines.specs.Spelling.{line_fields, other_fields, keyword_of}
 
 -- the kind of a scenario's line is one of its keyword's kinds

@@ -17,8 +17,8 @@ use Rattle.checked_lines.specs.declared.fault.FaultReason.{FaultReason}
 use Rattle.checked_lines.specs.declared.fault.FaultReason.TheVariants.{Word as WordFault, Shape, Number, Tari, RtCal, TrCal, Pw, Pc}
 use Rattle.scenario_lines.specs.Names.{keyword_text, event_word, event_field_count, op_word, op_field_count, air_word, air_field_count}
 use Rattle.scenario_lines.specs.TagForm.{IsTagForm}
-use Rattle.scenario_lines.specs.LineForm.{IsLinkForm, IsCopyCount, HasForm, IsLine}
-use Rattle.scenario_lines.specs.Spelling.{link_fields, tag_spec_fields, copies_fields, keyword_of, other_fields, line_fields}
+use Rattle.scenario_lines.specs.LineForm.{IsLinkForm, IsCopyCount, HasForm}
+use Rattle.scenario_lines.specs.Spelling.{link_fields, tag_spec_fields, copies_fields, keyword_of, other_fields}
 
 -- where a kind stands behind the first field, it is one of its kinds
 abbrev pub HasKnownKind : Keyword → List (List ℕ) → Type 0
@@ -106,14 +106,3 @@ abbrev pub IsFaultyLine : List (List ℕ) → FaultReason → Type 0
 -- no keyword of a scenario stands at their head, with a kind that is known where a kind is there
 IsFaultyLine fields WordFault = (keyword : Keyword) → ¬ BeginsWithKeyword fields keyword
 IsFaultyLine fields fault = Misspells fields fault
-
--- behind this first field, these fields spell the line, which may stand in a scenario
-pub record SpellsBehind (first : Keyword) (others : List (List ℕ)) (line : Line) : Type 0 where
-  pub same_keyword : keyword_of line ≡ first
-  pub spelling : others ≡ other_fields line
-  pub is : IsLine line
-
--- the fields spell the line, which may stand in a scenario
-pub record SpellsLine (fields : List (List ℕ)) (line : Line) : Type 0 where
-  pub spelling : fields ≡ line_fields line
-  pub is : IsLine line

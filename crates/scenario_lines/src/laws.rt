@@ -10,7 +10,8 @@ ghost use Rattle.scenario_lines.specs.declared.keywords.Keyword.{Keyword};
 ghost use Rattle.scenario_lines.specs.declared.line.Line.{Line};
 ghost use Rattle.checked_lines.specs.declared.fault.FaultReason.{FaultReason};
 ghost use Rattle.scenario_lines.specs.LineForm.{IsLine};
-ghost use Rattle.scenario_lines.specs.LineFaults.{BeginsWithKeyword, IsFaultyLine, SpellsLine};
+ghost use Rattle.scenario_lines.specs.LineFaults.{BeginsWithKeyword, IsFaultyLine};
+ghost use Rattle.scenario_lines.specs.SpelledLines.{SpellsLine};
 ghost use Rattle.scenario_lines.specs.Spelling.{line_fields, keyword_of};
 
 /// Each field of a line may stand as a field.

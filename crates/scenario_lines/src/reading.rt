@@ -1,9 +1,12 @@
 //! Lines, read. Nothing here takes memory: what a line says borrows from its text.
-ghost use Rattle.std.specs.Prelude.{◌≡◌, ◌↔◌, [], IfOk, IfErr, IfSome, IfNone, IsOk, IsOkAnd, IsTrue};
+ghost use Rattle.std.specs.Prelude.{◌≡◌, ◌≤◌, ◌↔◌, [], ◌∷◌, IfOk, IfErr, IfSome, IfNone, IsOk, IsOkAnd, IsTrue};
+ghost use Rattle.std.specs.Fmt.{decimal};
 ghost use Rattle.text_fields.specs.Lines.{fields_of};
 ghost use Rattle.scenario_lines.specs.declared.line.Line.{Line};
 ghost use Rattle.scenario_lines.specs.declared.keywords.Keyword.{Keyword};
-ghost use Rattle.scenario_lines.specs.LineFaults.{BeginsWithKeyword, HasKnownKind, IsFaultyLine, IsFaultyBehind, SpellsLine, SpellsBehind};
+ghost use Rattle.scenario_lines.specs.LineFaults.{BeginsWithKeyword, HasKnownKind, IsFaultyLine, IsFaultyBehind};
+ghost use Rattle.scenario_lines.specs.Reading.{MisreadsNumber};
+ghost use Rattle.scenario_lines.specs.SpelledLines.{SpellsLine, SpellsBehind};
 
 mod air;
 mod event;
@@ -27,8 +30,22 @@ use select::read_select;
 use std::marker::Model;
 use tag::read_copies;
 pub use tag::read_tag;
-use text_fields::{Fields, is_at_end};
+use text_fields::{Fields, is_at_end, number, one_field};
 use wire_text::value_named;
+
+/// The number up to `most` that the one field that is left spells.
+fn one_number(fields: Fields, most: u32) -> Result<u32, FaultReason>
+    ensures ok { IfOk result (λ n. (fields.entry ≡ decimal n ∷ []) × (n ≤ most)) }
+    ensures refused { IfErr result (MisreadsNumber most fields.entry) }
+{
+    let Some(field) = one_field(fields) else {
+        return Err(FaultReason::Shape);
+    };
+    match number(field, most) {
+        Some(number) => Ok(number),
+        None => Err(FaultReason::Number),
+    }
+}
 
 /// Whether a kind that stands behind the first field is one of its kinds. That of an air line stands behind the number of
 /// its exchange.

@@ -6,7 +6,8 @@ use Rattle.scenario_lines.specs.declared.line.Line.{Line}
 use Rattle.checked_lines.specs.declared.fault.FaultReason.{FaultReason}
 use Rattle.checked_lines.specs.declared.fault.FaultReason.TheVariants.{Word}
 use Rattle.scenario_lines.specs.LineForm.{IsLine}
-use Rattle.scenario_lines.specs.LineFaults.{BeginsWithKeyword, IsFaultyLine, SpellsLine}
+use Rattle.scenario_lines.specs.LineFaults.{BeginsWithKeyword, IsFaultyLine}
+use Rattle.scenario_lines.specs.SpelledLines.{SpellsLine}
 use Rattle.scenario_lines.specs.Spelling.{line_fields}
 
 pub record LineLaws : Type 0 where

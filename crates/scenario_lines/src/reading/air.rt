@@ -10,7 +10,8 @@ ghost use Rattle.scenario_lines.specs.Spelling.{happening_fields};
 ghost use Rattle.text_fields.specs.NamedFields.{AreFilled};
 ghost use Rattle.scenario_lines.specs.Reading.{IsHappeningText, Misreads, MisreadsAirLine, MisreadsHappening};
 
-use super::event::{MOST_PLACE, event_behind, one_number};
+use super::event::{MOST_PLACE, event_behind};
+use super::one_number;
 use crate::choice::{ChoiceFields, ChoiceText};
 use crate::{AirKind, Happening};
 use air_events::LONGEST_STREAM;

@@ -1,34 +1,20 @@
 //! Event lines, read, and the events of air lines.
-ghost use Rattle.std.specs.Prelude.{◌≡◌, ◌≤◌, IfOk, IfErr, [], ◌∷◌};
-ghost use Rattle.std.specs.Fmt.{decimal};
+ghost use Rattle.std.specs.Prelude.{◌≡◌, IfOk, IfErr, ◌∷◌};
 ghost use Rattle.air_events.specs.declared.Event.{Event};
 ghost use Rattle.scenario_lines.specs.LineForm.{IsEvent};
 ghost use Rattle.scenario_lines.specs.Spelling.{event_fields};
-ghost use Rattle.scenario_lines.specs.Reading.{IsEventText, MisreadsEvent, MisreadsEventLine, MisreadsNumber};
+ghost use Rattle.scenario_lines.specs.Reading.{IsEventText, MisreadsEvent, MisreadsEventLine};
 ghost use Rattle.scenario_lines.specs.Names.{event_kind, event_word};
 
+use super::one_number;
 use crate::EventKind;
 use crate::names::{event_kind_named, expiring_flag_named};
 use air_events::Event;
 use checked_lines::FaultReason;
-use text_fields::{Fields, number, one_field, two_fields};
+use text_fields::{Fields, number, two_fields};
 
 /// The greatest number of a tag or of a reply.
 pub(crate) const MOST_PLACE: u32 = 4_095;
-
-/// The number up to `most` that the one field that is left spells.
-pub(crate) fn one_number(fields: Fields, most: u32) -> Result<u32, FaultReason>
-    ensures ok { IfOk result (λ n. (fields.entry ≡ decimal n ∷ []) × (n ≤ most)) }
-    ensures refused { IfErr result (MisreadsNumber most fields.entry) }
-{
-    let Some(field) = one_field(fields) else {
-        return Err(FaultReason::Shape);
-    };
-    match number(field, most) {
-        Some(number) => Ok(number),
-        None => Err(FaultReason::Number),
-    }
-}
 
 /// The end of a flag's persistence, which the fields behind `expire` spell, and the number of its tag.
 fn read_expire(fields: Fields) -> Result<(Event, u32), FaultReason>

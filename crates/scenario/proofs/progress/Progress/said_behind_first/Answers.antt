@@ -3,7 +3,8 @@ use Rattle.std.proofs.Common.{inl, refl, rules, subst, sym}
 use Rattle.text_fields.specs.Lines.{fields_of}
 use Rattle.scenario_lines.specs.declared.keywords.Keyword.{Keyword}
 use Rattle.scenario_lines.specs.LineBeginnings.{spelled_begins}
-use Rattle.scenario_lines.specs.LineFaults.{BeginsWithKeyword, IsFaultyLine, SpellsLine}
+use Rattle.scenario_lines.specs.LineFaults.{BeginsWithKeyword, IsFaultyLine}
+use Rattle.scenario_lines.specs.SpelledLines.{SpellsLine}
 use Rattle.scenario_lines.specs.Spelling.{keyword_of}
 use Rattle.scenario.specs.Faults.{IsFaultyAt}
 use Rattle.scenario.specs.Standing.{HasRoomForLine, MayStand}
