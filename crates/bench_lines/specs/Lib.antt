@@ -11,4 +11,5 @@ pub mod LogText
 pub mod VerdictLine
 pub mod Judged
 pub mod ReadEntries
+pub mod StateLine
 pub use Rattle.log_judge.specs.Answers

@@ -3,26 +3,19 @@
 use Rattle.std.specs.Prelude.{◌≡◌, ℕ, ◌+◌, Bool, true, false, List, [], ◌∷◌, ◌++◌, codes, Option, Some, None}
 use Rattle.std.specs.List.{AllZip}
 use Rattle.std.specs.Fmt.{decimal}
-use Rattle.text_fields.specs.Lines.{fields_behind, line_with, text_with}
-use Rattle.text_fields.specs.Hexadecimal.{hex_word}
+use Rattle.text_fields.specs.Lines.{line_with, text_with}
 use Rattle.command_grammar.specs.declared.commands.Command.{Command}
 use Rattle.command_grammar.specs.Commands.{SpellsCommand}
 use Rattle.wire_text.specs.ReplyText.{reply_line}
-use Rattle.report_lines.specs.ReportLine.{TagLine, DoneLine, flags_word, report_text, state_word}
+use Rattle.report_lines.specs.ReportLine.{TagLine, DoneLine, report_text}
 use Rattle.scenario_lines.specs.declared.tag.TagSpec.{TagSpec}
-use Rattle.tag_machine.specs.declared.state_numbers.StateNumbers.{StateNumbers}
-use Rattle.tag_machine.specs.declared.state_numbers.StateNumbers.TheVariants as numbers
-use Rattle.tag_machine.specs.declared.states.Half.{Half}
-use Rattle.tag_machine.specs.declared.states.Password.{Password}
-use Rattle.tag_machine.specs.declared.states.Password.TheVariants as passwords
 use Rattle.tag_machine.specs.Answers.{Outcome, Sent, silent}
 use Rattle.tag_machine.specs.Events.{tag_after_event, tag_of_image}
-use Rattle.tag_machine.specs.StateNames.{name_of}
-use Rattle.tag_machine.specs.StateNumbers.{numbers_of}
 use Rattle.tag_machine.specs.Step.{step}
 use Rattle.tag_machine.specs.TagValue.{TagValue}
 use Rattle.bench_lines.specs.Stimuli.{Stimulus, StimulusEffect, Hears, Befalls, Nothing}
 use Rattle.bench_lines.specs.Stimuli as stimuli
+use Rattle.bench_lines.specs.StateLine.{state_line}
 
 -- What a line does to the tag. Bits are the command that they spell; where they spell none, the tag hears nothing.
 abbrev pub HasEffect : Stimulus → StimulusEffect → Type 0
@@ -47,34 +40,6 @@ answer_preamble_word false = codes "plain"
 abbrev pub probe_answer_line : ℕ → Option Sent → List ℕ
 probe_answer_line number None = line_with (codes "answer" ∷ decimal number ∷ codes "-" ∷ [])
 probe_answer_line number (Some sent) = line_with (codes "answer" ∷ decimal number ∷ answer_preamble_word sent.extended ∷ reply_line sent.reply ∷ [])
-
--- the cover of a tag as a field of a probe's answer, or a hyphen
-abbrev pub cover_word : Option ℕ → List ℕ
-cover_word None = codes "-"
-cover_word (Some cover) = hex_word cover
-
--- the first half of a password that a tag holds, as a field of a probe's answer with the password's name, or a hyphen
-abbrev pub password_word : Password → List ℕ
-password_word passwords.Kill = codes "kill-"
-password_word passwords.Access = codes "access-"
-
-abbrev pub half_word : Option Half → List ℕ
-half_word None = codes "-"
-half_word (Some half) = password_word half.password ++ hex_word half.value
-
--- the fields of a probe's answer that tell the numbers of the tag's state
-abbrev pub number_fields : StateNumbers → List (List ℕ)
-number_fields numbers.None = []
-number_fields (numbers.Waiting session q slot) = decimal session ∷ decimal q ∷ decimal slot ∷ []
-number_fields (numbers.Replied session q rn) = decimal session ∷ decimal q ∷ hex_word rn ∷ []
-number_fields (numbers.Held held) =
-    decimal held.session ∷ decimal held.q ∷ hex_word held.handle ∷ cover_word held.cover ∷ half_word held.half ∷ []
-
--- what the tag is behind the line of this number: its state, its flags, and the numbers of the state
-abbrev pub state_line : ℕ → TagValue → List ℕ
-state_line number tag =
-    line_with (codes "state" ∷ decimal number ∷ state_word (name_of tag.state) ∷ flags_word tag.body.flags ∷ [])
-    ++ fields_behind (number_fields (numbers_of tag.state))
 
 -- the lines that tell of one line: an event has no answer
 abbrev pub probe_lines_behind : ℕ → StimulusEffect → TagValue → List (List ℕ)

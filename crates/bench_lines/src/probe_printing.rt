@@ -6,7 +6,8 @@ ghost use Rattle.text_fields.specs.Lines.{fields_behind, line_feed, line_with, s
 ghost use Rattle.wire_text.specs.ReplyText.{reply_line};
 ghost use Rattle.tag_machine.specs.Answers.{Sent};
 ghost use Rattle.tag_machine.specs.Hearing.{tag_value_of};
-ghost use Rattle.bench_lines.specs.ProbeAnswers.{probe_answer_line, cover_word, half_word, number_fields, password_word, state_line};
+ghost use Rattle.bench_lines.specs.ProbeAnswers.{probe_answer_line};
+ghost use Rattle.bench_lines.specs.StateLine.{cover_word, half_word, number_fields, password_word, state_line};
 ghost use Rattle.bench_lines.specs.UnreadAnswers.{IsHeardAnswer};
 
 use bit_strings::{Bits, OutOfMemory};

@@ -15,7 +15,8 @@ use Rattle.log_judge.specs.laws.Known.{Known, is_enters, slot_word, waits, want_
 use Rattle.log_judge.proofs.Guesses.{enters_later, enters_now, full_slot, later_by, now_by, not_zero, slot_below_power, zero_slot}
 use Rattle.log_judge.specs.declared.draws.Draws.{Draws}
 use Rattle.log_judge.specs.declared.draws.Draws.TheVariants as draws
-use Rattle.log_judge.specs.Drawing.{has_drawn, slots_behind, want_behind, want_in_turn, want_of_number, want_of_slot, want_of_turn, words_given}
+use Rattle.log_judge.specs.Drawing.{has_drawn, slots_behind, words_given}
+use Rattle.log_judge.specs.Wanted.{want_behind, want_in_turn, want_of_number, want_of_slot, want_of_turn}
 use Rattle.log_judge.specs.KnownTag.{HasFirstSlot, known_of, known_wordless, wordless}
 use Rattle.log_judge.proofs.Fitting.{Fits, IsElsewhere}
 use Rattle.log_judge.proofs.Tests.{so_not, some_or_none}

@@ -22,7 +22,8 @@ use Rattle.log_judge.proofs.OneExchange.{below_is}
 use Rattle.log_judge.proofs.SuitedKinds.{IsGoodKind, IsGoodMove, LeavesSo, good_move}
 use Rattle.log_judge.specs.declared.draws.Draws.{Draws}
 use Rattle.log_judge.specs.declared.draws.Draws.TheVariants as draws
-use Rattle.log_judge.specs.Drawing.{draws_at, fallen, slots_behind, want_behind, words_given}
+use Rattle.log_judge.specs.Drawing.{draws_at, fallen, slots_behind, words_given}
+use Rattle.log_judge.specs.Wanted.{want_behind}
 use Rattle.log_judge.specs.KnownTag.{Goes, HasFirstSlot, known_of, known_wordless, wordless}
 use Rattle.log_judge.proofs.Fitting.{Fits, fits, same_number}
 use Rattle.log_judge.proofs.Tests.{one_number, none_or_some, some_or_none, and_left, and_right, nothing_seen}

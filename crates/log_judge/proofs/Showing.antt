@@ -14,7 +14,8 @@ use Rattle.log_judge.specs.laws.Kinds.{reworded}
 use Rattle.log_judge.specs.laws.Known.{Known, any_behind, prepared, want_of, want_of_answer}
 use Rattle.log_judge.specs.declared.draws.Draws.{Draws}
 use Rattle.log_judge.specs.declared.draws.Draws.TheVariants as draws
-use Rattle.log_judge.specs.Drawing.{draws_at, slots_behind, want_behind, words_given}
+use Rattle.log_judge.specs.Drawing.{draws_at, slots_behind, words_given}
+use Rattle.log_judge.specs.Wanted.{want_behind}
 use Rattle.log_judge.specs.Optional.{AnswersOptional}
 use Rattle.log_judge.specs.KnownTag.{Goes, HasFirstSlot, IsExcusedHere, LacksHere, MayGo, known_of, known_wordless, wordless}
 use Rattle.log_judge.proofs.Tests.{no_test, none_or_some}

@@ -8,7 +8,8 @@ use Rattle.log_judge.specs.Log.{Seen, Exchange}
 use Rattle.log_judge.specs.Explaining.{IsOtherError, ByTables, WithLiberties, seen_of}
 use Rattle.log_judge.specs.laws.Kinds.{reworded}
 use Rattle.log_judge.specs.laws.Known.{want_of}
-use Rattle.log_judge.specs.Drawing.{draws_at, slots_behind, want_behind, words_given}
+use Rattle.log_judge.specs.Drawing.{draws_at, slots_behind, words_given}
+use Rattle.log_judge.specs.Wanted.{want_behind}
 use Rattle.log_judge.specs.KnownTag.{Goes, HasFirstSlot, IsExcusedHere, IsReadyFor, LacksHere, MayGo, known_of}
 use Rattle.log_judge.proofs.Moving.{Moves, heard_by, moves}
 use Rattle.log_judge.proofs.Tests.{nothing_seen, something_seen}

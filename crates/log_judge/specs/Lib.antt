@@ -7,3 +7,4 @@ pub mod Log
 pub mod Explaining
 pub mod Verdicts
 pub mod laws
+pub mod Wanted

@@ -3,7 +3,8 @@ ghost use Rattle.std.specs.Prelude.{◌≡◌, ◌-◌, ◌^◌, is_some};
 ghost use Rattle.tag_machine.specs.Hearing.{tag_value_of};
 ghost use Rattle.tag_machine.specs.StateNumbers.{numbers_of};
 ghost use Rattle.log_judge.specs.Answers.{seen_in, want_in};
-ghost use Rattle.log_judge.specs.Drawing.{comes_now, draws_at, fallen, falls_in_turn, first_word_given, has_drawn, rn16_wanted, slots_behind, slots_told, want_behind, want_told};
+ghost use Rattle.log_judge.specs.Drawing.{draws_at, fallen, falls_in_turn, first_word_given, has_drawn, slots_behind, slots_told};
+ghost use Rattle.log_judge.specs.Wanted.{comes_now, rn16_wanted, want_behind, want_told};
 
 use crate::answer::Answer;
 use crate::verdict::Want;

@@ -6,7 +6,8 @@ use Rattle.log_judge.specs.Explaining.{ByTables}
 use Rattle.log_judge.specs.laws.Known.{want_of}
 use Rattle.log_judge.specs.declared.draws.Draws.{Draws}
 use Rattle.log_judge.specs.Answers.{seen_in, want_in}
-use Rattle.log_judge.specs.Drawing.{draws_at, slots_behind, want_behind}
+use Rattle.log_judge.specs.Drawing.{draws_at, slots_behind}
+use Rattle.log_judge.specs.Wanted.{want_behind}
 use Rattle.log_judge.specs.KnownTag.{Goes, HasFirstSlot, known_of}
 use Rattle.log_judge.proofs.ShownBy.{IsHeard, excused, explained_none, explained_some, first_none, refused, wanted_is}
 use Rattle.log_judge.proofs.known_tag.shown_by.Given.{Over}

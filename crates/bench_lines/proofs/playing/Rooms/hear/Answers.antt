@@ -5,7 +5,8 @@ use Rattle.tag_machine.specs.Hearing.{tag_value_of}
 use Rattle.tag_machine.specs.Step.{step}
 use Rattle.tag_machine.specs.TagValue.{TagValue}
 use Rattle.tag_machine.specs.laws.Replies.{expect_of}
-use Rattle.bench_lines.specs.ProbeAnswers.{probe_answer_line, state_line}
+use Rattle.bench_lines.specs.ProbeAnswers.{probe_answer_line}
+use Rattle.bench_lines.specs.StateLine.{state_line}
 use Rattle.bench_lines.proofs.HeardAnswers.{answer_heard, two_lines}
 use Rattle.bench_lines.proofs.playing.Rooms.hear.Goals as goal
 
