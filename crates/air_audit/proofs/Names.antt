@@ -12,7 +12,7 @@ pub use Rattle.air_audit.specs.SentFrame.{IsNoFrame, ReadsCommand, ReadsFrame}
 pub use Rattle.air_audit.specs.TraceOrder.{GoesOnAs, IsTheLine, Place, TellsNextTag, TraceGoesOn, TraceStanding, begun, behind_exchange, behind_told, between, link_line, listing, next_slot, next_tag}
 pub use Rattle.air_audit.specs.TraceOrder.{place_in, place_of_command, record_of, rx_line, sending, telling, told_line}
 pub use Rattle.air_audit.specs.TraceLineWords.{word_of, word_of_line}
-pub use Rattle.air_audit.specs.TraceLines.{AreFrameOf, FrameBeginsWith, Sends}
+pub use Rattle.air_audit.specs.TraceLines.{AreFrameOf, Sends}
 pub use Rattle.air_audit.specs.declared.stop.Stop.{Stop}
 pub use Rattle.air_audit.specs.declared.trace_line_words.Word.{Word}
 pub use Rattle.air_audit.specs.declared.verdict.AuditReason.{AuditReason}
@@ -33,7 +33,7 @@ pub use Rattle.command_grammar.specs.Commands.{IsLegalCommand, Spellings, Spells
 pub use Rattle.command_grammar.specs.declared.commands.Command.{Command}
 pub use Rattle.reply_wire.specs.Codes.{table_of}
 pub use Rattle.pie_line.specs.Link.{IsLegalLink, LinkValue, blf_of}
-pub use Rattle.pie_line.specs.Pie.{IsFrame, frame_kind_of, longest_interval, wave_of}
+pub use Rattle.pie_line.specs.Pie.{IsFrame, frame_kind_of, longest_interval, wave_of, FrameBeginsWith}
 pub use Rattle.pie_line.specs.declared.frame.FrameKind.{FrameKind}
 pub use Rattle.q_round.specs.declared.round.RoundEnd.{RoundEnd}
 pub use Rattle.reply_grammar.specs.Reception.{Reception, no_stream, no_such_reply, reception_from, whole_reply}

@@ -2,12 +2,11 @@
 ghost use Rattle.std.specs.Prelude.{◌≡◌, ◌≢◌, ◌≤◌, ◌↔◌, ℕ, All, IfErr, IsFalse, IsOk, IsTrue, Ok, length, codes};
 ghost use Rattle.bit_strings.specs.BitString.{most_counted};
 ghost use Rattle.command_grammar.specs.declared.commands.Command.{Command};
-ghost use Rattle.pie_line.specs.Pie.{longest_interval};
+ghost use Rattle.pie_line.specs.Pie.{longest_interval, FrameBeginsWith};
 ghost use Rattle.air_model.specs.Channel.{lead_of};
 ghost use Rattle.air_audit.specs.LineRefusals.{IsNoTxLine};
 ghost use Rattle.air_audit.specs.SentFrame.{IsNoFrame, ReadsFrame, ReadsCommand};
 ghost use Rattle.report_lines.specs.ReadLines.{first_field};
-ghost use Rattle.air_audit.specs.TraceLines.{FrameBeginsWith};
 
 use crate::AuditReason;
 use crate::fields::{reason_of, spells};

@@ -101,3 +101,9 @@ wave_of link lead bits = 12500 ∷ (header_of link lead ++ flat_map (λ bit. int
 abbrev pub frame_kind_of : LinkValue → Lead → FrameKind
 frame_kind_of link frame_sync = FrameSync link.tari link.rtcal
 frame_kind_of link preamble = Preamble link.tari link.rtcal link.trcal
+
+-- 6.3.1.2.8: a frame of this kind begins so
+abbrev pub FrameBeginsWith : FrameKind → Lead → Type 0
+FrameBeginsWith (Preamble tari rtcal trcal) preamble = Unit {0}
+FrameBeginsWith (FrameSync tari rtcal) frame_sync = Unit {0}
+FrameBeginsWith kind lead = ⊥
