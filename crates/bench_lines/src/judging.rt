@@ -9,7 +9,7 @@ ghost use Rattle.bench_lines.specs.Judged.{IsJudged, IsRefusedFor};
 ghost use Rattle.bench_lines.specs.LogText.{logged_tag, log_version_line};
 ghost use Rattle.bench_lines.specs.ReadEntries.{HasReadLog};
 
-use crate::log_entries::{Rooms, SaidEntry, read_entry};
+use crate::log_entries::{EntryRooms, SaidEntry, read_entry};
 use crate::log_tag::read_logged_tag;
 use bit_strings::OutOfMemory;
 use checked_lines::{FaultReason, Unread, unread_at};
@@ -58,14 +58,14 @@ fn new_judge(alloc: Global, tag: TagSpec) -> Result<Judge, OutOfMemory>
 }
 
 /// A judge that has heard nothing of the log that a text says, the room for its entries, and what stands behind the line of the tag.
-fn begin(alloc: Global, text: &[u8]) -> Result<(Judge, Rooms, &[u8]), Unread>
+fn begin(alloc: Global, text: &[u8]) -> Result<(Judge, EntryRooms, &[u8]), Unread>
     ensures ok { IfOk result
         (λ it. (tag : LoggedTag) × HasReadLog text.now tag [] (lines_of it.2.now)
         × HasHeardLog tag [] it.0) }
     ensures refused { IfErr result (IsRefusedFor text.now) }
 {
     let (tag, behind) = read_tag(alloc, text)?;
-    let rooms = Rooms::new(alloc)?;
+    let rooms = EntryRooms::new(alloc)?;
     let judge = new_judge(alloc, tag)?;
     Ok((judge, rooms, behind))
 }

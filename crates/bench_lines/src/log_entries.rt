@@ -56,7 +56,7 @@ impl SaidEntry {
 }
 
 /// Room for a command, for bits and for an answer, taken once for all lines.
-pub(crate) struct Rooms {
+pub(crate) struct EntryRooms {
     /// The command that the tag was sent last.
     pub(crate) command: Command,
     /// What it was seen to answer last.
@@ -66,9 +66,9 @@ pub(crate) struct Rooms {
 }
 
 // Written out, so that a drop is one call in the proof of each function that owns these rooms, and not one for each part.
-impl Drop for Rooms {
+impl Drop for EntryRooms {
     fn drop(self) {
-        let Rooms {
+        let EntryRooms {
             command: _,
             answer: _,
             bits: _,
@@ -76,11 +76,11 @@ impl Drop for Rooms {
     }
 }
 
-impl Rooms {
+impl EntryRooms {
     /// Takes the room for the bits of a log's line; no command was sent and no answer seen yet.
-    pub(crate) fn new(alloc: Global) -> Result<Rooms, OutOfMemory> {
+    pub(crate) fn new(alloc: Global) -> Result<EntryRooms, OutOfMemory> {
         let bits = Bits::new(alloc, ROOM)?;
-        Ok(Rooms {
+        Ok(EntryRooms {
             command: Command::Nak,
             answer: Answer::none(),
             bits,
@@ -161,7 +161,7 @@ fn read_end(rest: &[u8], count: u32) -> Result<(), FaultyLine>
 pub(crate) fn read_entry<'a>(
     rest: &'a [u8],
     count: u32,
-    rooms: &mut Rooms,
+    rooms: &mut EntryRooms,
 ) -> Result<(SaidEntry, &'a [u8]), FaultyLine>
     requires { count ≤ 70000 }
     ensures ok { (bytes : List ℕ) (tag : LoggedTag) (log : List LogEntry) → lines_in log ≡ count

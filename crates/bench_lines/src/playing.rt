@@ -68,7 +68,7 @@ fn write_text<O: Sink>(out: &mut O, text: &str) -> Result<(), PlayFault>
 
 /// Room for a command, for bits, for a reply and for what waits to be written, taken once for all lines of a probe.
 #[derive(Drop)]
-struct Rooms {
+struct PlayingRooms {
     command: Command,
     bits: Bits,
     reply: Reply,
@@ -76,14 +76,14 @@ struct Rooms {
     ghost bits_room: { bits.capacity ≡ 8240 },
 }
 
-impl Rooms {
+impl PlayingRooms {
     /// Takes the room. Nothing waits.
-    fn new(alloc: Global) -> Result<Rooms, OutOfMemory>
+    fn new(alloc: Global) -> Result<PlayingRooms, OutOfMemory>
         ensures { IfOk result (λ it. string_bytes it.text ≡ []) }
     {
         let bits = Bits::new(alloc, ROOM)?;
         let text = String::with_capacity(alloc, TEXT_ROOM)?;
-        Ok(Rooms {
+        Ok(PlayingRooms {
             command: Command::Nak,
             bits,
             reply: Reply::Header,
@@ -242,7 +242,7 @@ fn play_on<L: Ledger, O: Sink>(
     blank: Blank,
     first: AnyTag,
     stimuli: Stimuli<'_>,
-    rooms: &mut Rooms,
+    rooms: &mut PlayingRooms,
     out: &mut O,
 ) -> Result<(), PlayFault>
     requires name { blank.name ≡ L.name }
@@ -288,6 +288,6 @@ pub fn play<O: Sink>(alloc: Global, probe: Probe<'_>, out: &mut O) -> Result<(),
     stimuli_have_one_effect();
     let Probe { tag, stimuli } = probe;
     let tag = new_tag(alloc, &tag)?;
-    let mut rooms = Rooms::new(alloc)?;
+    let mut rooms = PlayingRooms::new(alloc)?;
     play_on::<Brand, O>(Blank::new(1), tag, stimuli, &mut rooms, out)
 }

@@ -35,7 +35,7 @@ use text_fields::{Digits, Fields, HexBytes, Words};
 /// Room for the intervals, and for what an answer needs, of the longest line, taken once for all lines.
 pub struct Workspace {
     intervals: Intervals,
-    rooms: Rooms,
+    rooms: AnswerRooms,
     ghost intervals_room: { intervals.capacity ≡ most_intervals },
 }
 
@@ -53,7 +53,7 @@ impl Workspace {
     /// Takes the room for the longest decode line and for what its answer needs.
     pub fn new(alloc: Global) -> Result<Workspace, OutOfMemory> {
         let intervals = Intervals::new(alloc, MOST_INTERVALS)?;
-        let rooms = Rooms::new(alloc)?;
+        let rooms = AnswerRooms::new(alloc)?;
         Ok(Workspace { intervals, rooms })
     }
 
@@ -123,7 +123,7 @@ impl Workspace {
 
 /// Room for the levels, bits, samples, words, the command and the reply of the longest line.
 #[derive(Drop)]
-struct Rooms {
+struct AnswerRooms {
     levels: Levels,
     bits: Bits,
     samples: Vec<u8>,
@@ -134,14 +134,14 @@ struct Rooms {
     ghost bits_room: { bits.capacity ≡ most_levels },
 }
 
-impl Rooms {
+impl AnswerRooms {
     /// Takes the room for the levels, bits, samples and words of the longest decode line.
-    fn new(alloc: Global) -> Result<Rooms, OutOfMemory> {
+    fn new(alloc: Global) -> Result<AnswerRooms, OutOfMemory> {
         let levels = Levels::new(alloc, MOST_LEVELS)?;
         let bits = Bits::new(alloc, MOST_LEVELS)?;
         let samples = Vec::with_capacity(alloc, MOST_SAMPLES as usize)?;
         let words = Vec::with_capacity(alloc, MOST_WORDS as usize)?;
-        Ok(Rooms {
+        Ok(AnswerRooms {
             levels,
             bits,
             samples,

@@ -21,18 +21,18 @@ const ROOM: u32 = 8_240;
 
 /// Room for an answer and for its bits.
 #[derive(Drop)]
-pub(crate) struct Rooms {
+pub(crate) struct AskingRooms {
     /// What the tag answered last.
     pub(crate) answer: Answer,
     bits: Bits,
     ghost bits_room: { bits.capacity ≡ 8240 },
 }
 
-impl Rooms {
+impl AskingRooms {
     /// Takes the room for an answer and its bits, once for a whole log.
-    pub(crate) fn new(alloc: Global) -> Result<Rooms, OutOfMemory> {
+    pub(crate) fn new(alloc: Global) -> Result<AskingRooms, OutOfMemory> {
         let bits = Bits::new(alloc, ROOM)?;
-        Ok(Rooms {
+        Ok(AskingRooms {
             answer: Answer::none(),
             bits,
         })

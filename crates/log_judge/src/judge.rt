@@ -8,7 +8,7 @@ ghost use Rattle.log_judge.specs.Answers.{seen_in, verdict_in};
 ghost use Rattle.log_judge.specs.JudgeStanding.{HasHeardLog, verdict_noted};
 
 use crate::answer::Answer;
-use crate::asking::Rooms;
+use crate::asking::AskingRooms;
 use crate::known_tag::KnownTag;
 use crate::shown::Shown;
 use crate::verdict::Verdict;
@@ -51,7 +51,7 @@ struct Findings {
     verdict: Verdict,
     /// The number of the last line.
     line: u32,
-    rooms: Rooms,
+    rooms: AskingRooms,
 }
 
 impl Findings {
@@ -103,7 +103,7 @@ impl Judge {
             (λ judge. HasHeardLog (record { image = image.now; locks = locks }) [] judge) }
     {
         let known = KnownTag::new(alloc, image, locks)?;
-        let rooms = Rooms::new(alloc)?;
+        let rooms = AskingRooms::new(alloc)?;
         let findings = Findings {
             verdict: Verdict::Yes,
             line: LINES_BEFORE,

@@ -9,7 +9,7 @@ ghost use Rattle.log_judge.specs.Answers.{seen_in};
 ghost use Rattle.log_judge.specs.KnownTag.{Goes, IsReadyFor, LacksHere, Shows, known_of};
 
 use crate::answer::Answer;
-use crate::asking::Rooms;
+use crate::asking::AskingRooms;
 use crate::draws::{Draws, draws_at, fallen, first_word_given, slots_behind, want_behind};
 use crate::optional_commands::answers_optional;
 use crate::shown::Shown;
@@ -60,7 +60,7 @@ fn shown_by<L: Ledger>(
     most: Option<u16>,
     command: &Command,
     seen: &Answer,
-    rooms: &mut Rooms,
+    rooms: &mut AskingRooms,
     steps: &mut Steps<L>,
 ) -> (KnownTag, Shown)
     requires ready { IsReadyFor command.now (seen_in seen.now) (tag_value_of tag) most }
@@ -110,7 +110,7 @@ impl KnownTag {
         self,
         command: &Command,
         seen: &Answer,
-        rooms: &mut Rooms,
+        rooms: &mut AskingRooms,
         steps: &mut Steps<L>,
     ) -> (KnownTag, Shown)
         requires { IsLegalCommand command.now }

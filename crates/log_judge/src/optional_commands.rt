@@ -6,7 +6,7 @@ ghost use Rattle.log_judge.specs.Answers.{seen_in};
 ghost use Rattle.log_judge.specs.Optional.{AnswersOptional, IsUndone, Undoes, answers_held, answers_now, is_header, takes_access, takes_half};
 
 use crate::answer::Answer;
-use crate::asking::Rooms;
+use crate::asking::AskingRooms;
 use bit_strings::Pointer;
 use command_grammar::{Bank, BlockWords, Command};
 use reply_grammar::Reply;
@@ -93,7 +93,7 @@ fn is_header(reply: &Reply) -> bool
     }
 }
 
-impl Rooms {
+impl AskingRooms {
     /// Lets a tag hear a BlockWrite or BlockErase, and then writes back what stood there, so that the tag is as before. What it answered
     /// stands in the room then.
     fn hear_and_undo<L: Ledger>(
