@@ -12,3 +12,4 @@ pub mod Steps
 pub mod Written
 pub mod Halls
 pub mod Names
+pub mod CountedLines

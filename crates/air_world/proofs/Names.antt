@@ -24,7 +24,7 @@ pub use Rattle.air_world.specs.Playing.{begun_with, counted_on, most_in_round, m
 pub use Rattle.air_world.specs.Saying.{AnswersCommand, AreOfDifferentTags, AreShort, IsBehind, IsOneOf}
 pub use Rattle.air_world.specs.Telling.{EndsOrFails, IsCut, IsCutOff, IsCutShort, PlaysOrFails, IsToldWhole, lines_to_tell}
 pub use Rattle.air_world.specs.declared.seen_listener.SeenListener.{SeenListener}
-pub use Rattle.air_world.specs.laws.CountingLaws.{counted-append, counts-more, uncounted, uncounted-frame}
+pub use Rattle.air_world.proofs.CountedLines.{counted-append, counts-more, uncounted, uncounted-frame}
 pub use Rattle.bit_strings.specs.ItemList.{ItemList}
 pub use Rattle.command_grammar.specs.declared.commands.Command.{Command}
 pub use Rattle.pie_line.specs.Link.{LinkValue, blf_of}

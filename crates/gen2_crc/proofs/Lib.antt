@@ -1,3 +1,4 @@
+pub mod DivisionSteps
 pub mod Registers
 pub mod Residue
 pub mod WholeWords

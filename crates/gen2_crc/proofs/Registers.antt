@@ -11,7 +11,8 @@ use Rattle.bit_strings.specs.NumbersInBits.{value_of, field_of}
 use Rattle.bit_strings.specs.laws.NumbersInBits.{value_of-field, field_of-value_of, field_of-mod, same_from_value}
 use Rattle.gen2_crc.specs.Crc.{differ, minus, divide, remainder_of, others5, preset5, others16, preset16, crc5_of, register_of, crc16_of, residue, RegisterStandsFor}
 use Rattle.gen2_crc.specs.laws.CheckNumbers.{length-register_of, length-crc5_of}
-use Rattle.gen2_crc.specs.laws.Division.{one-bit, left_of, left_of-true, left_of-false, remainder_of-append}
+use Rattle.gen2_crc.specs.laws.Division.{one-bit, left_of}
+use Rattle.gen2_crc.proofs.DivisionSteps.{left_of-true, left_of-false, remainder_of-append}
 
 parity : (a b : ℕ) → a < 2 → b < 2 → ((a + b) % 2 == 1) ≡ differ (a == 1) (b == 1)
 parity zero zero p q = refl

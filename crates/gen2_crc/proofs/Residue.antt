@@ -3,7 +3,8 @@ use Rattle.std.proofs.Common.{◌≡◌, ℕ, zero, suc, ◌+◌, Bool, true, fa
 use Rattle.std.specs.Prelude.{map}
 use Rattle.std.proofs.lemmas.List.{same_from_push}
 use Rattle.gen2_crc.specs.Crc.{differ, minus, divide, remainder_of, others16, preset16, register_of, crc16_of, residue}
-use Rattle.gen2_crc.specs.laws.Division.{one-bit, left_of, left_of-true, left_of-false, first-bit, length-one_bit, length-minus, remainder_of-none, remainder_of-append}
+use Rattle.gen2_crc.specs.laws.Division.{one-bit, left_of, first-bit, length-one_bit, length-minus, remainder_of-none}
+use Rattle.gen2_crc.proofs.DivisionSteps.{left_of-true, left_of-false, remainder_of-append}
 use Rattle.gen2_crc.specs.laws.CheckNumbers.{length-register_of}
 use Rattle.gen2_crc.proofs.Registers.{minus-front}
 

@@ -8,7 +8,8 @@ use Rattle.bit_strings.specs.NumbersInBits.{value_of, field_of}
 use Rattle.bit_strings.specs.laws.NumbersInBits.{length-field_of, value_of-field, value_of-append, field_of-value_of, same_from_value}
 use Rattle.gen2_crc.specs.Crc.{minus, remainder_of, others16, preset16, RegisterStandsFor, register_of}
 use Rattle.gen2_crc.specs.declared.tables.TheConstants.{BEHIND_LOWER, BEHIND_UPPER}
-use Rattle.gen2_crc.specs.laws.Division.{first-bit, remainder_of-none, remainder_of-append}
+use Rattle.gen2_crc.specs.laws.Division.{first-bit, remainder_of-none}
+use Rattle.gen2_crc.proofs.DivisionSteps.{remainder_of-append}
 use Rattle.gen2_crc.proofs.Registers.{field_of-xor, differs16, same16, stands-field}
 use Rattle.gen2_crc.proofs.Residue.{taken_off, octet_taken_off}
 use Rattle.std.specs.List.{slice_range}

@@ -10,7 +10,8 @@ use Rattle.log_judge.specs.Log.{Seen}
 use Rattle.log_judge.specs.Explaining.{seen_of}
 use Rattle.log_judge.specs.Verdicts.{Nothing, AnyRn16, NothingOrAnyRn16}
 use Rattle.log_judge.specs.laws.Logs.{number_seen}
-use Rattle.log_judge.specs.laws.Kinds.{Kind, Settled, Enters, Replies, Gives, outcome_from, reworded, KeepsSmallQ}
+use Rattle.log_judge.specs.laws.Kinds.{Kind, Settled, Enters, Replies, Gives, reworded}
+use Rattle.log_judge.proofs.KindOutcomes.{outcome_from, KeepsSmallQ}
 use Rattle.log_judge.specs.laws.Known.{Known, is_enters, slot_word, waits, want_of_answer, want_of_kind}
 use Rattle.log_judge.proofs.Guesses.{enters_later, enters_now, full_slot, later_by, now_by, not_zero, slot_below_power, zero_slot}
 use Rattle.log_judge.specs.declared.draws.Draws.{Draws}

@@ -21,7 +21,8 @@ use Rattle.tag_memory.specs.ReadsAndWrites.{banks_after_erase, banks_after_write
 use Rattle.tag_machine.specs.Access.{block_erase_outcome, block_write_outcome, lock_outcome, read_outcome, write_outcome, held_state, first_level, new_held, req_rn}
 use Rattle.log_judge.specs.Explaining.{outcome_of_heard}
 use Rattle.log_judge.specs.laws.Logs.{IsLegalHeard}
-use Rattle.log_judge.specs.laws.Kinds.{Kind, Settled, Enters, Gives, outcome_from, reworded, take_kind, query_kind, count_kind, rep_kind, adjust_kind, first_held, number_kind, kind_of, ArbitrateMove, Stays, Leaves, Counts, kind_at, move_of, HasSmallQ, KeepsSmallQ}
+use Rattle.log_judge.specs.laws.Kinds.{Kind, Settled, Enters, Gives, reworded, take_kind, query_kind, count_kind, rep_kind, adjust_kind, first_held, number_kind, kind_of, ArbitrateMove, Stays, Leaves, Counts, move_of, HasSmallQ}
+use Rattle.log_judge.proofs.KindOutcomes.{outcome_from, kind_at, KeepsSmallQ}
 use Rattle.log_judge.proofs.Settling.{Settles, accessed, after_ack, after_half, after_nak, after_select, locked, memory_done, read_done, turn_ended, written}
 
 -- an outcome is what a kind says of these words, and the kind keeps Q in its range

@@ -22,3 +22,4 @@ pub mod Standing
 pub mod Wants
 pub mod Decided
 pub mod OneVerdict
+pub mod KindOutcomes

@@ -14,7 +14,8 @@ use Rattle.tag_machine.specs.declared.state_numbers.StateNumbers.{StateNumbers}
 use Rattle.log_judge.specs.Log.{Seen, Exchange}
 use Rattle.log_judge.specs.Explaining.{ByTables, outcome_of_heard, seen_of}
 use Rattle.log_judge.specs.laws.Logs.{IsLegalHeard}
-use Rattle.log_judge.specs.laws.Kinds.{Kind, Settled, Enters, Replies, ArbitrateMove, Stays, Leaves, Counts, outcome_from, reworded, count_kind, kind_at, kind_of, move_of, HasSmallQ, KeepsSmallQ}
+use Rattle.log_judge.specs.laws.Kinds.{Kind, Settled, Enters, Replies, ArbitrateMove, Stays, Leaves, Counts, reworded, count_kind, kind_of, move_of, HasSmallQ}
+use Rattle.log_judge.proofs.KindOutcomes.{outcome_from, kind_at, KeepsSmallQ}
 use Rattle.log_judge.specs.laws.Known.{Known, any_behind, draws_slot, guessed, is_enters, prepared, waits, want_of, want_of_move}
 use Rattle.log_judge.proofs.KindsOfSteps.{of_kind, of_move}
 use Rattle.log_judge.proofs.Guesses.{not_zero}

@@ -13,7 +13,8 @@ use Rattle.tag_machine.specs.TagValue.{StateValue, ReadyState, ArbitrateState, R
 use Rattle.log_judge.specs.Log.{LogEntry, Seen, Exchange, Befalls}
 use Rattle.log_judge.specs.Explaining.{Allows, Explains, LacksCommand, Manner, ByTables, WithLiberties, TakesCode, seen_answer_to, is_optional, outcome_of_heard, seen_of}
 use Rattle.log_judge.specs.laws.Logs.{IsLegalEntry, IsLegalHeard}
-use Rattle.log_judge.specs.laws.Kinds.{Kind, Settled, Enters, Gives, outcome_from, reworded, kind_of, HasSmallQ, KeepsSmallQ}
+use Rattle.log_judge.specs.laws.Kinds.{Kind, Settled, Enters, Gives, reworded, kind_of, HasSmallQ}
+use Rattle.log_judge.proofs.KindOutcomes.{outcome_from, KeepsSmallQ}
 use Rattle.log_judge.specs.laws.Known.{Known, Covers, CoversState, Follows, guessed, is_enters, any_behind, placed, prepared, waits}
 use Rattle.log_judge.proofs.KindsOfSteps.{of_kind}
 use Rattle.log_judge.proofs.OneKind.{AreSmall, none_small}

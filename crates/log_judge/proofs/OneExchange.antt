@@ -8,7 +8,8 @@ use Rattle.tag_machine.specs.Inventory.{slot_below}
 use Rattle.log_judge.specs.Log.{Seen}
 use Rattle.log_judge.specs.Explaining.{seen_answer_to, outcome_of_heard, seen_of}
 use Rattle.log_judge.specs.laws.Logs.{IsLegalHeard, number_seen}
-use Rattle.log_judge.specs.laws.Kinds.{Kind, Settled, Enters, Replies, Gives, outcome_from, reworded, count_kind, kind_of, ArbitrateMove, Stays, Leaves, Counts, kind_at, move_of, HasSmallQ}
+use Rattle.log_judge.specs.laws.Kinds.{Kind, Settled, Enters, Replies, Gives, reworded, count_kind, kind_of, ArbitrateMove, Stays, Leaves, Counts, move_of, HasSmallQ}
+use Rattle.log_judge.proofs.KindOutcomes.{outcome_from, kind_at}
 use Rattle.log_judge.specs.laws.Known.{Known, Covers, CoversState, draws_slot, guessed, is_enters, any_behind, placed, prepared, waits}
 use Rattle.log_judge.specs.laws.StandingLaws.{IsValid}
 use Rattle.log_judge.proofs.Guesses.{not_zero}

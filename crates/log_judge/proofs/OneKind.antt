@@ -11,7 +11,8 @@ use Rattle.tag_machine.specs.Draws.{place_behind, body_after_draw, slot_of_draw,
 use Rattle.log_judge.specs.Log.{Seen}
 use Rattle.log_judge.specs.Explaining.{seen_of}
 use Rattle.log_judge.specs.laws.Logs.{number_seen}
-use Rattle.log_judge.specs.laws.Kinds.{Kind, Settled, Enters, Replies, Gives, outcome_from, reworded, KeepsSmallQ}
+use Rattle.log_judge.specs.laws.Kinds.{Kind, Settled, Enters, Replies, Gives, reworded}
+use Rattle.log_judge.proofs.KindOutcomes.{outcome_from, KeepsSmallQ}
 use Rattle.log_judge.specs.laws.Known.{CoversState, IsWithin, is_enters, slot_word, waits}
 use Rattle.log_judge.proofs.Guesses.{some_power, full_slot, slot_below_power, enters_now, enters_later, zero_slot, behind_inside, drawn_next, place_next, drawn_at, place_at, begins_by, now_by, later_by}
 

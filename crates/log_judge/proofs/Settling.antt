@@ -18,7 +18,8 @@ use Rattle.tag_machine.specs.TagValue.{StateValue, ReadyState, ReplyState, Ackno
 use Rattle.tag_machine.specs.Answers.{Outcome}
 use Rattle.tag_machine.specs.Inventory.{unless_half, end_turn, ack, nak, select}
 use Rattle.tag_machine.specs.Access.{held_state, in_access, outcome_where_heeded, unless_ended, is_password, unless_other_half, uncover, read_outcome, memory_outcome, write_outcome, has_user, locks_outcome, lock_outcome, whole_of, whole_outcome, half_outcome, password_outcome}
-use Rattle.log_judge.specs.laws.Kinds.{HasSmallQ, outcome_reworded, reworded}
+use Rattle.log_judge.specs.laws.Kinds.{HasSmallQ, reworded}
+use Rattle.log_judge.proofs.KindOutcomes.{outcome_reworded}
 
 -- an outcome of a body with other words is that of the body, with these words, and Q is in its range
 pub record Settles (words : List ℕ) (place : ℕ) (one other : Outcome) : Type 0 where

@@ -8,7 +8,8 @@ use Rattle.command_grammar.specs.declared.commands.Command.TheVariants as comman
 use Rattle.session_flags.specs.Flags.{matches}
 use Rattle.tag_machine.specs.TagValue.{StateValue, ReadyState, BodyValue}
 use Rattle.log_judge.specs.laws.Logs.{IsLegalHeard}
-use Rattle.log_judge.specs.laws.Kinds.{Kind, Settled, Enters, Replies, Gives, query_kind, rep_kind, adjust_kind, number_kind, kind_of, ArbitrateMove, Stays, Leaves, Counts, move_of, KeepsSmallQ}
+use Rattle.log_judge.specs.laws.Kinds.{Kind, Settled, Enters, Replies, Gives, query_kind, rep_kind, adjust_kind, number_kind, kind_of, ArbitrateMove, Stays, Leaves, Counts, move_of}
+use Rattle.log_judge.proofs.KindOutcomes.{KeepsSmallQ}
 use Rattle.log_judge.specs.laws.Known.{draws_slot, waits}
 use Rattle.log_judge.proofs.KindsOfSteps.{adjusted}
 use Rattle.log_judge.proofs.OneKind.{Suits}

@@ -12,7 +12,8 @@ use Rattle.log_judge.specs.Log.{AreDrawn, LogEntry, LoggedTag, Seen}
 use Rattle.log_judge.specs.Explaining.{Manner, seen_answer_to, seen_of}
 use Rattle.log_judge.specs.Verdicts.{IsRn16, IsWanted, Means, AnyRn16, NothingOrAnyRn16}
 use Rattle.log_judge.specs.laws.Logs.{IsLegalHeard}
-use Rattle.log_judge.specs.laws.Kinds.{Kind, Settled, Enters, Replies, Gives, outcome_from, reworded, count_kind, kind_of, ArbitrateMove, Stays, Leaves, Counts, kind_at, move_of, HasSmallQ}
+use Rattle.log_judge.specs.laws.Kinds.{Kind, Settled, Enters, Replies, Gives, reworded, count_kind, kind_of, ArbitrateMove, Stays, Leaves, Counts, move_of, HasSmallQ}
+use Rattle.log_judge.proofs.KindOutcomes.{outcome_from, kind_at}
 use Rattle.log_judge.specs.laws.Known.{Known, CoversState, want_at, want_of, want_of_answer, want_of_kind, want_of_move}
 use Rattle.log_judge.specs.laws.StandingLaws.{StandsBehind}
 use Rattle.log_judge.proofs.Guesses.{slot_below_power, enters_now, enters_later, behind_inside}

@@ -3,12 +3,20 @@ use Rattle.std.proofs.Common.{◌≡◌, ℕ, zero, suc, ◌≤◌, Bool, true, 
 use Rattle.bit_strings.specs.declared.code.Code.{Code}
 use Rattle.bit_strings.specs.declared.code.Code.TheVariants.{Fm0, M2, M4, M8}
 use Rattle.fm0_line.specs.Fm0.{fm0}
-use Rattle.line_code.specs.TableFacts.{with_level_flipped}
+use Rattle.line_code.specs.TableFacts.{with_level_flipped, HidesLead}
 use Rattle.line_code.specs.Stream.{blocks, Streams}
 use Rattle.line_code.specs.Table.{Table}
 use Rattle.reply_wire.specs.Codes.{table_of}
 use Rattle.reply_wire.specs.PilotExtension.{difference, differing_places, PreamblesDiffer, HasOnePreamble, KeepsPreamble}
 use Rattle.miller_line.specs.Miller.{miller}
+use Rattle.fm0_line.specs.laws.Fm0.{fm0_hides_lead}
+use Rattle.miller_line.specs.laws.Miller.{two, four, eight, miller_hides_lead}
+
+pub code_hides_lead : (code : Code) → HidesLead (table_of code)
+code_hides_lead Fm0 = fm0_hides_lead
+code_hides_lead M2 = miller_hides_lead 2 two
+code_hides_lead M4 = miller_hides_lead 4 four
+code_hides_lead M8 = miller_hides_lead 8 eight
 
 pub preambles_differ : (code : Code) → PreamblesDiffer (table_of code)
 preambles_differ Fm0 = let count : differing_places (fm0.lead false) (fm0.lead true) ≡ 6 = refl in omega arith

@@ -11,3 +11,4 @@ pub mod JsonLaws
 pub mod SeenLaws
 pub mod SentPairs
 pub mod SpelledLaws
+pub mod GrowingText

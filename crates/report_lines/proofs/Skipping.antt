@@ -5,7 +5,7 @@ use Rattle.report_lines.proofs.Adding.{added-nothing, met-or-not}
 use Rattle.report_lines.specs.ReportLine.{ReportLine}
 use Rattle.report_lines.specs.TextReport.{HearsText, IsAdded, spelling_behind, text_from}
 use Rattle.report_lines.specs.declared.mode.PlayFault.{PlayFault}
-use Rattle.report_lines.specs.laws.TextReportLaws.{spelling_behind-more, text_from-more}
+use Rattle.report_lines.proofs.GrowingText.{spelling_behind-more, text_from-more}
 
 -- a line more that has no text, and behind which the spelling stands as before
 pub hears-skipped : {S : Type 0} (text_of : S → ReportLine → List ℕ) (behind : S → ReportLine → S) (lines : List ReportLine) (line : ReportLine) (spelling later : S)

@@ -23,9 +23,6 @@ length-crc16_of message = length-map (register_of message) not ∙ length-regist
 pub field_of-crc16 : (message : List Bool) → field_of (value_of (crc16_of message)) 16 ≡ crc16_of message
 field_of-crc16 message = ap (λ n. field_of (value_of (crc16_of message)) n) (sym (length-crc16_of message)) ∙ field_of-value_of (crc16_of message)
 
-pub field_of-crc5 : (message : List Bool) → field_of (value_of (crc5_of message)) 5 ≡ crc5_of message
-field_of-crc5 message = ap (λ n. field_of (value_of (crc5_of message)) n) (sym (length-crc5_of message)) ∙ field_of-value_of (crc5_of message)
-
 -- a check number of five bits is below 32
 pub crc5_of-below : (bits : List Bool) → value_of (crc5_of bits) < 32
 crc5_of-below bits = value_of-within (crc5_of bits) 5 (omega (arith, length-crc5_of bits))

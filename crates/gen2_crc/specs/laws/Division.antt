@@ -53,14 +53,6 @@ unfoldable pub left_of : Bool → List Bool → List Bool → List Bool
 left_of true dividend others = minus dividend others
 left_of false dividend others = dividend
 
-pub left_of-true : (dividend others : List Bool) → left_of true dividend others ≡ minus dividend others
-unfolding left_of
-left_of-true dividend others = refl
-
-pub left_of-false : (dividend others : List Bool) → left_of false dividend others ≡ dividend
-unfolding left_of
-left_of-false dividend others = refl
-
 divide-step : (steps : ℕ) (others dividend : List Bool) (top : Bool) → divide (suc steps) others (top ∷ dividend) ≡ divide steps others (left_of top dividend others)
 unfolding divide left_of
 divide-step steps others dividend true = refl
@@ -104,16 +96,6 @@ first-bit (r ∷ preset) others bit message small some =
     ∙ ap (λ (zs : List Bool). divide (length message) others zs) (left_of-minus xs preset others n (differ bit r) (omega arith) small)
     ∙ ap (λ k. divide (length message) others (minus (message ++ replicate k false) after)) (sym long)
     ∙ ap (λ (register : List Bool). remainder_of register others message) (sym same)
-
--- the division of what follows goes on from the remainder of what came before
-pub remainder_of-append : (preset others front back : List Bool) → length others ≤ length preset → 0 < length preset → remainder_of preset others (front ++ back) ≡ remainder_of (remainder_of preset others front) others back
-remainder_of-append preset others [] back small some = ap (λ (register : List Bool). remainder_of register others back) (sym (remainder_of-none preset others))
-remainder_of-append preset others (bit ∷ front) back small some =
-    let register : List Bool = remainder_of preset others (bit ∷ []) in
-    let long : length register ≡ length preset = length-one_bit preset others bit in
-    first-bit preset others bit (front ++ back) small some
-    ∙ remainder_of-append register others front back (omega arith) (omega arith)
-    ∙ ap (λ (r : List Bool). remainder_of r others back) (sym (first-bit preset others bit front small some))
 
 pub length-remainder_of : (preset others message : List Bool) → length others ≤ length preset → 0 < length preset → length (remainder_of preset others message) ≡ length preset
 length-remainder_of preset others [] small some = ap length (remainder_of-none preset others)

@@ -6,11 +6,10 @@ use Rattle.command_fields.specs.declared.choices.Side.{Side}
 use Rattle.command_fields.specs.declared.choices.UpDn.{UpDn}
 use Rattle.command_grammar.specs.declared.commands.Command.{Command}
 use Rattle.command_grammar.specs.declared.commands.Command.TheVariants as commands
-use Rattle.reply_grammar.specs.declared.expected.Reply.TheVariants.{Handle}
 use Rattle.session_flags.specs.Flags.{matches}
 use Rattle.tag_machine.specs.TagValue.{StateValue, ReadyState, ArbitrateState, ReplyState, AcknowledgedState, OpenState, SecuredState, KilledState, UnpoweredState, BodyValue}
-use Rattle.tag_machine.specs.Answers.{Outcome, silent, plain_answer}
-use Rattle.tag_machine.specs.Draws.{draw_of, body_after_draw, begin_reply, enter, close, back}
+use Rattle.tag_machine.specs.Answers.{Outcome, silent}
+use Rattle.tag_machine.specs.Draws.{close, back}
 use Rattle.tag_machine.specs.Inventory.{body_after_close, end_turn, slot_below, q_after_adjust, selected_ready}
 use Rattle.tag_machine.specs.Access.{held_state, first_level, new_held}
 use Rattle.tag_machine.specs.Step.{step}
@@ -18,13 +17,6 @@ use Rattle.tag_machine.specs.Step.{step}
 -- other words, and the place of the next draw among them
 abbrev pub reworded : List ℕ → ℕ → BodyValue → BodyValue
 reworded words place body = record body { words = words; next_draw = place }
-
--- an outcome of a tag with other words
-abbrev pub outcome_reworded : List ℕ → ℕ → Outcome → Outcome
-outcome_reworded words place outcome = record {
-  tag = record { state = outcome.tag.state; body = reworded words place outcome.tag.body };
-  answer = outcome.answer;
-}
 
 -- what a command does to a tag, but for the words that are drawn
 pub data Kind : Type 0 where
@@ -36,14 +28,6 @@ pub data Kind : Type 0 where
   Replies : (session q : ℕ) (body : BodyValue) → Kind
   -- a handle or a cover is drawn and answered, and the state holds it
   Gives : (state : ℕ → StateValue) (body : BodyValue) → Kind
-
--- what then comes of these words from a place on
-abbrev pub outcome_from : Kind → List ℕ → ℕ → Outcome
-outcome_from (Settled outcome) words place = outcome_reworded words place outcome
-outcome_from (Enters session q body) words place = enter session q (reworded words place body)
-outcome_from (Replies session q body) words place = begin_reply session q (reworded words place body)
-outcome_from (Gives state body) words place =
-    plain_answer (state (draw_of (reworded words place body))) (body_after_draw (reworded words place body)) (Handle (draw_of (reworded words place body))) 0
 
 -- 6.3.2.11.2.1 Query: ENTER where the flags are those that it speaks to, and else the tag is ready
 abbrev pub take_kind : Sel → ℕ → Side → ℕ → BodyValue → Kind
@@ -142,12 +126,6 @@ pub data ArbitrateMove : Type 0 where
   -- it falls by 1, in a round of this session
   Counts : (session : ℕ) → ArbitrateMove
 
--- what a command does to a tag in arbitrate that has this slot
-abbrev pub kind_at : ArbitrateMove → ℕ → ℕ → BodyValue → ℕ → Kind
-kind_at Stays session q body slot = Settled (silent (ArbitrateState session q slot) body)
-kind_at (Leaves kind) session q body slot = kind
-kind_at (Counts other) session q body slot = count_kind other q slot body
-
 -- what a command does to a tag in arbitrate, in a round of this session and Q
 abbrev pub move_of : Option Command → ℕ → ℕ → BodyValue → ArbitrateMove
 move_of None own q body = Stays
@@ -176,10 +154,3 @@ HasSmallQ (OpenState held) = held.q ≤ 15
 HasSmallQ (SecuredState held) = held.q ≤ 15
 HasSmallQ KilledState = Unit {0}
 HasSmallQ UnpoweredState = Unit {0}
-
--- Q stays in its range behind a command of this kind
-abbrev pub KeepsSmallQ : Kind → Type 0
-KeepsSmallQ (Settled outcome) = HasSmallQ outcome.tag.state
-KeepsSmallQ (Enters session q body) = q ≤ 15
-KeepsSmallQ (Replies session q body) = q ≤ 15
-KeepsSmallQ (Gives state body) = (number : ℕ) → HasSmallQ (state number)

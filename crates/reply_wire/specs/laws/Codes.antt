@@ -3,13 +3,13 @@ use Rattle.std.proofs.Common.{◌≡◌, ℕ, ◌+◌, ◌*◌, ◌≤◌, Bool,
 use Rattle.bit_strings.specs.declared.code.Code.{Code}
 use Rattle.bit_strings.specs.declared.code.Code.TheVariants.{Fm0, M2, M4, M8}
 use Rattle.line_code.specs.Table.{Table}
-use Rattle.line_code.specs.TableFacts.{IsEven, HasLead, TellsBits, RefusesFlips, HidesLead, longest_lead}
+use Rattle.line_code.specs.TableFacts.{IsEven, HasLead, TellsBits, RefusesFlips, longest_lead}
 use Rattle.line_code.specs.Stream.{blocks, stream_of}
 use Rattle.line_code.specs.laws.Streams.{length-blocks}
 use Rattle.fm0_line.specs.Fm0.{fm0}
 use Rattle.miller_line.specs.Miller.{miller}
-use Rattle.fm0_line.specs.laws.Fm0.{fm0_even, fm0_has_lead, fm0_tells_bits, fm0_refuses_flips, fm0_hides_lead}
-use Rattle.miller_line.specs.laws.Miller.{two, four, eight, miller_even, miller_has_lead, miller_tells_bits, miller_refuses_flips, miller_hides_lead}
+use Rattle.fm0_line.specs.laws.Fm0.{fm0_even, fm0_has_lead, fm0_tells_bits, fm0_refuses_flips}
+use Rattle.miller_line.specs.laws.Miller.{two, four, eight, miller_even, miller_has_lead, miller_tells_bits, miller_refuses_flips}
 use Rattle.reply_wire.specs.Codes.{table_of, chips_of}
 
 pub code_even : (code : Code) → IsEven (table_of code) (chips_of code)
@@ -35,12 +35,6 @@ code_refuses_flips Fm0 = fm0_refuses_flips
 code_refuses_flips M2 = miller_refuses_flips 2 two
 code_refuses_flips M4 = miller_refuses_flips 4 four
 code_refuses_flips M8 = miller_refuses_flips 8 eight
-
-pub code_hides_lead : (code : Code) → HidesLead (table_of code)
-code_hides_lead Fm0 = fm0_hides_lead
-code_hides_lead M2 = miller_hides_lead 2 two
-code_hides_lead M4 = miller_hides_lead 4 four
-code_hides_lead M8 = miller_hides_lead 8 eight
 
 -- the longest lead is that of Miller 8 with the extended pilot
 pub lead_short : (code : Code) (trext : Bool) → length ((table_of code).lead trext) ≤ longest_lead

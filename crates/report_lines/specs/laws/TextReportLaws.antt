@@ -1,6 +1,5 @@
--- What is told as text grows by the text of one line more.
+-- What is told as text where no line is told, and the text of lines behind lines.
 use Rattle.std.proofs.Common.{◌≡◌, ℕ, List, [], ◌∷◌, ◌++◌, Option, refl, sym, ◌∙◌, ap, append_assoc, arith}
-use Rattle.std.proofs.lemmas.List.{append-nil}
 use Rattle.air_io.specs.laws.Flow.{Adds-nothing}
 use Rattle.report_lines.specs.ReportLine.{ReportLine}
 use Rattle.report_lines.specs.TextReport.{HearsText, spelling_behind, text_from}
@@ -23,12 +22,6 @@ hears-nothing text_of behind spelling fault written faults = record {
   };
 }
 
--- where a spelling stands behind one line more
-pub spelling_behind-more : {S : Type 0} (behind : S → ReportLine → S) (spelling : S) (lines : List ReportLine) (line : ReportLine)
-    → spelling_behind behind spelling (lines ++ line ∷ []) ≡ behind (spelling_behind behind spelling lines) line
-spelling_behind-more behind spelling [] line = refl
-spelling_behind-more behind spelling (first ∷ lines) line = spelling_behind-more behind (behind spelling first) lines line
-
 -- the text of the lines of a report grows by the text of the lines that come behind them
 pub text_from-append : {S : Type 0} (text_of : S → ReportLine → List ℕ) (behind : S → ReportLine → S) (spelling : S) (lines more : List ReportLine)
     → text_from text_of behind spelling (lines ++ more) ≡ text_from text_of behind spelling lines ++ text_from text_of behind (spelling_behind behind spelling lines) more
@@ -37,9 +30,3 @@ text_from-append text_of behind spelling (first ∷ lines) more =
     ap (λ (text : List ℕ). text_of spelling first ++ text) (text_from-append text_of behind (behind spelling first) lines more)
     ∙ sym (append_assoc (text_of spelling first) (text_from text_of behind (behind spelling first) lines)
     (text_from text_of behind (spelling_behind behind (behind spelling first) lines) more))
-
-pub text_from-more : {S : Type 0} (text_of : S → ReportLine → List ℕ) (behind : S → ReportLine → S) (spelling : S) (lines : List ReportLine) (line : ReportLine)
-    → text_from text_of behind spelling (lines ++ line ∷ []) ≡ text_from text_of behind spelling lines ++ text_of (spelling_behind behind spelling lines) line
-text_from-more text_of behind spelling lines line =
-    text_from-append text_of behind spelling lines (line ∷ [])
-    ∙ ap (λ (text : List ℕ). text_from text_of behind spelling lines ++ text) (append-nil (text_of (spelling_behind behind spelling lines) line))

@@ -1,5 +1,5 @@
-use Rattle.reply_wire.specs.laws.Codes.{code_even, code_has_lead, code_tells, code_refuses_flips, code_hides_lead}
-use Rattle.reply_wire.proofs.Preambles.{preambles_differ, code_has_one_preamble, code_keeps_preamble}
+use Rattle.reply_wire.specs.laws.Codes.{code_even, code_has_lead, code_tells, code_refuses_flips}
+use Rattle.reply_wire.proofs.Preambles.{preambles_differ, code_has_one_preamble, code_keeps_preamble, code_hides_lead}
 use Rattle.reply_wire.proofs.line_code_laws.code_laws.Goals as goal
 
 pub returns : goal.returns

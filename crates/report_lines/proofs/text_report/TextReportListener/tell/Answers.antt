@@ -3,7 +3,7 @@ use Rattle.std.specs.Result.{result_err}
 use Rattle.report_lines.proofs.Adding.{added-nothing, not-both, not-met, without-fault}
 use Rattle.report_lines.specs.Line.{line_of}
 use Rattle.report_lines.specs.TextReport.{IsAdded, text_from}
-use Rattle.report_lines.specs.laws.TextReportLaws.{spelling_behind-more, text_from-more}
+use Rattle.report_lines.proofs.GrowingText.{spelling_behind-more, text_from-more}
 use Rattle.report_lines.specs.declared.mode.PlayFault.{PlayFault}
 use Rattle.report_lines.proofs.text_report.TextReportListener.tell.Goals as goal
 
