@@ -12,8 +12,8 @@ pub fn verdict_text(verdict: Verdict) -> ArrayVec<u8, 32>
     ensures { result.items ≡ verdict_line verdict }
 {
     match verdict {
-        Verdict::Yes => audited(),
-        Verdict::No(number, reason) => refused(number, reason_name(reason)),
+        Verdict::Yes => audited_line(),
+        Verdict::No(number, reason) => refused_line(number, reason_name(reason)),
     }
 }
 
@@ -21,11 +21,11 @@ pub fn verdict_text(verdict: Verdict) -> ArrayVec<u8, 32>
 pub fn event_text() -> ArrayVec<u8, 32>
     ensures { result.items ≡ event_line }
 {
-    refused(0, "event")
+    refused_line(0, "event")
 }
 
 /// The line of a trace that is audited.
-fn audited() -> ArrayVec<u8, 32>
+fn audited_line() -> ArrayVec<u8, 32>
     ensures { result.items ≡ verdict_line Verdict.Yes }
 {
     let mut text = ArrayVec::new();
@@ -34,7 +34,7 @@ fn audited() -> ArrayVec<u8, 32>
 }
 
 /// The line of a trace that is refused.
-fn refused(number: u32, reason: &str) -> ArrayVec<u8, 32>
+fn refused_line(number: u32, reason: &str) -> ArrayVec<u8, 32>
     requires { length reason.now ≤ 14 }
     ensures { result.items ≡ refused_line number reason.now }
 {

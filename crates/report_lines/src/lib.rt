@@ -35,7 +35,7 @@ pub use listener::Listener;
 pub use member_texts::MemberTexts;
 pub use mode::{Mode, PlayFault};
 pub use mode_spelling::ModeSpelling;
-pub use naming::named;
+pub use naming::listed_sgtin;
 pub use operation_line::push_op_line;
 pub use rx_reading::read_rx_line;
 pub use seen_counts::SeenCounts;

@@ -9,7 +9,7 @@ use wire_text::epc_of;
 /// The SGTIN that is listed in a line, which is given without its line feed: the line is
 /// `list ROUND SLOT PC EPC`, PC has four upper-case hexadecimal digits, and EPC the 24 of an SGTIN-96. None exactly
 /// where the line is no such line.
-pub fn named(line: &[u8]) -> Option<Sgtin>
+pub fn listed_sgtin(line: &[u8]) -> Option<Sgtin>
     ensures some { IfSome result (λ sgtin. IsNamed line.now sgtin) }
     ensures none { IfNone result (¬ HasName line.now) }
 {

@@ -14,7 +14,7 @@ use crate::words::page::Page;
 use air_io::{Sink, WriteFailed};
 use arrayvec::ArrayVec;
 use epc_sgtin::{Sgtin, Uri};
-use report_lines::{lines_have_names, named};
+use report_lines::{lines_have_names, listed_sgtin};
 use text_fields::{fault_line, push_bytes, split_line};
 
 /// Writes what is defined for the bytes of an input: its lines, each with its name behind it, or the one line that
@@ -78,7 +78,7 @@ fn put_named<O: Sink>(line: &[u8], page: &mut Page, output: &mut O) -> Result<()
         × Loses (page.old ++ text_with lines) (O.written output.old) (O.written output.new)) }
     ensures steady { OnOk result (O.faults output.new ≡ O.faults output.old) }
 {
-    match named(line) {
+    match listed_sgtin(line) {
         Some(sgtin) => {
             let name = text_behind(&sgtin);
             page.put_both(line, name.as_slice(), output)

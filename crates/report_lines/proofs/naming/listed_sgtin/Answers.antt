@@ -3,7 +3,7 @@ use Rattle.std.proofs.Common.{◌≡◌, arith, sym, subst}
 use Rattle.text_fields.specs.Hexadecimal.{hex_words}
 use Rattle.epc_sgtin.specs.Epc.{IsSgtin}
 use Rattle.report_lines.proofs.OneName.{none_named, six_of}
-use Rattle.report_lines.proofs.naming.named.Goals as goal
+use Rattle.report_lines.proofs.naming.listed_sgtin.Goals as goal
 
 pub returns-in_err-words-clause-none : goal.returns-in_err-words-clause-none
 returns-in_err-words-clause-none c = rw c.from_residual-in_err-words.ensures (λ has.
