@@ -1,4 +1,4 @@
-//! The answer to a decode line.
+//! The answer to a decode line: what the line asks for is computed in rooms that are taken once for all lines, and written as a line.
 ghost use Rattle.std.specs.Prelude.{◌≡◌, ◌≢◌, ◌≤◌, length, IfOk, IfErr, OnOk};
 ghost use Rattle.std.specs.String.{string_bytes};
 ghost use Rattle.decode_lines.specs.Answer.{AddsAnswer, AnswersBehind, AnswersLine};
@@ -121,7 +121,8 @@ impl Workspace {
     }
 }
 
-/// Room for the levels, bits, samples, words, the command and the reply of the longest line.
+/// What an answer is computed in: room for the levels, bits, samples and words of the longest line, and the command or
+/// what was received.
 #[derive(Drop)]
 struct AnswerRooms {
     levels: Levels,

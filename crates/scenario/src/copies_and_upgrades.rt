@@ -1,4 +1,4 @@
-//! What holds of scenarios and of their tags.
+//! Laws of scenarios: a copy may stand where its tag may, and a scenario of either version keeps the limits of version 2.
 ghost use Rattle.std.specs.Prelude.{List, All};
 ghost use Rattle.scenario.specs.declared.values.TagGroup.{TagGroup};
 ghost use Rattle.scenario.specs.Groups.{tags_of};

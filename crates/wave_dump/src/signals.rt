@@ -26,7 +26,7 @@ pub(crate) struct Signals<'a> {
     pub(crate) reply: &'a str,
 }
 
-/// Two levels, or none, are the same.
+/// Whether the level of the tags, which may be none, stays the same from one moment to another, so that its signal doesn't change.
 fn same_level(one: Option<bool>, other: Option<bool>) -> bool
     ensures { result ≡ same_level one other }
 {
