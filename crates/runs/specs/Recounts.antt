@@ -12,7 +12,6 @@ use Rattle.scenario.specs.declared.values.Step.{Step}
 use Rattle.scenario.specs.declared.values.Step.TheVariants as steps
 use Rattle.session_flags.specs.Flags.{sel_allows, side_of}
 use Rattle.tag_machine.specs.TagValue.{StateValue, ReadyState, ArbitrateState, ReplyState, AcknowledgedState, OpenState, SecuredState, KilledState, UnpoweredState, TagValue, is_present}
-use Rattle.runs.specs.CompleteRound.{HasNumber}
 use Rattle.runs.specs.Headline.{IsRecordOf, rounds_of}
 use Rattle.runs.specs.History.{history_of}
 use Rattle.runs.specs.Honest.{IsHonest, IsApart}

@@ -159,7 +159,8 @@ pub(crate) fn tell_said<R: Listener>(
     ensures room { bits.new.capacity ≡ bits.old.capacity }
     ensures told { (link : LinkValue) (sent : Record)
         → IsBehind link sent air.now got → exchange ≡ sent.exchange → command.now ≡ sent.command
-        → entry.now ≡ sent.entry → IsToldWhole R.hears (said_lines link sent) report.old report.new }
+        → entry.now ≡ sent.entry
+        → IsToldWhole R.hears (said_lines link sent) report.old report.new }
 {
     if !report.wants_exchanges() {
         return;
