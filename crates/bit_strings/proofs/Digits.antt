@@ -2,9 +2,14 @@
 use Rattle.std.proofs.Common.{◌≡◌, ◌+◌, ◌*◌, ◌^◌, ◌<◌, ◌≤◌, ℕ, Bool, true, false, List, length, take, get_or, ◌/◌, ◌%◌, ◌∷◌, ◌++◌, [], append_assoc, append-nil, refl, ap, sym, ◌∙◌, arith, length-take}
 use Rattle.std.specs.Prelude.{◌==◌}
 use Rattle.bit_strings.specs.NumbersInBits.{value_of, digit_of, field_of}
-use Rattle.bit_strings.specs.laws.NumbersInBits.{value_of-take_more, value_of-within, field_of-more, field_of-none}
+use Rattle.bit_strings.specs.laws.NumbersInBits.{value_of-within, value_of-push, field_of-more, field_of-none}
 use Rattle.bit_strings.specs.BitString.{BitString}
 use mir.Val.{bool_byte}
+use Rattle.std.proofs.lemmas.List.{take_more}
+
+-- the value of a front of at most 31 bits, one bit further on
+pub value_of-take_more : (bits : List Bool) (i : ℕ) (d : Bool) → i < length bits → value_of (take (i + 1) bits) ≡ 2 * value_of (take i bits) + digit_of (get_or bits i d)
+value_of-take_more bits i d within = rw (take_more bits i d) (value_of-push (take i bits) (get_or bits i d))
 
 pub digit_of-byte : (bit : Bool) → bool_byte bit ≡ digit_of bit
 digit_of-byte true = refl

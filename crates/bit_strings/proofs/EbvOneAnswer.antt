@@ -4,7 +4,8 @@ use Rattle.std.specs.Prelude.{slice_get}
 use Rattle.std.proofs.lemmas.List.{take-append-drop, take_all, nil_from_length}
 use Rattle.bit_strings.specs.NumbersInBits.{part_of}
 use Rattle.bit_strings.specs.Ebv.{IsEbv, IsCutEbv, IsTooLong, BeginsWithNothing}
-use Rattle.bit_strings.specs.laws.Ebv.{ebv_apart, says-ebv, ends-ebv, no_ebv-nothing, no_ebv-long}
+use Rattle.bit_strings.specs.laws.Ebv.{says-ebv, ends-ebv, no_ebv-nothing, no_ebv-long}
+use Rattle.bit_strings.proofs.EbvFronts.{ebv_apart}
 use Rattle.bit_strings.specs.EbvAnswers.{IsEbvAnswer, HasEbvAt, IsEbvStep}
 use Rattle.bit_strings.specs.declared.ebv_front.EbvStep.{EbvStep}
 use Rattle.bit_strings.specs.declared.ebv_front.EbvStep.TheVariants as steps

@@ -8,7 +8,8 @@ use Rattle.std.proofs.lemmas.List.Elements.{All-push, All-cons}
 use Rattle.bit_strings.specs.NumbersInBits.{value_of, field_of, digit_of, part_of}
 use Rattle.bit_strings.specs.laws.NumbersInBits.{value_of-within, value_of-push, value_of-append, value_of-field, length-field_of, same_from_value}
 use Rattle.bit_strings.specs.Ebv.{number_of_digits, blocks_of, IsShortest, IsEbv, IsCutEbv, IsTooLong, BeginsWithNothing}
-use Rattle.bit_strings.specs.laws.Ebv.{AreSevens, seven-head, seven-tail, nothing-digit, digit-nothing, shortest-some, nothing-more, too_long-more}
+use Rattle.bit_strings.specs.laws.Ebv.{AreSevens, seven-head, seven-tail, nothing-digit, shortest-some, nothing-more, too_long-more}
+use Rattle.bit_strings.proofs.EbvFronts.{digit-nothing}
 use Rattle.bit_strings.specs.EbvAnswers.{HasEbvAt}
 use Rattle.bit_strings.specs.laws.Lists.{slice_get-append_left, slice_get-append_right}
 use Rattle.bit_strings.proofs.Digits.{digit_of-byte}

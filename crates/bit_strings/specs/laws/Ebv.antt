@@ -38,35 +38,9 @@ append_apart (x ∷ xs) (y ∷ ys) more rest lengths same =
     let found : (xs ≡ ys) × (more ≡ rest) = append_apart xs ys more rest (omega arith) tail in
     (cc, found.1)
 
--- the digits of a vector can be read off its front
-blocks_apart : (ds es : List (List Bool)) (more rest : List Bool) → 0 < length ds → 0 < length es → AreSevens ds → AreSevens es → blocks_of ds ++ more ≡ blocks_of es ++ rest → ds ≡ es
-blocks_apart [] es more rest p q ss ts same = absurd (omega arith)
-blocks_apart (d ∷ ds) [] more rest p q ss ts same = absurd (omega arith)
-blocks_apart (d ∷ []) (e ∷ []) more rest p q ss ts same =
-    let tail : d ++ more ≡ e ++ rest = cc in
-    let found : (d ≡ e) × (more ≡ rest) = append_apart d e more rest (seven-head d [] ss ∙ sym (seven-head e [] ts)) tail in
-    ap (λ (digit : List Bool). digit ∷ []) found.0
-blocks_apart (d ∷ []) (e ∷ e' ∷ es) more rest p q ss ts same = cc
-blocks_apart (d ∷ d' ∷ ds) (e ∷ []) more rest p q ss ts same = cc
-blocks_apart (d ∷ d' ∷ ds) (e ∷ e' ∷ es) more rest p q ss ts same =
-    let tail : (d ++ blocks_of (d' ∷ ds)) ++ more ≡ (e ++ blocks_of (e' ∷ es)) ++ rest = cc in
-    let turned : d ++ (blocks_of (d' ∷ ds) ++ more) ≡ e ++ (blocks_of (e' ∷ es) ++ rest) =
-    sym (append_assoc d (blocks_of (d' ∷ ds)) more) ∙ tail ∙ append_assoc e (blocks_of (e' ∷ es)) rest in
-    let found : (d ≡ e) × (blocks_of (d' ∷ ds) ++ more ≡ blocks_of (e' ∷ es) ++ rest) = append_apart d e (blocks_of (d' ∷ ds) ++ more) (blocks_of (e' ∷ es) ++ rest) (seven-head d (d' ∷ ds) ss ∙ sym (seven-head e (e' ∷ es) ts)) turned in
-    let others : ◌≡◌ {A = List (List Bool)} (d' ∷ ds) (e' ∷ es) = blocks_apart (d' ∷ ds) (e' ∷ es) more rest (omega arith) (omega arith) (seven-tail d (d' ∷ ds) ss) (seven-tail e (e' ∷ es) ts) found.1 in
-    let first : d ≡ e = found.0 in
-    cc
-
 pub shortest-some : (ds : List (List Bool)) → IsShortest ds → 0 < length ds
 shortest-some [] shortest = absurd shortest
 shortest-some (d ∷ ds) shortest = omega arith
-
--- no extensible bit vector begins another
-pub ebv_apart : (n m : ℕ) (xs ys more rest : List Bool) → IsEbv n xs → IsEbv m ys → xs ++ more ≡ ys ++ rest → (n ≡ m) × (xs ≡ ys)
-ebv_apart n m xs ys more rest left right same =
-    let fronts : blocks_of left.digits ++ more ≡ blocks_of right.digits ++ rest = ap (λ (bits : List Bool). bits ++ more) (sym left.spelled) ∙ same ∙ ap (λ (bits : List Bool). bits ++ rest) right.spelled in
-    let digits : left.digits ≡ right.digits = blocks_apart left.digits right.digits more rest (shortest-some left.digits left.shortest) (shortest-some right.digits right.shortest) left.sevens right.sevens fronts in
-    (left.value ∙ ap number_of_digits digits ∙ sym right.value, left.spelled ∙ ap blocks_of digits ∙ sym right.spelled)
 
 pub number_of_digits-below : (ds : List (List Bool)) → AreSevens ds → number_of_digits ds < 128 ^ length ds
 number_of_digits-below [] sevens = omega arith
@@ -219,7 +193,7 @@ ends-blocks (d ∷ e ∷ f ∷ []) rest sevens some few first second third fourt
 ends-blocks (d ∷ e ∷ f ∷ g ∷ []) rest sevens some few first second third fourth = not-both (last-block d (e ∷ f ∷ g ∷ []) rest 24 refl sevens) fourth
 ends-blocks (d ∷ e ∷ f ∷ g ∷ h ∷ ds) rest sevens some few first second third fourth = omega arith
 
-zeros : List Bool
+unfoldable pub zeros : List Bool
 zeros = false ∷ false ∷ false ∷ false ∷ false ∷ false ∷ false ∷ []
 
 -- a first block that says nothing has the digit 0
@@ -229,13 +203,6 @@ nothing-digit d behind seven nothing =
     let front : take 7 (d ++ behind) ≡ zeros = cc in
     let digit : take 7 (d ++ behind) ≡ d = take_at d behind 7 seven in
     ap value_of (sym digit ∙ front)
-
--- a first block that another follows and whose digit is 0 says nothing
-pub digit-nothing : (d behind : List Bool) → length d ≡ 7 → value_of d ≡ 0 → BeginsWithNothing (true ∷ d ++ behind)
-unfolding zeros
-digit-nothing d behind seven none =
-    let digit : d ≡ zeros = same_from_value d zeros seven none in
-    ap (λ (b : List Bool). true ∷ b) (take_at d behind 7 seven ∙ digit)
 
 says-blocks : (ds : List (List Bool)) (rest : List Bool) → AreSevens ds → IsShortest ds → ¬ BeginsWithNothing (blocks_of ds ++ rest)
 says-blocks [] rest sevens shortest nothing = shortest

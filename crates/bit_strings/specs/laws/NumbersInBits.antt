@@ -1,9 +1,8 @@
 -- The laws that tie a list of bits to its value.
-use Rattle.std.specs.Prelude.{◌≡◌, ℕ, zero, suc, ◌+◌, ◌*◌, ◌/◌, ◌%◌, ◌^◌, ◌<◌, ◌≤◌, ◌==◌, Bool, true, false, List, [], ◌∷◌, ◌++◌, length, take, get_or, refl}
+use Rattle.std.specs.Prelude.{◌≡◌, ℕ, zero, suc, ◌+◌, ◌*◌, ◌/◌, ◌%◌, ◌^◌, ◌<◌, ◌≤◌, ◌==◌, Bool, true, false, List, [], ◌∷◌, ◌++◌, length, refl}
 use Rattle.std.proofs.Common.{sym, ◌∙◌, ap, subst, inl, inr, arith, length-append, add-one}
 use Rattle.std.proofs.Math.Nat.{pow-suc, mod-eq_of_lt, mod-one, eq-or-lt_of_le}
 use Rattle.std.proofs.lemmas.Nat.{mod-pow-add, div-mul-add, pow-add, pow_below, shr_split}
-use Rattle.std.proofs.lemmas.List.{take_more}
 use Rattle.std.proofs.lemmas.Nat.Bits.{bit_at_cat_low}
 use Rattle.bit_strings.specs.NumbersInBits.{digit_of, value_of, field_of}
 
@@ -84,10 +83,6 @@ value_of-within bits width within =
       | inl same ↦ subst (λ (n : ℕ). value_of bits < 2 ^ n) same (value_of-below bits)
       | inr less ↦ omega (arith, value_of-below bits, pow_below (length bits) width less)
     ]
-
--- the value of a front of at most 31 bits, one bit further on
-pub value_of-take_more : (bits : List Bool) (i : ℕ) (d : Bool) → i < length bits → value_of (take (i + 1) bits) ≡ 2 * value_of (take i bits) + digit_of (get_or bits i d)
-value_of-take_more bits i d within = rw (take_more bits i d) (value_of-push (take i bits) (get_or bits i d))
 
 -- a field of one more bit begins with its most significant
 pub field_of-more : (value width places : ℕ) → width ≡ places + 1 → field_of value width ≡ (value / 2 ^ places % 2 == 1) ∷ field_of value places

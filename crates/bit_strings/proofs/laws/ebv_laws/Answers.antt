@@ -1,4 +1,5 @@
-use Rattle.bit_strings.specs.laws.Ebv.{IsEbv-ebv_of, below-ebv, same-ebv, ebv_apart}
+use Rattle.bit_strings.specs.laws.Ebv.{IsEbv-ebv_of, below-ebv, same-ebv}
+use Rattle.bit_strings.proofs.EbvFronts.{ebv_apart}
 use Rattle.bit_strings.proofs.laws.ebv_laws.Goals as goal
 
 pub returns : goal.returns
