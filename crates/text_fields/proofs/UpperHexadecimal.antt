@@ -1,5 +1,5 @@
 -- Upper-case hexadecimal digits are ASCII, and words are written in them.
-use Rattle.std.proofs.Common.{◌≡◌, ◌<◌, ◌^◌, ℕ, zero, suc, true, false, ◌==◌, List, [], ◌∷◌, length, slice_index, arith, lit<, refl}
+use Rattle.std.proofs.Common.{◌≡◌, ◌<◌, ◌^◌, ℕ, zero, suc, false, ◌==◌, List, [], ◌∷◌, length, slice_index, arith, lit<, refl}
 use Rattle.std.specs.List.{AllPass, flat_map}
 use Rattle.std.proofs.lemmas.Bool.Decides.{nat_tests}
 use Rattle.std.proofs.lemmas.List.Elements.{All-from_get_or, All-head, All-tail}
