@@ -60,7 +60,12 @@ fn read<C: LineCode>(trext: bool, levels: &[bool], out: &mut Bits) -> Result<(),
         mark = sixteen.1;
         behind = &behind[16 * C::CHIPS as usize..];
     }
-    // The levels that are left, one by one: at most fifteen blocks, or those from the sixteen on that break the code.
+    while let Some(bit) = next_bit::<C>(mark, behind) {
+        out.push_reserved(bit);
+        mark = C::after(mark, bit);
+        behind = &behind[C::CHIPS as usize..];
+    }
+    // The levels that are left, one by one: none, or those from the block on that breaks the code.
     let at = levels.len() - behind.len();
     let mut inside = Inside::<C>::between_blocks(mark, at as u32, out.len(), out.last());
     for place in at..levels.len() {
@@ -138,6 +143,26 @@ fn next_sixteen<C: LineCode>(mark: C::Mark, levels: &[bool]) -> Option<([bool; 1
         return None;
     }
     C::sixteen_bits(mark, &levels[..chips])
+}
+
+/// The bit whose block the first of these levels are.
+fn next_bit<C: LineCode>(mark: C::Mark, levels: &[bool]) -> Option<bool>
+    ensures { IfSome result
+        (λ bit. (C.CHIPS ≤ length levels.now)
+        × (take C.CHIPS levels.now ≡ C.table.block (C.context_of mark) bit)) }
+{
+    let chips = C::CHIPS as usize;
+    if levels.len() < chips {
+        return None;
+    }
+    let front = &levels[..chips];
+    if same_levels(front, C::block(mark, true)) {
+        return Some(true);
+    }
+    if same_levels(front, C::block(mark, false)) {
+        return Some(false);
+    }
+    None
 }
 
 /// Puts the bits to the end of `out`, one by one, which the compiler does in place.

@@ -14,24 +14,27 @@ pub fn encode<C: LineCode>(trext: bool, bits: &Bits, out: &mut Levels)
     ensures stream { IsStream C.table trext bits.now.items out.new.items }
     ensures capacity { out.new.capacity ≡ out.old.capacity }
 {
-    out.clear();
-    out.put_all_reserved(C::lead_levels(trext));
+    // In a list of its own the compiler keeps in registers where the next level goes.
+    let mut levels = out.take();
+    levels.clear();
+    levels.put_all_reserved(C::lead_levels(trext));
     let mut mark = C::after_lead();
     let bits = bits.as_slice();
     let mut next = 0;
     while let Some(four) = bits[next..].first_chunk::<4>() {
-        let (levels, behind) = C::four_blocks(mark, number_of(four));
-        out.put_all_reserved(levels);
+        let (blocks, behind) = C::four_blocks(mark, number_of(four));
+        levels.put_all_reserved(blocks);
         mark = behind;
         next += 4;
     }
     while next < bits.len() {
         let bit = bits[next];
-        out.put_all_reserved(C::block(mark, bit));
+        levels.put_all_reserved(C::block(mark, bit));
         mark = C::after(mark, bit);
         next += 1;
     }
-    out.put_all_reserved(C::block(mark, true));
+    levels.put_all_reserved(C::block(mark, true));
+    *out = levels;
 }
 
 /// The number that four bits are, the first of them its highest digit.

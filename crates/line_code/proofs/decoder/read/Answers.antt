@@ -10,6 +10,7 @@ use Rattle.line_code.proofs.Steps.{one_more, block_more}
 use Rattle.bit_strings.specs.laws.Family.{bad-in_front}
 use Rattle.bit_strings.specs.BitString.{BitString}
 use Rattle.line_code.specs.TableFacts.{CodeTable}
+use Rattle.line_code.proofs.Writing.{one_block}
 use Rattle.line_code.proofs.Whole.{bits_within, has_within, HasRead, HasBehind}
 use Rattle.line_code.proofs.decoder.read.Goals as goal
 
@@ -61,6 +62,18 @@ begins_at t trext levels behind context before out at read are =
       read = subst (λ (n : ℕ). HasRead t trext levels n context before out) place read;
     }
 
+-- the same, behind the blocks of more bits
+moves_on : (t : Table) (trext : Bool) (levels rest : List Bool) (context : Context) (before out new : BitString) → HasBehind t trext levels rest context before out
+    → (next : BlocksAt t context levels (length levels - length rest)) → next.count ≤ length rest → new.items ≡ out.items ++ next.more → new.capacity ≡ out.capacity
+    → HasBehind t trext levels (take (length rest - next.count) (drop next.count rest)) (context_after t context next.more) before new
+moves_on t trext levels rest context before out new loop next some items capacity =
+    let at = length levels - length rest in
+    let count = next.count in
+    let within : at + count ≤ length levels = omega (arith, loop.place, some) in
+    let read = taken t trext levels context before out new at next loop.read within items capacity in
+    let further : drop count rest ≡ drop (at + count) levels = ap (drop count) loop.are ∙ drop-drop count at levels ∙ ap (λ (n : ℕ). drop n levels) (omega arith) in
+    begins_at t trext levels _ _ before new (at + count) read (behind rest count ∙ further)
+
 pub loop-sixteen-init : goal.loop-sixteen-init
 loop-sixteen-init g c =
     let t = g.C.LineCode.table in
@@ -91,20 +104,54 @@ loop-sixteen-preserved g c =
     let rest = c.loop-sixteen.behind.now in
     let loop = c.loop-sixteen.invariant in
     let some = c.in-Some.ensures in
-    let at = length levels - length rest in
-    let count = 16 * g.C.LineCode.CHIPS in
-    let within : at + count ≤ length levels = let place = loop.place in let next = some.1 in omega arith in
-    let next : BlocksAt t (g.C.LineCode.context_of c.loop-sixteen.mark) levels at = record { count = count; more = c.in-Some.sixteen.0; levels_are = ap (take count) (sym loop.are) ∙ some.2 } in
-    let read = taken t c.args.trext levels _ c.args.out.now c.loop-sixteen.out _ at next loop.read within c.put_bits.ensures.items c.put_bits.ensures.capacity in
-    let further : drop count rest ≡ drop (at + count) levels = ap (drop count) loop.are ∙ drop-drop count at levels ∙ ap (λ (n : ℕ). drop n levels) (omega arith) in
-    rw (c.CHIPS.ensures, some.3) (begins_at t c.args.trext levels _ _ c.args.out.now _ (at + count) read (behind rest count ∙ further))
+    let next : BlocksAt t (g.C.LineCode.context_of c.loop-sixteen.mark) levels (length levels - length rest) = record {
+      count = 16 * g.C.LineCode.CHIPS;
+      more = c.in-Some.sixteen.0;
+      levels_are = ap (take (16 * g.C.LineCode.CHIPS)) (sym loop.are) ∙ some.2;
+    } in
+    rw (c.CHIPS.ensures, some.3) (moves_on t c.args.trext levels rest _ c.args.out.now c.loop-sixteen.out _ loop next some.1 c.put_bits.ensures.items c.put_bits.ensures.capacity)
+
+pub loop-bit-init : goal.loop-bit-init
+loop-bit-init g c =
+    let loop = c.loop-sixteen.invariant in
+    record { place = loop.place; are = loop.are; read = record { within = loop.read.within; has = loop.read.has; same = refl } }
+
+pub push_reserved-requires : goal.push_reserved-requires
+push_reserved-requires g c =
+    let code : CodeTable = record { table = g.C.LineCode.table; chips = g.C.LineCode.CHIPS; even = g.met.C.LineCode.even; tells = g.met.C.LineCode.tells_bits } in
+    let levels = c.args.levels.now in
+    let loop = c.loop-bit.invariant in
+    let some = c.in-Some-next_bit.ensures in
+    let at = length levels - length c.loop-bit.behind.now in
+    let within : at + 1 * code.chips ≤ length levels = let place = loop.place in let next = some.0 in omega arith in
+    let wide : length levels ≤ c.loop-sixteen.out.capacity = omega (arith, c.requires.room, c.loop-sixteen.invariant.read.same) in
+    let room = has_room code c.args.trext levels _ c.loop-sixteen.out c.loop-bit.out at 1 1 loop.read within wide refl in
+    omega (arith, room)
+
+pub loop-bit-preserved : goal.loop-bit-preserved
+loop-bit-preserved g c =
+    let t = g.C.LineCode.table in
+    let levels = c.args.levels.now in
+    let rest = c.loop-bit.behind.now in
+    let loop = c.loop-bit.invariant in
+    let some = c.in-Some-next_bit.ensures in
+    let context = g.C.LineCode.context_of c.loop-bit.mark in
+    let bit = c.in-Some-next_bit.bit in
+    let next : BlocksAt t context levels (length levels - length rest) = record {
+      count = g.C.LineCode.CHIPS;
+      more = bit ∷ [];
+      levels_are = ap (take g.C.LineCode.CHIPS) (sym loop.are) ∙ one_block t context bit (take g.C.LineCode.CHIPS rest) some.1;
+    } in
+    let put = c.push_reserved.ensures in
+    rw (c.CHIPS-in-Some-next_bit.ensures, c.after-mark.ensures) (moves_on t c.args.trext levels rest context c.loop-sixteen.out c.loop-bit.out _ loop next some.0
+    (ap (λ (s : BitString). s.items) put) (ap (λ (s : BitString). s.capacity) put))
 
 pub between_blocks-inside-requires-clause-few : goal.between_blocks-inside-requires-clause-few
 between_blocks-inside-requires-clause-few g c =
-    let read = c.loop-sixteen.invariant.read in
+    let read = c.loop-bit.invariant.read in
     let count = c.len.ensures.count in
-    let at = length c.args.levels.now - length c.loop-sixteen.behind.now in
-    let put = has_within g.C.LineCode.table g.C.LineCode.CHIPS g.met.C.LineCode.even c.args.trext _ (take at c.args.levels.now) c.loop-sixteen.out.items read.has in
+    let at = length c.args.levels.now - length c.loop-bit.behind.now in
+    let put = has_within g.C.LineCode.table g.C.LineCode.CHIPS g.met.C.LineCode.even c.args.trext _ (take at c.args.levels.now) c.loop-bit.out.items read.has in
     let size = length-take-le at c.args.levels.now read.within in
     omega arith
 
@@ -116,12 +163,12 @@ last_is None bits some none = none.0 refl
 pub loop-place-init : goal.loop-place-init
 loop-place-init g c =
     let code : CodeTable = record { table = g.C.LineCode.table; chips = g.C.LineCode.CHIPS; even = g.met.C.LineCode.even; tells = g.met.C.LineCode.tells_bits } in
-    let read = c.loop-sixteen.invariant.read in
-    let at = length c.args.levels.now - length c.loop-sixteen.behind.now in
+    let read = c.loop-bit.invariant.read in
+    let at = length c.args.levels.now - length c.loop-bit.behind.now in
     let size = length-take-le at c.args.levels.now read.within in
-    let last = last_is c.last.result c.loop-sixteen.out.items c.last.ensures.value c.last.ensures.none in
+    let last = last_is c.last.result c.loop-bit.out.items c.last.ensures.value c.last.ensures.none in
     record {
-      reads = rw c.between_blocks-inside.ensures (reads_between code c.args.trext _ at c.len.result (take at c.args.levels.now) c.loop-sixteen.out.items c.last.result
+      reads = rw c.between_blocks-inside.ensures (reads_between code c.args.trext _ at c.len.result (take at c.args.levels.now) c.loop-bit.out.items c.last.result
           (sym size) c.len.ensures.count read.has last);
       same = refl;
     }
@@ -132,7 +179,8 @@ push-requires-clause-room g c =
     let put = bits_within g.C.LineCode.table g.C.LineCode.CHIPS g.met.C.LineCode.even c.args.trext c.loop-place.inside front c.loop-place.out.items c.loop-place.invariant.reads in
     let test = c.loop-place-test.true in
     let same = c.loop-place.invariant.same in
-    let before = c.loop-sixteen.invariant.read.same in
+    let before = c.loop-bit.invariant.read.same in
+    let first = c.loop-sixteen.invariant.read.same in
     let room = c.requires.room in
     let size = length-take-le c.loop-place.place c.args.levels.now (omega arith) in
     omega arith

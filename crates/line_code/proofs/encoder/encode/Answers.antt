@@ -46,11 +46,11 @@ put_all_reserved-requires-in-Some g c =
     let n = c.loop-four.next in
     let is = c.loop-four.invariant in
     let next = next_four bits c.in-Some.four.now n c.in-Some.ensures.cases.enough c.in-Some.ensures.cases.same in
-    let size = written_size code c.args.trext bits n _ _ c.loop-four.out is in
+    let size = written_size code c.args.trext bits n _ _ c.loop-four.levels is in
     let four = field_of c.number_of.result 4 in
     let blocks = ap length c.four_blocks-behind.ensures.levels ∙ length-blocks code.table code.chips code.even four (g.C.LineCode.context_of c.loop-four.mark)
     ∙ ap (λ (n : ℕ). code.chips * n) (length-field_of c.number_of.result 4) in
-    let same = capacity_of c.put_all_reserved.new.self c.clear.new.self _ c.put_all_reserved.ensures ∙ capacity_of c.clear.new.self c.args.out.now _ c.clear.ensures in
+    let same = capacity_of c.put_all_reserved.new.self c.clear.new.self _ c.put_all_reserved.ensures ∙ capacity_of c.clear.new.self c.take-levels.result _ c.clear.ensures ∙ ap (λ (s : BitString). s.capacity) c.take-levels.ensures.taken in
     let all = ap (λ (bs : List Bool). code.chips * (length bs + 1)) c.as_slice-bits.ensures.value in
     omega (arith, size, blocks, is.same, same, all, room_for code.chips n 4 (length bits) next.enough, c.requires)
 
@@ -59,7 +59,7 @@ loop-four-preserved g c =
     let t = g.C.LineCode.table in
     let bits = c.as_slice-bits.result.now in
     let n = c.loop-four.next in
-    let out = c.loop-four.out in
+    let out = c.loop-four.levels in
     let context = g.C.LineCode.context_of c.loop-four.mark in
     let chunk = next_four bits c.in-Some.four.now n c.in-Some.ensures.cases.enough c.in-Some.ensures.cases.same in
     let more = bits_of_number c.number_of.result c.in-Some.four.now c.number_of.ensures chunk.size ∙ chunk.items_are in
@@ -74,9 +74,9 @@ put_all_reserved-requires-in-loop-next g c =
     let bits = c.as_slice-bits.result.now in
     let n = c.loop-next.next in
     let is = c.loop-next.invariant in
-    let size = written_size code c.args.trext bits n _ _ c.loop-next.out is in
+    let size = written_size code c.args.trext bits n _ _ c.loop-next.levels is in
     let block = ap length c.block.ensures ∙ code.even.blocks_even (g.C.LineCode.context_of c.loop-next.mark) _ in
-    let same = capacity_of c.put_all_reserved.new.self c.clear.new.self _ c.put_all_reserved.ensures ∙ capacity_of c.clear.new.self c.args.out.now _ c.clear.ensures in
+    let same = capacity_of c.put_all_reserved.new.self c.clear.new.self _ c.put_all_reserved.ensures ∙ capacity_of c.clear.new.self c.take-levels.result _ c.clear.ensures ∙ ap (λ (s : BitString). s.capacity) c.take-levels.ensures.taken in
     let all = ap (λ (bs : List Bool). code.chips * (length bs + 1)) c.as_slice-bits.ensures.value in
     omega (arith, size, block, is.same, c.loop-four.invariant.same, same, all, room_for code.chips n 1 (length bits) (omega (arith, c.loop-next-test.true)), c.requires)
 
@@ -85,7 +85,7 @@ loop-next-preserved g c =
     let t = g.C.LineCode.table in
     let bits = c.as_slice-bits.result.now in
     let n = c.loop-next.next in
-    let out = c.loop-next.out in
+    let out = c.loop-next.levels in
     let context = g.C.LineCode.context_of c.loop-next.mark in
     let bit = get_or bits n false in
     let within : n + 1 ≤ length bits = omega (arith, c.loop-next-test.true) in
@@ -101,9 +101,9 @@ put_all_reserved-requires-2 g c =
     let bits = c.as_slice-bits.result.now in
     let n = c.loop-next.next in
     let is = c.loop-next.invariant in
-    let size = written_size code c.args.trext bits n _ _ c.loop-next.out is in
+    let size = written_size code c.args.trext bits n _ _ c.loop-next.levels is in
     let block = ap length c.block-2.ensures ∙ code.even.blocks_even (g.C.LineCode.context_of c.loop-next.mark) _ in
-    let same = capacity_of c.put_all_reserved.new.self c.clear.new.self _ c.put_all_reserved.ensures ∙ capacity_of c.clear.new.self c.args.out.now _ c.clear.ensures in
+    let same = capacity_of c.put_all_reserved.new.self c.clear.new.self _ c.put_all_reserved.ensures ∙ capacity_of c.clear.new.self c.take-levels.result _ c.clear.ensures ∙ ap (λ (s : BitString). s.capacity) c.take-levels.ensures.taken in
     let all = ap (λ (bs : List Bool). code.chips * (length bs + 1)) c.as_slice-bits.ensures.value in
     omega (arith, size, block, is.same, c.loop-four.invariant.same, same, all, mul-add code.chips (length bits) 1, mul-le-mul_left code.chips is.within, c.requires)
 
@@ -113,7 +113,7 @@ returns-clause-stream g c =
     let bits = c.as_slice-bits.result.now in
     let n = c.loop-next.next in
     let is = c.loop-next.invariant in
-    let out = c.loop-next.out in
+    let out = c.loop-next.levels in
     let context = g.C.LineCode.context_of c.loop-next.mark in
     let dummy : List Bool = true ∷ [] in
     let end = take_all n bits (omega (arith, c.loop-next-test.false)) in
