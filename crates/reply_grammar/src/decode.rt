@@ -209,8 +209,16 @@ fn read_epc_to(bits: &Bits, reply: &mut Reply)
             *last_pc = pc;
             *last = epc;
         }
-        _ => *reply = Reply::Epc { pc, epc },
+        _ => put_epc(pc, epc, reply),
     }
+}
+
+/// Puts a PC and an EPC in place of a reply of another kind. It stands alone, so that room for a whole reply is made ready here alone.
+#[inline(never)]
+fn put_epc(pc: u16, epc: EpcWords, reply: &mut Reply)
+    ensures { reply.new ≡ Epc pc epc }
+{
+    *reply = Reply::Epc { pc, epc };
 }
 
 /// Gives the reply that bits are which pass, in place of another.
