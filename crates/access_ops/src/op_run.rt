@@ -346,13 +346,17 @@ impl OpRun {
         *next = OpNext::Result(OpResult::Broken);
     }
 
-    /// Ends the run of operations on the tag, with no further result.
+    /// Ends the run of operations on the tag, with no further result. Where the end stands there already, it is left, as what comes next has
+    /// all of its room made ready where it is made anew.
     fn end(&mut self, next: &mut OpNext)
         ensures run { self.new ≡ record self.old { stage = Stage.Done } }
         ensures next { next.new ≡ OpNext.End }
     {
         self.stage = Stage::Done;
-        *next = OpNext::End;
+        match next {
+            OpNext::End => {}
+            _ => *next = OpNext::End,
+        }
     }
 }
 
