@@ -1,7 +1,8 @@
 //! Frames that were sent, and the commands that they bring.
-ghost use Rattle.std.specs.Prelude.{◌≡◌, ◌≢◌, ◌≤◌, ◌↔◌, ℕ, All, IfErr, IsFalse, IsOk, IsTrue, Ok, length, codes};
+ghost use Rattle.std.specs.Prelude.{◌≡◌, ◌≢◌, ◌≤◌, ◌↔◌, [], ℕ, All, IfErr, IsFalse, IsOk, IsTrue, Ok, length, codes};
 ghost use Rattle.bit_strings.specs.BitString.{most_counted};
 ghost use Rattle.command_grammar.specs.declared.commands.Command.{Command};
+ghost use Rattle.command_grammar.specs.reading.Framing.{FramerStandsFor};
 ghost use Rattle.pie_line.specs.Pie.{longest_interval, FrameBeginsWith};
 ghost use Rattle.air_model.specs.Channel.{lead_of};
 ghost use Rattle.air_audit.specs.LineRefusals.{IsNoTxLine};
@@ -11,7 +12,7 @@ ghost use Rattle.report_lines.specs.ReadLines.{first_field};
 use crate::AuditReason;
 use crate::fields::{reason_of, spells};
 use bit_strings::{Bits, OutOfMemory};
-use command_grammar::{Command, CommandRefusal, decode_command_to};
+use command_grammar::{Command, CommandRefusal, Framer, decode_command_to};
 use pie_line::{FrameKind, Intervals, decode_frame};
 use report_lines::{MOST_INTERVALS, read_tx_line};
 use std::alloc::Global;
@@ -23,6 +24,7 @@ use std::marker::Model;
 pub(crate) struct SentFrame {
     intervals: Intervals,
     bits: Bits,
+    framer: Framer,
     command: Result<Command, CommandRefusal>,
 }
 
@@ -32,15 +34,17 @@ impl Drop for SentFrame {
         let SentFrame {
             intervals: _,
             bits: _,
+            framer: _,
             command: _,
         } = self;
     }
 }
 
 impl Model for SentFrame {
-    ghost use Rattle.std.specs.Prelude.{◌≤◌, Result};
+    ghost use Rattle.std.specs.Prelude.{◌≤◌, Result, []};
     ghost use Rattle.command_grammar.specs.declared.commands.Command.{Command};
     ghost use Rattle.command_grammar.specs.declared.refusal.CommandRefusal.{CommandRefusal};
+    ghost use Rattle.command_grammar.specs.reading.Framing.{FramerStandsFor};
     ghost use Rattle.report_lines.specs.ReadLines.{most_tx_intervals};
 
     ghost Value = { Result Command CommandRefusal };
@@ -48,7 +52,8 @@ impl Model for SentFrame {
     ghost view = { λ a. a.command };
 
     ghost invariant = { λ a. (most_tx_intervals ≤ a.intervals.capacity)
-        × (most_tx_intervals ≤ a.bits.capacity) };
+        × (most_tx_intervals ≤ a.bits.capacity)
+        × FramerStandsFor a.framer [] };
 }
 
 impl SentFrame {
@@ -59,6 +64,7 @@ impl SentFrame {
         Ok(SentFrame {
             intervals,
             bits,
+            framer: Framer::new(),
             command: Err(CommandRefusal::Short(0)),
         })
     }
@@ -80,7 +86,12 @@ impl SentFrame {
         if !spells(number, exchange) {
             return Err(AuditReason::Exchange);
         }
-        read_frame(&self.intervals, &mut self.bits, &mut self.command)
+        read_frame(
+            &self.intervals,
+            &mut self.bits,
+            &mut self.framer,
+            &mut self.command,
+        )
     }
 
     /// Whether the frame that was read last brings an ACK.
@@ -111,20 +122,23 @@ impl SentFrame {
 fn read_frame(
     intervals: &Intervals,
     bits: &mut Bits,
+    framer: &mut Framer,
     answer: &mut Result<Command, CommandRefusal>,
 ) -> Result<(), AuditReason>
     requires room { length intervals.now.items ≤ bits.old.capacity }
+    requires none { FramerStandsFor framer.old [] }
     requires each { All (λ interval. interval ≤ longest_interval) intervals.now.items }
     requires count { length intervals.now.items ≤ most_counted }
     ensures reads { IsOk result → ReadsFrame intervals.now.items answer.new }
     ensures refused { IfErr result (IsNoFrame intervals.now.items) }
     ensures capacity { bits.new.capacity ≡ bits.old.capacity }
+    ensures anew { FramerStandsFor framer.new [] }
 {
     let kind = match decode_frame(intervals, bits) {
         Ok(kind) => kind,
         Err(_) => return Err(AuditReason::Frame),
     };
-    decode_command_to(bits.as_slice(), answer);
+    decode_command_to(bits.as_slice(), framer, answer);
     match answer {
         Ok(command) if begins_as(&kind, command) => Ok(()),
         Ok(_) => Err(AuditReason::Frame),

@@ -7,7 +7,7 @@ ghost use Rattle.bench_lines.specs.ProbeLine.{IsProbeLine, most_line_bits};
 use crate::probe_line::SaidStimulus;
 use air_events::Event;
 use bit_strings::Bits;
-use command_grammar::{Command, CommandRefusal, decode_command_to};
+use command_grammar::{Command, CommandRefusal, Framer, decode_command_to};
 use text_fields::Digits;
 
 /// What a line does to the tag, where a command that it hears stands in the room that was lent.
@@ -32,7 +32,7 @@ fn effect_of_bits(digits: Digits<'_>, bits: &mut Bits, command: &mut Command) ->
     digits.copy_to(bits);
     // What no bits are.
     let mut spelled = Err(CommandRefusal::Short(0));
-    decode_command_to(bits.as_slice(), &mut spelled);
+    decode_command_to(bits.as_slice(), &mut Framer::new(), &mut spelled);
     match spelled {
         Ok(it) => {
             *command = it;

@@ -5,4 +5,5 @@ pub mod CommandFields
 pub mod FieldRanges
 pub mod FieldStages
 pub mod Framing
+pub mod KnownBits
 pub mod Readers

@@ -1,11 +1,12 @@
 //! The answer to a decode line: what the line asks for is computed in rooms that are taken once for all lines, and written as a line.
-ghost use Rattle.std.specs.Prelude.{◌≡◌, ◌≢◌, ◌≤◌, length, IfOk, IfErr, OnOk};
+ghost use Rattle.std.specs.Prelude.{◌≡◌, ◌≢◌, ◌≤◌, [], length, IfOk, IfErr, OnOk};
 ghost use Rattle.std.specs.String.{string_bytes};
 ghost use Rattle.decode_lines.specs.Answer.{AddsAnswer, AnswersBehind, AnswersLine};
 ghost use Rattle.text_fields.specs.Lines.{fields_of};
 ghost use Rattle.decode_lines.specs.Request.{AreFaultyToDecode, IsFaultyToDecode, IsWithinDecodeLimits, most_intervals, most_levels};
 ghost use Rattle.decode_lines.specs.declared.request.Request.{Request};
 ghost use Rattle.decode_lines.specs.declared.request.RequestKind.{RequestKind};
+ghost use Rattle.command_grammar.specs.reading.Framing.{FramerStandsFor};
 ghost use Rattle.epc_sgtin.specs.SgtinValue.{SgtinValue};
 ghost use Rattle.epc_sgtin.specs.Epc.{IsSgtin};
 ghost use Rattle.epc_sgtin.specs.Uri.{IsUriOf};
@@ -22,7 +23,7 @@ use crate::request::{
 };
 use bit_strings::{Bits, Code, Levels, OutOfMemory};
 use checked_lines::FaultReason;
-use command_grammar::{Command, CommandRefusal, decode_command_to};
+use command_grammar::{Command, CommandRefusal, Framer, decode_command_to};
 use epc_sgtin::{Sgtin, UriFault};
 use pie_line::{Intervals, decode_frame};
 use pie_text::Numbers;
@@ -129,10 +130,12 @@ struct AnswerRooms {
     bits: Bits,
     samples: Vec<u8>,
     words: Vec<u16>,
+    framer: Framer,
     command: Result<Command, CommandRefusal>,
     received: Received,
     ghost levels_room: { levels.capacity ≡ most_levels },
     ghost bits_room: { bits.capacity ≡ most_levels },
+    ghost no_bits: { FramerStandsFor framer [] },
 }
 
 impl AnswerRooms {
@@ -147,6 +150,7 @@ impl AnswerRooms {
             bits,
             samples,
             words,
+            framer: Framer::new(),
             // What no bits are.
             command: Err(CommandRefusal::Short(0)),
             // What no levels are.
@@ -284,7 +288,7 @@ impl AnswerRooms {
             (string_bytes text.new)) }
     {
         bits.copy_to(&mut self.bits);
-        decode_command_to(self.bits.as_slice(), &mut self.command);
+        decode_command_to(self.bits.as_slice(), &mut self.framer, &mut self.command);
         push_commanded(text, &self.command)
     }
 

@@ -1,22 +1,20 @@
 -- One bit more in a field, and the beginning of each field.
-use Rattle.std.proofs.Common.{◌≡◌, ℕ, suc, ◌+◌, ◌-◌, ◌/◌, ◌%◌, ◌^◌, ◌≤◌, Bool, true, false, not, List, [], ◌∷◌, ◌++◌, length, Result, Ok, Err, refl, sym, ap, subst, ◌∙◌, append_assoc, append-nil, length-append, arith, cond}
+use Rattle.std.proofs.Common.{◌≡◌, ℕ, suc, ◌+◌, ◌-◌, ◌/◌, ◌%◌, ◌^◌, ◌≤◌, Bool, true, false, List, [], ◌∷◌, ◌++◌, length, Result, Ok, Err, refl, sym, ap, subst, ◌∙◌, append_assoc, append-nil, length-append, arith, cond}
 use Rattle.std.specs.Prelude.{◌==◌}
-use mathlib.Core.Bool.{beq}
 use Rattle.std.proofs.lemmas.Bool.Decides.{nat_tests}
 use Rattle.std.proofs.lemmas.List.{take_at}
 use Rattle.bit_strings.specs.NumbersInBits.{digit_of, value_of, field_of}
 use Rattle.bit_strings.specs.Ebv.{IsEbv, IsCutEbv}
 use Rattle.gen2_crc.specs.Crc.{crc5_of, crc16_of}
 use Rattle.command_grammar.specs.declared.reader.fields.Fields.{Fields}
-use Rattle.command_grammar.specs.declared.reader.known_bits.KnownBits.{KnownBits}
 use Rattle.command_grammar.specs.declared.reader.field_in_progress.NumberField.{NumberField}
 use Rattle.command_grammar.specs.declared.reader.field_in_progress.NumberField.TheVariants as number_fields
 use Rattle.command_grammar.specs.declared.reader.field_in_progress.Stage.TheVariants as stages
 use Rattle.command_grammar.specs.declared.refusal.Reason.{Reason}
 use Rattle.command_grammar.specs.declared.refusal.Reason.TheVariants as reasons
 use Rattle.command_grammar.specs.reading.Readers.{Stop, Bad, Reading, ◌>>=◌, reading_bits, reading_number, exactly_at, count_at, words_at, ebv_at, before, crc5_at, crc16_at}
+use Rattle.command_grammar.specs.reading.KnownBits.{known_from}
 use Rattle.command_grammar.specs.reading.FieldStages.{width_of, number_then, words_then, mask_from, ebv_from, stage_from}
-use Rattle.command_grammar.proofs.reading.KnownBits.{exactly-more, exactly-bad, exactly-none, same_bits, other_bits}
 use Rattle.command_grammar.proofs.reading.EbvFronts.{ebv_none, ebv_more, ebv_done, ebv_refused}
 use Rattle.command_grammar.proofs.CheckNumbers.{crc5-field, crc16-field}
 use Rattle.command_grammar.proofs.reading.FieldRests.{mask-start, words-more, words-none}
@@ -132,48 +130,18 @@ ebv_whole front rest bit number pointer v same ebv =
 pub ebv_stops : (front rest : List Bool) (bit : Bool) (v : Fields) → IsCutEbv front → ((number : ℕ) (more : List Bool) → IsEbv number ((front ++ bit ∷ []) ++ more) → ⊥) → stage_from (stages.Ebv front) v (bit ∷ rest) ≡ Err (Bad (length rest + 1) reasons.Ebv)
 ebv_stops front rest bit v cut none = ap (pointed v) (ebv_refused front rest bit cut none)
 
--- ---- bits that are known
+-- ---- the beginning of each field
 
 abbrev kept : Fields → Reading (Unit {0}) → Reading Fields
 kept v r = r >>= λ x. Ok (v, x.1)
 
-pub known_bad : (reason : Reason) (number : KnownBits) (v : Fields) (bit : Bool) (rest : List Bool) → not (beq bit (number.value / 2 ^ number.behind % 2 == 1)) ≡ true → stage_from (stages.Known reason number) v (bit ∷ rest) ≡ Err (Bad (length rest + 1) reason)
-known_bad reason number v bit rest test =
-    ap (kept v) (exactly-bad number.value number.behind reason bit rest (other_bits bit (number.value / 2 ^ number.behind % 2 == 1) test))
-
-known_next : (reason : Reason) (number : KnownBits) (v : Fields) (bit : Bool) (rest : List Bool) → not (beq bit (number.value / 2 ^ number.behind % 2 == 1)) ≡ false → stage_from (stages.Known reason number) v (bit ∷ rest) ≡ kept v (exactly_at (field_of number.value number.behind) reason rest)
-known_next reason number v bit rest test =
-    ap (kept v) (exactly-more number.value number.behind reason bit rest (same_bits bit (number.value / 2 ^ number.behind % 2 == 1) test))
-
-pub known_last : (reason : Reason) (number : KnownBits) (v : Fields) (bit : Bool) (rest : List Bool) → not (beq bit (number.value / 2 ^ number.behind % 2 == 1)) ≡ false → number.behind ≡ 0 → stage_from (stages.Known reason number) v (bit ∷ rest) ≡ Ok (v, rest)
-known_last reason number v bit rest test nothing = known_next reason number v bit rest test ∙ ap (kept v) (exactly-none number.value number.behind reason rest nothing)
-
-pub known_more : (reason : Reason) (number : KnownBits) (less : ℕ) (v : Fields) (bit : Bool) (rest : List Bool) → not (beq bit (number.value / 2 ^ number.behind % 2 == 1)) ≡ false → less + 1 ≡ number.behind
-    → stage_from (stages.Known reason number) v (bit ∷ rest) ≡ stage_from (stages.Known reason (record { behind = less; value = number.value })) v rest
-known_more reason number less v bit rest test same =
-    let e : number.behind ≡ suc less = omega arith in
-    known_next reason number v bit rest test ∙ ap (λ n. kept v (exactly_at (field_of number.value n) reason rest)) e
-
--- ---- the beginning of each field
-
-zeros_start : (reason : Reason) (width : ℕ) (number : KnownBits) (v : Fields) (bits : List Bool) → number.behind + 1 ≡ width → number.value ≡ 0 → stage_from (stages.Known reason number) v bits ≡ kept v (exactly_at (field_of 0 width) reason bits)
-zeros_start reason width number v bits whole nothing =
-    let e : suc number.behind ≡ width = omega arith in
-    ap (λ n. kept v (exactly_at (field_of n (suc number.behind)) reason bits)) nothing ∙ ap (λ n. kept v (exactly_at (field_of 0 n) reason bits)) e
-
-one_zero : field_of 0 1 ≡ false ∷ []
+pub truncate_start : (v : Fields) (bits : List Bool) → known_from reasons.Truncate (record { behind = 0; value = 0 }) v bits ≡ kept v (exactly_at (false ∷ []) reasons.Truncate bits)
 unfolding field_of
-one_zero = refl
+truncate_start v bits = refl
 
-three_zeros : field_of 0 3 ≡ false ∷ false ∷ false ∷ []
+pub kill_bits_start : (v : Fields) (bits : List Bool) → known_from reasons.KillBits (record { behind = 2; value = 0 }) v bits ≡ kept v (exactly_at (false ∷ false ∷ false ∷ []) reasons.KillBits bits)
 unfolding field_of
-three_zeros = refl
-
-pub truncate_start : (number : KnownBits) (v : Fields) (bits : List Bool) → number.behind + 1 ≡ 1 → number.value ≡ 0 → stage_from (stages.Known reasons.Truncate number) v bits ≡ kept v (exactly_at (false ∷ []) reasons.Truncate bits)
-truncate_start number v bits whole nothing = zeros_start reasons.Truncate 1 number v bits whole nothing ∙ ap (λ (l : List Bool). kept v (exactly_at l reasons.Truncate bits)) one_zero
-
-pub kill_bits_start : (number : KnownBits) (v : Fields) (bits : List Bool) → number.behind + 1 ≡ 3 → number.value ≡ 0 → stage_from (stages.Known reasons.KillBits number) v bits ≡ kept v (exactly_at (false ∷ false ∷ false ∷ []) reasons.KillBits bits)
-kill_bits_start number v bits whole nothing = zeros_start reasons.KillBits 3 number v bits whole nothing ∙ ap (λ (l : List Bool). kept v (exactly_at l reasons.KillBits bits)) three_zeros
+kill_bits_start v bits = refl
 
 before_is : (bits rest : List Bool) → before (bits ++ rest) rest ≡ bits
 before_is bits rest = take_at bits rest (length (bits ++ rest) - length rest) (omega (arith, length-append bits rest))

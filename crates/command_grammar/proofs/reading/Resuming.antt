@@ -1,6 +1,7 @@
 -- Reading goes on from each state for the bits that are still to come.
 use Rattle.std.proofs.Common.{◌≡◌, ℕ, ◌+◌, ◌-◌, ◌*◌, ◌<◌, ◌≤◌, ◌^◌, Bool, true, List, [], ◌∷◌, ◌++◌, length, Result, Ok, Err, refl, sym, ap, subst, ◌∙◌, append_assoc, append-nil, length-append, take, drop, slice_index_or, inl, inr, arith}
-use Rattle.std.specs.Prelude.{◌⊎◌, Option, Some, None}
+use Rattle.std.specs.Prelude.{◌⊎◌, Option, Some, None, not}
+use mathlib.Core.Bool.{beq}
 use Rattle.std.proofs.lemmas.Bool.{cases_lt}
 use Rattle.std.proofs.lemmas.List.{take_all}
 use Rattle.bit_strings.specs.NumbersInBits.{digit_of, value_of, field_of}
@@ -17,6 +18,7 @@ use Rattle.command_grammar.specs.declared.reader.field_in_progress.BitField.TheV
 use Rattle.command_grammar.specs.declared.reader.field_in_progress.PairField.TheVariants as pair_fields
 use Rattle.command_grammar.specs.declared.reader.field_in_progress.TripleField.TheVariants as triple_fields
 use Rattle.command_grammar.specs.declared.reader.check.Check.{Check}
+use Rattle.command_grammar.specs.declared.reader.known_bits.KnownBits.{KnownBits}
 use Rattle.command_grammar.specs.declared.reader.field_in_progress.NumberField.{NumberField}
 use Rattle.command_grammar.specs.declared.reader.field_in_progress.Stage.{Stage}
 use Rattle.command_grammar.specs.declared.reader.field_in_progress.Stage.TheVariants as stages
@@ -30,10 +32,12 @@ use Rattle.command_grammar.specs.reading.Readers.{Stop, Short, Bad, Reading, ◌
 use Rattle.command_grammar.specs.reading.Codes.{behind_code}
 use Rattle.command_grammar.specs.reading.CommandFields.{FieldReader, alone, counted, reader_of, field_then, field_from, command_from, fields_at, command_at, all_of, only_whole, run}
 use Rattle.command_grammar.specs.reading.FieldStages.{width_of, number_then, stage_from}
-use Rattle.command_grammar.specs.reading.CheckNumbers.{IsRegisterOf}
-use Rattle.command_grammar.specs.reading.Framing.{resume, StateStandsFor, HasDigits, HasRead, IsOpen, IsSoundPosition, Keeps, TakesBit, bits_of_number}
+use Rattle.command_grammar.specs.reading.KnownBits.{known_bits, next_bit}
+use Rattle.command_grammar.specs.reading.CheckNumbers.{IsRegisterOf, AreServed, check_kept}
+use Rattle.command_grammar.specs.reading.Framing.{resume, IsServed, StateStandsFor, HasDigits, HasRead, IsOpen, IsSoundPosition, Keeps, TakesBit, bits_of_number}
 use Rattle.command_grammar.proofs.reading.FieldRests.{is_fork, fork-at, number-short, number-whole, mask-short}
 use Rattle.command_grammar.proofs.reading.FieldStages.{few_bits as few_bits_of, some_bits}
+use Rattle.command_grammar.proofs.reading.KnownBits.{reads_more, reads_last, reads_other, known-short}
 use Rattle.command_grammar.proofs.SpellingLaws.{begun}
 use Rattle.command_grammar.proofs.reading.WholeReading.{all_whole, all_short, all_bad}
 use Rattle.command_grammar.proofs.SpellingLengths.{length-begins}
@@ -106,7 +110,6 @@ number-ends : (field : NumberField) (v : Fields) (read : List Bool) → length r
 number-ends field v read less = ap (λ (r : Reading ℕ). r >>= λ n. number_then field n.0 v n.1) (number-short (width_of field) read less)
 
 stage-short : (stage : Stage) (v : Fields) → stage_from stage v [] ≡ Err Short
-unfolding field_of
 stage-short (stages.Bit bit_fields.Dr) v = refl
 stage-short (stages.Bit bit_fields.TRext) v = refl
 stage-short (stages.Bit bit_fields.QueryTarget) v = refl
@@ -119,7 +122,6 @@ stage-short (stages.Triple triple_fields.SelectTarget front) v = refl
 stage-short (stages.Number field) v = number-ends field v [] (omega (arith, some_bits field))
 stage-short (stages.Ebv front) v = refl
 stage-short (stages.Mask behind) v = ap (λ (r : Reading (List Bool)). r >>= λ x. Ok (record v { mask = x.0 }, x.1)) (mask-short behind v.mask)
-stage-short (stages.Known reason number) v = refl
 
 all_here : (kind : CommandKind) (position : Position) (behind : List Field) (v : Fields) (bits : List Bool) → Resumes kind position behind v bits → all_of bits ≡ resume kind position behind v (bits ++ []) []
 all_here kind position behind v bits resumes = ap all_of (sym (append-nil bits)) ∙ resumes []
@@ -131,6 +133,10 @@ pub within_short : (kind : CommandKind) (stage : Stage) (behind : List Field) (v
 within_short kind stage behind v bits resumes =
     all_here kind (positions.Within stage) behind v bits resumes ∙ ap (λ (r : Reading Fields). r >>= λ x. run behind kind x.0 (bits ++ []) x.1) (stage-short stage v)
 
+pub known_short : (kind : CommandKind) (reason : Reason) (number : KnownBits) (behind : List Field) (v : Fields) (bits : List Bool) → Resumes kind (positions.Known reason number) behind v bits → all_of bits ≡ Err Short
+known_short kind reason number behind v bits resumes =
+    all_here kind (positions.Known reason number) behind v bits resumes ∙ ap (λ (r : Reading Fields). r >>= λ x. run behind kind x.0 (bits ++ []) x.1) (known-short reason number v)
+
 pub whole_here : (kind : CommandKind) (behind : List Field) (v : Fields) (bits : List Bool) → Resumes kind positions.Whole behind v bits → all_of bits ≡ Ok (command_of kind v)
 whole_here kind behind v bits resumes = all_here kind positions.Whole behind v bits resumes
 
@@ -138,6 +144,7 @@ whole_here kind behind v bits resumes = all_here kind positions.Whole behind v b
 pub few_bits : (kind : CommandKind) (position : Position) (behind : List Field) (v : Fields) (bits : List Bool) → Resumes kind position behind v bits → length bits ≤ 4162
 few_bits kind (positions.Code front) behind v bits resumes = length-begins bits (all_short bits (code_short kind front behind v bits resumes)).begins
 few_bits kind (positions.Within stage) behind v bits resumes = length-begins bits (all_short bits (within_short kind stage behind v bits resumes)).begins
+few_bits kind (positions.Known reason number) behind v bits resumes = length-begins bits (all_short bits (known_short kind reason number behind v bits resumes)).begins
 few_bits kind positions.Whole behind v bits resumes =
     length-begins bits (begun Spellings bits (command_of kind v, all_whole (command_of kind v) bits (whole_here kind behind v bits resumes)))
 
@@ -154,11 +161,17 @@ whole_spells s bits whole stands =
     let resumes : Resumes s.kind positions.Whole s.behind.now s.fields bits = subst (λ (position : Position). Resumes s.kind position s.behind.now s.fields bits) whole stands.reads in
     all_whole (command_of s.kind s.fields) bits (whole_here s.kind s.behind.now s.fields bits resumes)
 
-pub open_short : (s : State) (bits : List Bool) → ((front : CodeFront) × (s.position ≡ positions.Code front)) ⊎ ((stage : Stage) × (s.position ≡ positions.Within stage)) → StateStandsFor s bits → IsShortAt Spellings bits (length bits)
+-- the bits aren't a whole command
+abbrev pub IsOngoing : Position → Type 0
+IsOngoing position = ((front : CodeFront) × (position ≡ positions.Code front)) ⊎ (((stage : Stage) × (position ≡ positions.Within stage)) ⊎ ((reason : Reason) × (number : KnownBits) × (position ≡ positions.Known reason number)))
+
+pub open_short : (s : State) (bits : List Bool) → IsOngoing s.position → StateStandsFor s bits → IsShortAt Spellings bits (length bits)
 open_short s bits (inl code) stands =
     all_short bits (code_short s.kind code.0 s.behind.now s.fields bits (subst (λ (position : Position). Resumes s.kind position s.behind.now s.fields bits) code.1 stands.reads))
-open_short s bits (inr within) stands =
+open_short s bits (inr (inl within)) stands =
     all_short bits (within_short s.kind within.0 s.behind.now s.fields bits (subst (λ (position : Position). Resumes s.kind position s.behind.now s.fields bits) within.1 stands.reads))
+open_short s bits (inr (inr known)) stands =
+    all_short bits (known_short s.kind known.0 known.1 s.behind.now s.fields bits (subst (λ (position : Position). Resumes s.kind position s.behind.now s.fields bits) known.2 stands.reads))
 
 -- ---- inside a number
 
@@ -260,12 +273,15 @@ pub no_digits : (s : State) → s.left ≡ bits_of_number s.position → s.value
 no_digits s wide value = record { wide = omega (arith, wide); value = value; nothing = λ none. refl }
 
 -- the next field begins
-pub begins_field : (behind : List Field) (default : Field) (kind : CommandKind) (v : Fields) (whole bits : List Bool) (stage : Stage) → 1 ≤ length behind → stage_from stage v bits ≡ field_from (slice_index_or behind 0 default) v whole bits
-    → run behind kind v whole bits ≡ (stage_from stage v bits >>= λ x. run (take (length behind - 1) (drop 1 behind)) kind x.0 whole x.1)
-begins_field [] default kind v whole bits stage some e = absurd (omega arith)
-begins_field (field ∷ behind) default kind v whole bits stage some e =
-    ap (λ (r : Reading Fields). r >>= λ x. run behind kind x.0 whole x.1) (sym e)
-    ∙ ap (λ (others : List Field). stage_from stage v bits >>= λ x. run others kind x.0 whole x.1) (sym (take_all (length (field ∷ behind) - 1) behind (omega arith)))
+pub first_and_behind : (fields : List Field) (default : Field) → 1 ≤ length fields → slice_index_or fields 0 default ∷ take (length fields - 1) (drop 1 fields) ≡ fields
+first_and_behind [] default some = absurd (omega arith)
+first_and_behind (field ∷ behind) default some = ap (λ (others : List Field). field ∷ others) (take_all (length (field ∷ behind) - 1) behind (omega arith))
+
+pub begins_served : (position : Position) (check : Check) (behind : List Field) → AreServed (check_kept check) behind → IsServed position check behind
+begins_served (positions.Code front) check behind served = tt
+begins_served (positions.Within stage) check behind served = served
+begins_served (positions.Known reason number) check behind served = served
+begins_served positions.Whole check behind served = tt
 
 -- ---- what comes of one bit more
 
@@ -285,6 +301,40 @@ pub stage_run : (s : State) (bits run_bits : List Bool) (stage more : Stage) (v 
 stage_run s bits run_bits stage more v here goes stands =
     resumes_more s (positions.Within more) v bits run_bits stands
     (λ rest. ap (λ (position : Position). resume s.kind position s.behind.now s.fields ((bits ++ run_bits) ++ rest) (run_bits ++ rest)) here ∙ ap (λ (r : Reading Fields). r >>= λ x. run s.behind.now s.kind x.0 ((bits ++ run_bits) ++ rest) x.1) (goes rest))
+
+-- bits that are known go on, or end, or another bit comes
+goes_on : (s : State) (bits : List Bool) (bit : Bool) (rest : List Bool) → StateStandsFor s bits → all_of ((bits ++ bit ∷ []) ++ rest) ≡ resume s.kind s.position s.behind.now s.fields ((bits ++ bit ∷ []) ++ rest) (bit ∷ rest)
+goes_on s bits bit rest stands =
+    let same : (bits ++ bit ∷ []) ++ rest ≡ bits ++ (bit ∷ rest) = append_assoc bits (bit ∷ []) rest in
+    ap all_of same ∙ stands.reads (bit ∷ rest) ∙ ap (λ (whole : List Bool). resume s.kind s.position s.behind.now s.fields whole (bit ∷ rest)) (sym same)
+
+abbrev runs_on : State → List Bool → Reading Fields → Result Command Stop
+runs_on s whole r = r >>= λ x. run s.behind.now s.kind x.0 whole x.1
+
+pub known_goes_on : (s : State) (bits : List Bool) (bit : Bool) (reason : Reason) (number more : KnownBits) → s.position ≡ positions.Known reason number → known_bits number ≡ bit ∷ known_bits more → StateStandsFor s bits → Resumes s.kind (positions.Known reason more) s.behind.now s.fields (bits ++ bit ∷ [])
+known_goes_on s bits bit reason number more here same stands rest =
+    goes_on s bits bit rest stands
+    ∙ ap (λ (position : Position). resume s.kind position s.behind.now s.fields ((bits ++ bit ∷ []) ++ rest) (bit ∷ rest)) here
+    ∙ ap (runs_on s ((bits ++ bit ∷ []) ++ rest)) (reads_more reason number more s.fields bit rest same)
+
+pub known_ends : (s : State) (bits : List Bool) (bit : Bool) (reason : Reason) (number : KnownBits) → s.position ≡ positions.Known reason number → known_bits number ≡ bit ∷ [] → StateStandsFor s bits → (rest : List Bool)
+    → all_of ((bits ++ bit ∷ []) ++ rest) ≡ run s.behind.now s.kind s.fields ((bits ++ bit ∷ []) ++ rest) rest
+known_ends s bits bit reason number here same stands rest =
+    goes_on s bits bit rest stands
+    ∙ ap (λ (position : Position). resume s.kind position s.behind.now s.fields ((bits ++ bit ∷ []) ++ rest) (bit ∷ rest)) here
+    ∙ ap (runs_on s ((bits ++ bit ∷ []) ++ rest)) (reads_last reason number s.fields bit rest same)
+
+pub known_stops : (s : State) (bits : List Bool) (bit : Bool) (reason : Reason) (number : KnownBits) → s.position ≡ positions.Known reason number → not (beq bit (next_bit number)) ≡ true → StateStandsFor s bits → (rest : List Bool)
+    → all_of (bits ++ bit ∷ rest) ≡ Err (Bad (length rest + 1) reason)
+known_stops s bits bit reason number here test stands rest =
+    stands.reads (bit ∷ rest)
+    ∙ ap (λ (position : Position). resume s.kind position s.behind.now s.fields (bits ++ bit ∷ rest) (bit ∷ rest)) here
+    ∙ ap (runs_on s (bits ++ bit ∷ rest)) (reads_other reason number s.fields bit rest test)
+
+-- ... and the check number has them already
+pub known_counted : (check : Check) (bits others : List Bool) (bit : Bool) (number : KnownBits) → known_bits number ≡ bit ∷ others → IsRegisterOf check (bits ++ known_bits number) → IsRegisterOf check ((bits ++ bit ∷ []) ++ others)
+known_counted check bits others bit number same register =
+    subst (IsRegisterOf check) (ap (λ (l : List Bool). bits ++ l) same ∙ sym (append_assoc bits (bit ∷ []) others)) register
 
 -- ---- what a Framer keeps, with one bit more
 
@@ -335,7 +385,7 @@ whole_read s pushed bits whole h =
     let none : s.left ≡ 0 = omega (arith, h.digits.wide, ap bits_of_number whole) in
     whole_spells s bits whole (read_none s pushed bits none h)
 
-pub open_read : (s : State) (pushed : ℕ) (bits : List Bool) → ((front : CodeFront) × (s.position ≡ positions.Code front)) ⊎ ((stage : Stage) × (s.position ≡ positions.Within stage)) → HasRead s pushed bits → IsShortAt Spellings bits (length bits)
+pub open_read : (s : State) (pushed : ℕ) (bits : List Bool) → IsOngoing s.position → HasRead s pushed bits → IsShortAt Spellings bits (length bits)
 open_read s pushed bits way h =
     elim (cases_lt 0 s.left) [
       | inl some ↦ read_short s pushed bits (omega (arith, some)) h

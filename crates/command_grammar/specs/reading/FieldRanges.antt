@@ -1,8 +1,7 @@
 -- Profile: what holds of a field of which some bits were read: its numbers are within their ranges. And at which bits a run ends.
-use Rattle.std.specs.Prelude.{◌≡◌, ◌≢◌, ℕ, ◌+◌, ◌/◌, ◌%◌, ◌^◌, ◌≤◌, Bool, length, IsSome, ◌==◌}
+use Rattle.std.specs.Prelude.{◌≡◌, ◌≢◌, ℕ, ◌+◌, ◌≤◌, Bool, length, IsSome}
 use Rattle.command_grammar.specs.declared.reader.fields.Fields.{Fields}
 use Rattle.command_grammar.specs.reading.FieldStages.{width_of}
-use Rattle.command_grammar.specs.declared.reader.known_bits.KnownBits.{KnownBits}
 use Rattle.command_grammar.specs.declared.reader.field_in_progress.NumberField.{NumberField}
 use Rattle.command_grammar.specs.declared.reader.field_in_progress.NumberField.TheVariants as number_fields
 use Rattle.command_grammar.specs.declared.reader.field_in_progress.TripleFront.TheVariants.{Nothing}
@@ -26,7 +25,6 @@ IsSoundNumber other v = Unit {0}
 abbrev pub AreFieldsInRange : Stage → Fields → Type 0
 AreFieldsInRange (stages.Number field) v = IsSoundNumber field v
 AreFieldsInRange (stages.Mask behind) v = length v.mask + behind + 1 ≤ 255
-AreFieldsInRange (stages.Known reason number) v = number.behind ≤ 15
 AreFieldsInRange other v = Unit {0}
 
 -- behind a bit of a field that goes on, what was read of the field is in its range, and what is still to come has room
@@ -34,15 +32,9 @@ abbrev pub IsSoundNext : Next → Fields → Type 0
 IsSoundNext (next.Stay stage) v = AreFieldsInRange stage v
 IsSoundNext other v = Unit {0}
 
--- the next bit of bits that are known beforehand, as those of a check number are
-abbrev pub next_bit : KnownBits → Bool
-next_bit number = number.value / 2 ^ number.behind % 2 == 1
-
--- the bit isn't of a number, nor inside a mask or bits that are known, nor the first one of two or three: it ends them, is refused,
--- or stands elsewhere
+-- the bit isn't of a number, nor inside a mask, nor the first one of two or three: it ends them, is refused, or stands elsewhere
 abbrev pub IsEdge : Stage → Bool → Type 0
 IsEdge (stages.Number field) bit = ⊥
-IsEdge (stages.Known reason number) bit = bit ≡ next_bit number → number.behind ≡ 0
 IsEdge (stages.Mask behind) bit = behind ≡ 0
 IsEdge (stages.Pair field first) bit = IsSome first
 IsEdge (stages.Triple field front) bit = front ≢ Nothing

@@ -1,8 +1,7 @@
 -- Profile: a field of which some bits were read, and what reading gives from there for the bits that are still to come.
 use Rattle.std.specs.Prelude.{ℕ, zero, suc, ◌+◌, Bool, List, [], ◌∷◌, ◌++◌, length, Option, Some, None, Ok, Err, ◌==◌, if◌then◌else◌}
-use Rattle.bit_strings.specs.NumbersInBits.{field_of}
 use Rattle.command_grammar.specs.declared.reader.fields.Fields.{Fields}
-use Rattle.command_grammar.specs.reading.Readers.{Reading, ◌>>=◌, bit_at, reading_bits, reading_number, Choice, child, next_at, m_values, sel_values, query_target_values, updn_values, select_target_values, mask_bank_values, bank_values, exactly_at, words_at, ebv_at, Bad}
+use Rattle.command_grammar.specs.reading.Readers.{Reading, ◌>>=◌, bit_at, reading_bits, reading_number, Choice, child, next_at, m_values, sel_values, query_target_values, updn_values, select_target_values, mask_bank_values, bank_values, words_at, ebv_at, Bad}
 use Rattle.command_grammar.specs.declared.reader.field_in_progress.BitField.{BitField}
 use Rattle.command_grammar.specs.declared.reader.field_in_progress.BitField.TheVariants as bit_fields
 use Rattle.command_grammar.specs.declared.reader.field_in_progress.PairField.{PairField}
@@ -99,7 +98,6 @@ stage_from (stages.Triple field front) v bits = triple_from field front v bits
 stage_from (stages.Number field) v bits = reading_number (width_of field) bits >>= λ n. number_then field n.0 v n.1
 stage_from (stages.Ebv front) v bits = ebv_from front bits >>= λ x. Ok (record v { pointer = x.0 }, x.1)
 stage_from (stages.Mask behind) v bits = mask_from behind v.mask bits >>= λ x. Ok (record v { mask = x.0 }, x.1)
-stage_from (stages.Known reason number) v bits = exactly_at (field_of number.value (suc number.behind)) reason bits >>= λ x. Ok (v, x.1)
 
 -- what follows a bit of a field
 abbrev pub next_from : Next → Fields → List Bool → Reading Fields

@@ -1,6 +1,6 @@
 -- Profile: what a contract sees of a Framer, and what reading gives from each of its states for the bits that are still to
 -- come. It keeps no bits but those of a mask and of words; what is pushed behind the first place of refusal changes nothing.
-use Rattle.std.specs.Prelude.{◌≡◌, ℕ, ◌+◌, Bool, List, [], ◌∷◌, ◌++◌, length, Option, Some, None, Result, Err}
+use Rattle.std.specs.Prelude.{◌≡◌, ℕ, ◌+◌, ◌≤◌, Bool, List, [], ◌∷◌, ◌++◌, length, Option, Some, None, Result, Err}
 use Rattle.bit_strings.specs.NumbersInBits.{value_of}
 use Rattle.command_grammar.specs.Commands.{command_fields_of, command_of, IsCommandRefusedAt}
 use Rattle.command_grammar.specs.reading.Readers.{Stop, ◌>>=◌, child, none, next_at, Bad}
@@ -8,6 +8,7 @@ use Rattle.command_grammar.specs.reading.Codes.{bits_of_front, behind_code}
 use Rattle.command_grammar.specs.reading.CommandFields.{all_of, only_whole, run}
 use Rattle.command_grammar.specs.reading.FieldStages.{stage_from}
 use Rattle.command_grammar.specs.reading.FieldRanges.{AreFieldsInRange, IsEdge, number_bits}
+use Rattle.command_grammar.specs.reading.KnownBits.{known_bits, next_bit, known_from}
 use Rattle.command_grammar.specs.reading.CheckNumbers.{IsRegisterOf, check_kept, AreServed}
 use Rattle.command_grammar.specs.declared.commands.Command.{Command}
 use Rattle.command_grammar.specs.declared.reader.check.Check.{Check}
@@ -26,18 +27,21 @@ use Rattle.command_grammar.specs.declared.refusal.Reason.TheVariants as reasons
 abbrev pub resume : CommandKind → Position → List Field → Fields → List Bool → List Bool → Result Command Stop
 resume kind (positions.Code front) behind v whole bits = next_at (behind_code front) reasons.Code bits >>= λ x. run (command_fields_of x.0) x.0 v whole x.1
 resume kind (positions.Within stage) behind v whole bits = stage_from stage v bits >>= λ x. run behind kind x.0 whole x.1
+resume kind (positions.Known reason number) behind v whole bits = known_from reason number v bits >>= λ x. run behind kind x.0 whole x.1
 resume kind positions.Whole behind v whole bits = only_whole (command_of kind v) bits
 
--- in the code its bits are known, and behind it the command's check number goes along
+-- in the code its bits are known, and behind it the command's check number goes along, with bits that are known before they come
 abbrev pub CheckGoesAlong : Position → Check → List Bool → Type 0
 CheckGoesAlong (positions.Code front) check bits = bits ≡ bits_of_front front
 CheckGoesAlong (positions.Within stage) check bits = IsRegisterOf check bits
+CheckGoesAlong (positions.Known reason number) check bits = IsRegisterOf check (bits ++ known_bits number)
 CheckGoesAlong positions.Whole check bits = Unit {0}
 
 -- the check number that goes along is the one that the fields ask for
 abbrev pub IsServed : Position → Check → List Field → Type 0
 IsServed (positions.Code front) check behind = Unit {0}
 IsServed (positions.Within stage) check behind = AreServed (check_kept check) behind
+IsServed (positions.Known reason number) check behind = AreServed (check_kept check) behind
 IsServed positions.Whole check behind = Unit {0}
 
 -- the state stands for these bits: whatever comes behind them, reading goes on from the state
@@ -70,12 +74,14 @@ pub record HasRead (s : State) (pushed : ℕ) (bits : List Bool) : Type 0 where
 abbrev pub IsSoundPosition : Position → Fields → Type 0
 IsSoundPosition (positions.Code front) v = Unit {0}
 IsSoundPosition (positions.Within stage) v = AreFieldsInRange stage v
+IsSoundPosition (positions.Known reason number) v = number.behind ≤ 15
 IsSoundPosition positions.Whole v = Unit {0}
 
--- the bit ends a run of a field, or is none of a run, or no code goes on with it, or it stands behind a command
+-- the bit ends a run of a field or of bits that are known, or is another than the one that is known, or is none of a run, or no code goes on with it, or it stands behind a command
 abbrev pub IsAtEdge : Position → Bool → Type 0
 IsAtEdge (positions.Code front) bit = child (behind_code front) bit ≡ none
 IsAtEdge (positions.Within stage) bit = IsEdge stage bit
+IsAtEdge (positions.Known reason number) bit = bit ≡ next_bit number → number.behind ≡ 0
 IsAtEdge positions.Whole bit = Unit {0}
 
 -- what comes of one bit more: a state that stands for the bits, or a refusal at the bit, whatever follows

@@ -1,9 +1,10 @@
 //! The check number that goes along with the bits of a command (6.3.1.5).
-ghost use Rattle.std.specs.Prelude.{◌≡◌, ◌≤◌, ◌<◌, ◌^◌, List, Bool, [], ◌∷◌, ◌++◌};
-ghost use Rattle.bit_strings.specs.NumbersInBits.{field_of};
-ghost use Rattle.command_grammar.specs.reading.CheckNumbers.{IsRegisterOf, check_asked, check_kept, kept_behind};
+ghost use Rattle.std.specs.Prelude.{◌≡◌, ◌≤◌, ◌<◌, ◌^◌, List, Bool, [], ◌∷◌, ◌++◌, Some};
+ghost use Rattle.bit_strings.specs.NumbersInBits.{value_of, field_of};
+ghost use Rattle.gen2_crc.specs.Crc.{crc5_of, crc16_of};
+ghost use Rattle.command_grammar.specs.declared.refusal.Reason.TheVariants as reasons;
+ghost use Rattle.command_grammar.specs.reading.CheckNumbers.{IsRegisterOf, check_asked, check_kept};
 
-use crate::fields::Field;
 use crate::kinds::CheckNumber;
 use gen2_crc::{Crc5, Crc16};
 
@@ -80,16 +81,27 @@ impl Check {
             self.push((value >> places) % 2 == 1);
         }
     }
-
-    /// A field begins. With its own one the check number is over, so that its own bits are not counted, which are many in a
-    /// short command.
-    pub(crate) fn start(&mut self, field: Field)
-        ensures counts { (bits : List Bool) → IsRegisterOf self.old bits
-            → IsRegisterOf self.new bits }
-        ensures kept { check_kept self.new ≡ kept_behind (check_kept self.old) field }
+    /// The CRC-5 of the bits so far, where it is still to come.
+    pub(crate) fn crc5(&self) -> u32
+        requires { check_kept self.now ≡ Some reasons.Crc5 }
+        ensures { (bits : List Bool) → IsRegisterOf self.now bits
+            → result ≡ value_of (crc5_of bits) }
     {
-        if matches!(field, Field::Crc5 | Field::Crc16) {
-            *self = Check::Over;
+        match self {
+            Check::Short(crc) => u32::from(crc.value()),
+            Check::Long(_) | Check::Over => unreachable!(),
+        }
+    }
+
+    /// The CRC-16 of the bits so far, where it is still to come.
+    pub(crate) fn crc16(&self) -> u32
+        requires { check_kept self.now ≡ Some reasons.Crc16 }
+        ensures { (bits : List Bool) → IsRegisterOf self.now bits
+            → result ≡ value_of (crc16_of bits) }
+    {
+        match self {
+            Check::Long(crc) => u32::from(crc.value()),
+            Check::Short(_) | Check::Over => unreachable!(),
         }
     }
 }

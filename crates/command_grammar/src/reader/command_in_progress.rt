@@ -3,20 +3,27 @@ ghost use Rattle.std.specs.Prelude.{◌≡◌, ◌+◌, ◌-◌, ◌*◌, ◌^�
 ghost use Rattle.bit_strings.specs.NumbersInBits.{digit_of};
 ghost use Rattle.command_grammar.specs.Commands.{Judges, IsFinishAnswer, SpellsCommand, code_of, command_fields_of};
 ghost use Rattle.command_grammar.specs.reading.CommandFields.{run};
-ghost use Rattle.command_grammar.specs.reading.CheckNumbers.{IsRegisterOf, AreServed, check_kept};
+ghost use Rattle.command_grammar.specs.reading.CheckNumbers.{IsRegisterOf, IsAsked, AreServed, check_kept, kept_behind};
 ghost use Rattle.command_grammar.specs.reading.FieldRanges.{number_bits};
-ghost use Rattle.command_grammar.specs.reading.Framing.{StateStandsFor, HasDigits, Keeps, CheckGoesAlong, IsServed, IsAtEdge, IsSoundPosition, TakesBit, refusal_in, resume};
+ghost use Rattle.command_grammar.specs.reading.Framing.{StateStandsFor, bits_of_number, HasDigits, Keeps, CheckGoesAlong, IsServed, IsAtEdge, IsSoundPosition, TakesBit, refusal_in, resume};
 ghost use Rattle.command_grammar.specs.declared.reader.command_in_progress.Position.TheVariants as positions;
 ghost use Rattle.command_grammar.specs.declared.commands.Command.{Command};
+ghost use Rattle.command_grammar.specs.declared.kinds.CommandKind.{CommandKind};
+ghost use Rattle.command_grammar.specs.declared.fields.Field.{Field};
+ghost use Rattle.command_grammar.specs.declared.reader.fields.Fields.{Fields};
 
 use crate::commands::Command;
 use crate::fields::Field;
 use crate::kinds::{CodeFront, CodeStep, CommandKind, code_step};
 use crate::reader::check::Check;
-use crate::reader::field_in_progress::{Next, Stage};
+use crate::reader::field_in_progress::{
+    BitField, Next, NumberField, PairField, Stage, TripleField, TripleFront,
+};
 use crate::reader::field_steps::take_number;
 use crate::reader::fields::Fields;
+use crate::reader::known_bits::KnownBits;
 use crate::refusal::{CommandRefusal, Pushed, Reason};
+use bit_strings::EbvFront;
 
 /// Where the next bit stands.
 #[derive(Clone, Copy)]
@@ -27,6 +34,90 @@ pub(crate) enum Position {
     Whole,
     /// In a field.
     Within(Stage),
+    /// In bits that are known before they come. Another bit is refused for the reason.
+    Known(Reason, KnownBits),
+}
+
+impl Position {
+    /// The beginning of a field, behind bits with this check number. Bits that are known go into it before they come, and with its own
+    /// bits it is over.
+    fn start(field: Field, check: &mut Check) -> Position
+        requires { IsAsked (check_kept check.old) field }
+        ensures reads { (kind : CommandKind) (behind : List Field) (fields : Fields) (bits rest : List Bool)
+            → IsRegisterOf check.old bits
+            → run (field ∷ behind) kind fields (bits ++ rest) rest
+            ≡ resume kind result behind fields (bits ++ rest) rest }
+        ensures counts { (bits : List Bool) → IsRegisterOf check.old bits
+            → CheckGoesAlong result check.new bits }
+        ensures kept { check_kept check.new ≡ kept_behind (check_kept check.old) field }
+        ensures sound { (fields : Fields) → IsSoundPosition result fields }
+    {
+        match field {
+            Field::Dr => Position::Within(Stage::Bit(BitField::Dr)),
+            Field::M => Position::Within(Stage::Pair(PairField::M, None)),
+            Field::TRext => Position::Within(Stage::Bit(BitField::TRext)),
+            Field::Sel => Position::Within(Stage::Pair(PairField::Sel, None)),
+            Field::Session => Position::Within(Stage::Number(NumberField::Session)),
+            Field::QueryTarget => Position::Within(Stage::Bit(BitField::QueryTarget)),
+            Field::Q => Position::Within(Stage::Number(NumberField::Q)),
+            Field::Crc5 => {
+                let value = check.crc5();
+                *check = Check::Over;
+                Position::Known(Reason::Crc5, KnownBits { behind: 4, value })
+            }
+            Field::UpDn => Position::Within(Stage::Triple(TripleField::UpDn, TripleFront::Nothing)),
+            Field::SelectTarget => Position::Within(Stage::Triple(
+                TripleField::SelectTarget,
+                TripleFront::Nothing,
+            )),
+            Field::Action => Position::Within(Stage::Number(NumberField::Action)),
+            Field::MaskBank => Position::Within(Stage::Pair(PairField::MaskBank, None)),
+            Field::Pointer => Position::Within(Stage::Ebv(EbvFront::new())),
+            Field::Mask => Position::Within(Stage::Number(NumberField::MaskLength)),
+            Field::Truncate => {
+                check.push_number(0, 1);
+                Position::Known(
+                    Reason::Truncate,
+                    KnownBits {
+                        behind: 0,
+                        value: 0,
+                    },
+                )
+            }
+            Field::Bank => Position::Within(Stage::Pair(PairField::Bank, None)),
+            Field::Count => Position::Within(Stage::Number(NumberField::Count)),
+            Field::Words => Position::Within(Stage::Number(NumberField::WordsLength)),
+            Field::WordCount => Position::Within(Stage::Number(NumberField::WordCount)),
+            Field::Covered => Position::Within(Stage::Number(NumberField::Covered)),
+            Field::KillBits => {
+                check.push_number(0, 3);
+                Position::Known(
+                    Reason::KillBits,
+                    KnownBits {
+                        behind: 2,
+                        value: 0,
+                    },
+                )
+            }
+            Field::Payload => Position::Within(Stage::Number(NumberField::Payload)),
+            Field::Rn => Position::Within(Stage::Number(NumberField::Rn)),
+            Field::Crc16 => {
+                let value = check.crc16();
+                *check = Check::Over;
+                Position::Known(Reason::Crc16, KnownBits { behind: 15, value })
+            }
+        }
+    }
+
+    /// How many bits the number has that is read, or 0 where none is.
+    fn number_bits(&self) -> u32
+        ensures { result ≡ bits_of_number self.now }
+    {
+        match self {
+            Position::Within(stage) => stage.number_bits(),
+            Position::Code(_) | Position::Whole | Position::Known(..) => 0,
+        }
+    }
 }
 
 /// What was read of a command, where no bit was refused. It keeps no bits but those of a mask and of
@@ -104,6 +195,7 @@ impl State {
                 self.check.push(bit);
                 true
             }
+            Position::Known(_, wanted) => wanted.take_inside(bit),
             Position::Code(front) => match code_step(*front, bit) {
                 CodeStep::More(more) => {
                     *front = more;
@@ -160,6 +252,13 @@ impl State {
                 }
                 None
             }
+            Position::Known(reason, wanted) => {
+                if bit != wanted.next() {
+                    return Some(reason);
+                }
+                self.begin();
+                None
+            }
             Position::Code(_) => Some(Reason::Code),
             Position::Whole => Some(Reason::Extra),
         }
@@ -196,10 +295,9 @@ impl State {
                 | Stage::Pair(..)
                 | Stage::Triple(..)
                 | Stage::Ebv(_)
-                | Stage::Mask(_)
-                | Stage::Known(..) => unreachable!(),
+                | Stage::Mask(_) => unreachable!(),
             },
-            Position::Code(_) | Position::Whole => unreachable!(),
+            Position::Code(_) | Position::Whole | Position::Known(..) => unreachable!(),
         }
     }
 
@@ -258,9 +356,9 @@ impl State {
             [] => self.position = Position::Whole,
             [field, behind @ ..] => {
                 self.behind = behind;
-                let stage = Stage::start(*field, &self.check);
-                self.check.start(*field);
-                self.stay(stage);
+                let position = Position::start(*field, &mut self.check);
+                self.left = position.number_bits();
+                self.position = position;
             }
         }
     }
@@ -272,7 +370,7 @@ impl State {
     {
         match self.position {
             Position::Whole => Pushed::Whole,
-            Position::Code(_) | Position::Within(_) => Pushed::More,
+            Position::Code(_) | Position::Within(_) | Position::Known(..) => Pushed::More,
         }
     }
 
@@ -300,9 +398,9 @@ impl State {
             Some((place, reason)) => *answer = Err(CommandRefusal::At(place, reason)),
             None => match stopped {
                 Position::Whole => self.fields.answer(self.kind, answer),
-                Position::Code(_) | Position::Within(_) => *answer = Err(CommandRefusal::Short(
-                    pushed,
-                )),
+                Position::Code(_) | Position::Within(_) | Position::Known(..) => {
+                    *answer = Err(CommandRefusal::Short(pushed));
+                }
             },
         }
     }

@@ -1,18 +1,13 @@
 //! The field of a command that is being read.
 ghost use Rattle.std.specs.Prelude.{◌≡◌, ◌+◌, ◌≤◌, ◌∷◌, ◌++◌, List, Bool, IsTrue, IsFalse, length};
-ghost use Rattle.command_grammar.specs.reading.CommandFields.{field_from};
 ghost use Rattle.command_grammar.specs.reading.FieldStages.{width_of, stage_from, next_from};
 ghost use Rattle.command_grammar.specs.reading.FieldRanges.{AreFieldsInRange, IsSoundNext, IsEdge, number_bits};
-ghost use Rattle.command_grammar.specs.reading.CheckNumbers.{IsRegisterOf, IsAsked, check_kept};
 ghost use Rattle.command_grammar.specs.declared.reader.fields.Fields.{Fields};
 ghost use Rattle.command_grammar.specs.declared.reader.field_in_progress.Stage.TheVariants as stages;
 ghost use Rattle.command_grammar.specs.declared.refusal.Reason.{Reason};
 
-use crate::fields::Field;
-use crate::reader::check::Check;
 use crate::reader::field_steps::{take_bit, take_ebv, take_pair, take_second, take_third};
 use crate::reader::fields::Fields;
-use crate::reader::known_bits::{KnownBits, take_known};
 use crate::refusal::Reason;
 use bit_strings::{EbvFront, EbvStep};
 
@@ -104,8 +99,6 @@ pub(crate) enum Stage {
     Ebv(EbvFront),
     /// The bits of a mask: how many come behind the next one.
     Mask(u32),
-    /// Bits that are known: another bit is refused for the reason.
-    Known(Reason, KnownBits),
 }
 
 /// What comes of a bit.
@@ -126,64 +119,12 @@ impl Stage {
     {
         match self {
             Stage::Number(field) => field.width(),
-            Stage::Bit(_)
-            | Stage::Pair(..)
-            | Stage::Triple(..)
-            | Stage::Ebv(_)
-            | Stage::Mask(_)
-            | Stage::Known(..) => 0,
+            Stage::Bit(_) | Stage::Pair(..) | Stage::Triple(..) | Stage::Ebv(_) | Stage::Mask(_) =>
+                0,
         }
     }
 
-    /// The beginning of a field, behind bits with this check number.
-    pub(crate) fn start(field: Field, check: &Check) -> Stage
-        requires { IsAsked (check_kept check.now) field }
-        ensures reads { (bits rest : List Bool) (fields : Fields) → IsRegisterOf check.now bits
-            → stage_from result fields rest ≡ field_from field fields (bits ++ rest) rest }
-        ensures sound { (fields : Fields) → AreFieldsInRange result fields }
-    {
-        match field {
-            Field::Dr => Stage::Bit(BitField::Dr),
-            Field::M => Stage::Pair(PairField::M, None),
-            Field::TRext => Stage::Bit(BitField::TRext),
-            Field::Sel => Stage::Pair(PairField::Sel, None),
-            Field::Session => Stage::Number(NumberField::Session),
-            Field::QueryTarget => Stage::Bit(BitField::QueryTarget),
-            Field::Q => Stage::Number(NumberField::Q),
-            Field::Crc5 => match check {
-                Check::Short(crc) => {
-                    let value = u32::from(crc.value());
-                    Stage::Known(Reason::Crc5, KnownBits { behind: 4, value })
-                }
-                Check::Long(_) | Check::Over => unreachable!(),
-            },
-            Field::UpDn => Stage::Triple(TripleField::UpDn, TripleFront::Nothing),
-            Field::SelectTarget => Stage::Triple(TripleField::SelectTarget, TripleFront::Nothing),
-            Field::Action => Stage::Number(NumberField::Action),
-            Field::MaskBank => Stage::Pair(PairField::MaskBank, None),
-            Field::Pointer => Stage::Ebv(EbvFront::new()),
-            Field::Mask => Stage::Number(NumberField::MaskLength),
-            Field::Truncate => Stage::Known(Reason::Truncate, KnownBits::zeros(1)),
-            Field::Bank => Stage::Pair(PairField::Bank, None),
-            Field::Count => Stage::Number(NumberField::Count),
-            Field::Words => Stage::Number(NumberField::WordsLength),
-            Field::WordCount => Stage::Number(NumberField::WordCount),
-            Field::Covered => Stage::Number(NumberField::Covered),
-            Field::KillBits => Stage::Known(Reason::KillBits, KnownBits::zeros(3)),
-            Field::Payload => Stage::Number(NumberField::Payload),
-            Field::Rn => Stage::Number(NumberField::Rn),
-            Field::Crc16 => match check {
-                Check::Long(crc) => {
-                    let value = u32::from(crc.value());
-                    Stage::Known(Reason::Crc16, KnownBits { behind: 15, value })
-                }
-                Check::Short(_) | Check::Over => unreachable!(),
-            },
-        }
-    }
-
-    /// Takes a bit inside a mask, an extensible bit vector or bits that are known, or the first one of two or three, and gives
-    /// whether it did. The last bit of these isn't taken, nor one that is refused, nor one elsewhere, as in a number.
+    /// Takes a bit inside a mask or an extensible bit vector, or the first one of two or three, and gives whether it did. The last bit of these isn't taken, nor one that is refused, nor one elsewhere, as in a number.
     #[inline(always)]
     pub(crate) fn take_inside(&mut self, bit: bool, fields: &mut Fields) -> bool
         requires sound { AreFieldsInRange self.old fields.old }
@@ -197,7 +138,6 @@ impl Stage {
         ensures fields { IsFalse result → fields.new ≡ fields.old }
     {
         match self {
-            Stage::Known(_, wanted) => wanted.take_inside(bit),
             Stage::Mask(behind) => take_mask_inside(behind, bit, fields),
             Stage::Pair(_, first @ None) => {
                 *first = Some(bit);
@@ -237,7 +177,6 @@ impl Stage {
                 fields.mask.push_reserved(bit);
                 Next::Done
             }
-            Stage::Known(reason, wanted) => take_known(reason, wanted, bit),
         }
     }
 }

@@ -63,16 +63,20 @@ impl Fields {
     }
 
     /// Answers with the command whose fields were all read. Each command is written where the answer stands,
-    /// since a command has room for the longest mask and the longest list of words.
+    /// since a command has room for the longest mask and the longest list of words. Of one that most often stands behind another of its
+    /// kind only the fields are written, since with a command all of its room is.
     pub(crate) fn answer(&mut self, kind: CommandKind, answer: &mut Result<Command, CommandRefusal>)
         ensures { answer.new ≡ Ok (command_of kind self.old) }
     {
         match kind {
-            CommandKind::QueryRep => {
-                *answer = Ok(Command::QueryRep {
-                    session: self.session,
-                });
-            }
+            CommandKind::QueryRep => match answer {
+                Ok(Command::QueryRep { session }) => *session = self.session,
+                _ => {
+                    *answer = Ok(Command::QueryRep {
+                        session: self.session,
+                    });
+                }
+            },
             CommandKind::Ack => {
                 *answer = Ok(Command::Ack { rn: self.rn });
             }
@@ -87,17 +91,13 @@ impl Fields {
                     q: self.q,
                 });
             }
-            CommandKind::QueryAdjust => {
-                *answer = Ok(Command::QueryAdjust {
-                    session: self.session,
-                    updn: self.updn,
-                });
-            }
+            CommandKind::QueryAdjust => self.answer_query_adjust(answer),
             CommandKind::Select => self.answer_select(answer),
             CommandKind::Nak => *answer = Ok(Command::Nak),
-            CommandKind::ReqRn => {
-                *answer = Ok(Command::ReqRn { rn: self.rn });
-            }
+            CommandKind::ReqRn => match answer {
+                Ok(Command::ReqRn { rn }) => *rn = self.rn,
+                _ => *answer = Ok(Command::ReqRn { rn: self.rn }),
+            },
             CommandKind::Read => {
                 *answer = Ok(Command::Read {
                     bank: self.bank,
@@ -144,7 +144,26 @@ impl Fields {
         }
     }
 
-    /// Answers with the Select whose fields were all read, and takes the mask out of them.
+    /// Answers with the QueryAdjust whose fields were all read.
+    fn answer_query_adjust(&self, answer: &mut Result<Command, CommandRefusal>)
+        ensures { answer.new ≡ Ok (command_of kinds.QueryAdjust self.now) }
+    {
+        if let Ok(command) = answer {
+            if let Command::QueryAdjust { session, updn } = command {
+                *session = self.session;
+                *updn = self.updn;
+                return;
+            }
+        }
+        *answer = Ok(Command::QueryAdjust {
+            session: self.session,
+            updn: self.updn,
+        });
+    }
+
+    /// Answers with the Select whose fields were all read, and takes the mask out of them. It stays a function of its own, since
+    /// what it takes out is large, and a function clears the room for its values each time that it begins.
+    #[inline(never)]
     fn answer_select(&mut self, answer: &mut Result<Command, CommandRefusal>)
         ensures { answer.new ≡ Ok (command_of kinds.Select self.old) }
     {
@@ -157,7 +176,9 @@ impl Fields {
         });
     }
 
-    /// Answers with the BlockWrite whose fields were all read, and takes the words out of them.
+    /// Answers with the BlockWrite whose fields were all read, and takes the words out of them. It stays a function of its own, as
+    /// [`answer_select`](Fields::answer_select) does.
+    #[inline(never)]
     fn answer_block_write(&mut self, answer: &mut Result<Command, CommandRefusal>)
         ensures { answer.new ≡ Ok (command_of kinds.BlockWrite self.old) }
     {
