@@ -38,13 +38,14 @@ written_size code trext bits n context before out is =
 
 -- the blocks of the next bits go behind those before
 pub writes_more : (t : Table) (trext : Bool) (bits : List Bool) (n count : ℕ) (context : Context) (before out new : BitString)
-    → HasWritten t trext bits n context before out → n + count ≤ length bits → new ≡ record out { items = out.items ++ blocks t context (take count (drop n bits)) }
+    → HasWritten t trext bits n context before out → n + count ≤ length bits
+    → new.items ≡ out.items ++ blocks t context (take count (drop n bits)) → new.capacity ≡ out.capacity
     → HasWritten t trext bits (n + count) (context_after t context (take count (drop n bits))) before new
-writes_more t trext bits n count context before out new is within put =
+writes_more t trext bits n count context before out new is within items capacity =
     let more = take count (drop n bits) in
     let P : List Bool → Type 0 = λ ls. HasBlocks t trext (context_after t context more) ls (take (n + count) bits) in
     record {
       within = within;
-      has = subst P (sym (ap (λ (s : BitString). s.items) put)) (rw (take_next bits n count) (has_more t trext context out.items (take n bits) more is.has));
-      same = capacity_of new out _ put ∙ is.same;
+      has = subst P (sym items) (rw (take_next bits n count) (has_more t trext context out.items (take n bits) more is.has));
+      same = capacity ∙ is.same;
     }

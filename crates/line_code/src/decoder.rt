@@ -65,7 +65,7 @@ fn read<C: LineCode>(trext: bool, levels: &[bool], out: &mut Bits) -> Result<(),
         mark = C::after(mark, bit);
         behind = &behind[C::CHIPS as usize..];
     }
-    // The levels that are left, one by one: none, or those from the block on that breaks the code.
+    // The levels that are left, one by one: none, or those from the first block on that breaks the code or is not whole.
     let at = levels.len() - behind.len();
     let mut inside = Inside::<C>::between_blocks(mark, at as u32, out.len(), out.last());
     for place in at..levels.len() {
@@ -166,7 +166,7 @@ fn next_bit<C: LineCode>(mark: C::Mark, levels: &[bool]) -> Option<bool>
 }
 
 /// Puts the bits to the end of `out`, one by one, which the compiler does in place.
-fn put_bits(bits: &[bool], out: &mut Bits)
+pub(crate) fn put_bits(bits: &[bool], out: &mut Bits)
     requires { length out.old.items + length bits.now ≤ out.old.capacity }
     ensures items { out.new.items ≡ out.old.items ++ bits.now }
     ensures capacity { out.new.capacity ≡ out.old.capacity }

@@ -4,6 +4,7 @@ ghost use Rattle.bit_strings.specs.NumbersInBits.{value_of};
 ghost use Rattle.line_code.specs.Stream.{IsStream};
 
 use crate::code::LineCode;
+use crate::decoder::put_bits;
 use bit_strings::{Bits, Levels};
 
 /// Writes the stream of the bits (6.3.1.3.2 of the standard) to `out`, which is emptied first: the
@@ -14,26 +15,26 @@ pub fn encode<C: LineCode>(trext: bool, bits: &Bits, out: &mut Levels)
     ensures stream { IsStream C.table trext bits.now.items out.new.items }
     ensures capacity { out.new.capacity ≡ out.old.capacity }
 {
-    // In a list of its own the compiler keeps in registers where the next level goes.
+    out.clear();
+    out.put_all_reserved(C::lead_levels(trext));
+    // In a list of its own, where each level is put singly, the compiler keeps in registers where the next one goes, and writes a block at once.
     let mut levels = out.take();
-    levels.clear();
-    levels.put_all_reserved(C::lead_levels(trext));
     let mut mark = C::after_lead();
     let bits = bits.as_slice();
     let mut next = 0;
     while let Some(four) = bits[next..].first_chunk::<4>() {
         let (blocks, behind) = C::four_blocks(mark, number_of(four));
-        levels.put_all_reserved(blocks);
+        put_bits(blocks, &mut levels);
         mark = behind;
         next += 4;
     }
     while next < bits.len() {
         let bit = bits[next];
-        levels.put_all_reserved(C::block(mark, bit));
+        put_bits(C::block(mark, bit), &mut levels);
         mark = C::after(mark, bit);
         next += 1;
     }
-    levels.put_all_reserved(C::block(mark, true));
+    put_bits(C::block(mark, true), &mut levels);
     *out = levels;
 }
 

@@ -39,8 +39,8 @@ bits_of_number : (number : ℕ) (items : List Bool) → number ≡ value_of item
 bits_of_number number items is size = ap (λ n. field_of n 4) is ∙ ap (field_of (value_of items)) (sym size) ∙ field_of-value_of items
 
 -- four blocks have room
-pub put_all_reserved-requires-in-Some : goal.put_all_reserved-requires-in-Some
-put_all_reserved-requires-in-Some g c =
+pub put_bits-requires : goal.put_bits-requires
+put_bits-requires g c =
     let code : CodeTable = record { table = g.C.LineCode.table; chips = g.C.LineCode.CHIPS; even = g.met.C.LineCode.even; tells = g.met.C.LineCode.tells_bits } in
     let bits = c.as_slice-bits.result.now in
     let n = c.loop-four.next in
@@ -50,7 +50,8 @@ put_all_reserved-requires-in-Some g c =
     let four = field_of c.number_of.result 4 in
     let blocks = ap length c.four_blocks-behind.ensures.levels ∙ length-blocks code.table code.chips code.even four (g.C.LineCode.context_of c.loop-four.mark)
     ∙ ap (λ (n : ℕ). code.chips * n) (length-field_of c.number_of.result 4) in
-    let same = capacity_of c.put_all_reserved.new.self c.clear.new.self _ c.put_all_reserved.ensures ∙ capacity_of c.clear.new.self c.take-levels.result _ c.clear.ensures ∙ ap (λ (s : BitString). s.capacity) c.take-levels.ensures.taken in
+    let same = ap (λ (s : BitString). s.capacity) c.take-levels.ensures.taken ∙ capacity_of c.put_all_reserved.new.self c.clear.new.self _ c.put_all_reserved.ensures
+    ∙ capacity_of c.clear.new.self c.args.out.now _ c.clear.ensures in
     let all = ap (λ (bs : List Bool). code.chips * (length bs + 1)) c.as_slice-bits.ensures.value in
     omega (arith, size, blocks, is.same, same, all, room_for code.chips n 4 (length bits) next.enough, c.requires)
 
@@ -63,20 +64,21 @@ loop-four-preserved g c =
     let context = g.C.LineCode.context_of c.loop-four.mark in
     let chunk = next_four bits c.in-Some.four.now n c.in-Some.ensures.cases.enough c.in-Some.ensures.cases.same in
     let more = bits_of_number c.number_of.result c.in-Some.four.now c.number_of.ensures chunk.size ∙ chunk.items_are in
-    let put = c.put_all_reserved-in-Some.ensures ∙ ap (λ (ls : List Bool). record out { items = out.items ++ ls }) (c.four_blocks-behind.ensures.levels ∙ ap (blocks t context) more) in
+    let put = c.put_bits.ensures.items ∙ ap (λ (ls : List Bool). out.items ++ ls) (c.four_blocks-behind.ensures.levels ∙ ap (blocks t context) more) in
     let mark = c.four_blocks-behind.ensures.mark ∙ ap (context_after t context) more in
-    rw mark (writes_more t c.args.trext bits n 4 context _ out c.put_all_reserved-in-Some.new.self c.loop-four.invariant chunk.enough put)
+    rw mark (writes_more t c.args.trext bits n 4 context _ out c.put_bits.new.out c.loop-four.invariant chunk.enough put c.put_bits.ensures.capacity)
 
 -- a block has room
-pub put_all_reserved-requires-in-loop-next : goal.put_all_reserved-requires-in-loop-next
-put_all_reserved-requires-in-loop-next g c =
+pub put_bits-requires-in-loop-next : goal.put_bits-requires-in-loop-next
+put_bits-requires-in-loop-next g c =
     let code : CodeTable = record { table = g.C.LineCode.table; chips = g.C.LineCode.CHIPS; even = g.met.C.LineCode.even; tells = g.met.C.LineCode.tells_bits } in
     let bits = c.as_slice-bits.result.now in
     let n = c.loop-next.next in
     let is = c.loop-next.invariant in
     let size = written_size code c.args.trext bits n _ _ c.loop-next.levels is in
     let block = ap length c.block.ensures ∙ code.even.blocks_even (g.C.LineCode.context_of c.loop-next.mark) _ in
-    let same = capacity_of c.put_all_reserved.new.self c.clear.new.self _ c.put_all_reserved.ensures ∙ capacity_of c.clear.new.self c.take-levels.result _ c.clear.ensures ∙ ap (λ (s : BitString). s.capacity) c.take-levels.ensures.taken in
+    let same = ap (λ (s : BitString). s.capacity) c.take-levels.ensures.taken ∙ capacity_of c.put_all_reserved.new.self c.clear.new.self _ c.put_all_reserved.ensures
+    ∙ capacity_of c.clear.new.self c.args.out.now _ c.clear.ensures in
     let all = ap (λ (bs : List Bool). code.chips * (length bs + 1)) c.as_slice-bits.ensures.value in
     omega (arith, size, block, is.same, c.loop-four.invariant.same, same, all, room_for code.chips n 1 (length bits) (omega (arith, c.loop-next-test.true)), c.requires)
 
@@ -91,19 +93,20 @@ loop-next-preserved g c =
     let within : n + 1 ≤ length bits = omega (arith, c.loop-next-test.true) in
     let next = next_one bits n within in
     let block_is = one_block t context bit c.block.result.now c.block.ensures ∙ ap (blocks t context) (sym next) in
-    let put = c.put_all_reserved-in-loop-next.ensures ∙ ap (λ (ls : List Bool). record out { items = out.items ++ ls }) block_is in
+    let put = c.put_bits-in-loop-next.ensures.items ∙ ap (λ (ls : List Bool). out.items ++ ls) block_is in
     let mark = c.after-mark.ensures ∙ ap (context_after t context) (sym next) in
-    rw mark (writes_more t c.args.trext bits n 1 context _ out c.put_all_reserved-in-loop-next.new.self c.loop-next.invariant within put)
+    rw mark (writes_more t c.args.trext bits n 1 context _ out c.put_bits-in-loop-next.new.out c.loop-next.invariant within put c.put_bits-in-loop-next.ensures.capacity)
 
-pub put_all_reserved-requires-2 : goal.put_all_reserved-requires-2
-put_all_reserved-requires-2 g c =
+pub put_bits-requires-2 : goal.put_bits-requires-2
+put_bits-requires-2 g c =
     let code : CodeTable = record { table = g.C.LineCode.table; chips = g.C.LineCode.CHIPS; even = g.met.C.LineCode.even; tells = g.met.C.LineCode.tells_bits } in
     let bits = c.as_slice-bits.result.now in
     let n = c.loop-next.next in
     let is = c.loop-next.invariant in
     let size = written_size code c.args.trext bits n _ _ c.loop-next.levels is in
     let block = ap length c.block-2.ensures ∙ code.even.blocks_even (g.C.LineCode.context_of c.loop-next.mark) _ in
-    let same = capacity_of c.put_all_reserved.new.self c.clear.new.self _ c.put_all_reserved.ensures ∙ capacity_of c.clear.new.self c.take-levels.result _ c.clear.ensures ∙ ap (λ (s : BitString). s.capacity) c.take-levels.ensures.taken in
+    let same = ap (λ (s : BitString). s.capacity) c.take-levels.ensures.taken ∙ capacity_of c.put_all_reserved.new.self c.clear.new.self _ c.put_all_reserved.ensures
+    ∙ capacity_of c.clear.new.self c.args.out.now _ c.clear.ensures in
     let all = ap (λ (bs : List Bool). code.chips * (length bs + 1)) c.as_slice-bits.ensures.value in
     omega (arith, size, block, is.same, c.loop-four.invariant.same, same, all, mul-add code.chips (length bits) 1, mul-le-mul_left code.chips is.within, c.requires)
 
@@ -118,5 +121,5 @@ returns-clause-stream g c =
     let dummy : List Bool = true ∷ [] in
     let end = take_all n bits (omega (arith, c.loop-next-test.false)) in
     let whole = has_more t c.args.trext context out.items (take n bits) dummy is.has in
-    let put = ap (λ (s : BitString). s.items) c.put_all_reserved-2.ensures ∙ ap (λ (ls : List Bool). out.items ++ ls) (one_block t context true c.block-2.result.now c.block-2.ensures) in
+    let put = c.put_bits-2.ensures.items ∙ ap (λ (ls : List Bool). out.items ++ ls) (one_block t context true c.block-2.result.now c.block-2.ensures) in
     put ∙ whole.levels_are ∙ ap (λ (bs : List Bool). t.lead c.args.trext ++ blocks t t.start (bs ++ dummy)) (end ∙ c.as_slice-bits.ensures.value)
