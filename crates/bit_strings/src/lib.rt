@@ -24,4 +24,4 @@ pub use ebv_front::{EbvFront, EbvStep};
 pub use laws::{ebv_laws, field_laws};
 pub use list::List;
 pub use numbers_in_bits::{value_of_bits, xor16};
-pub use words::word_of;
+pub use words::{bits_of, word_of};

@@ -57,7 +57,7 @@ fn digits_of(word: u16) -> [u8; 16]
 }
 
 /// The 16 bits of a word.
-pub(crate) fn bits_of(word: u16) -> [bool; 16]
+pub fn bits_of(word: u16) -> [bool; 16]
     ensures { result ≡ field_of word 16 }
 {
     let digits = digits_of(word);

@@ -1,6 +1,6 @@
 //! Symbols that are read four at a time: two levels of each tell what its bit may be, and the bits hold where all the levels are those of their
 //! symbols.
-ghost use Rattle.std.specs.Prelude.{◌≡◌, ◌≤◌, ◌*◌, ◌++◌, length, IfSome};
+ghost use Rattle.std.specs.Prelude.{◌≡◌, ◌<◌, ◌≤◌, ◌*◌, ◌++◌, length, IfSome};
 ghost use Rattle.bit_strings.specs.NumbersInBits.{field_of};
 ghost use Rattle.line_code.specs.Stream.{blocks};
 ghost use Rattle.line_code.specs.States.{context_after};
@@ -8,43 +8,33 @@ ghost use Rattle.miller_line.specs.Miller.{miller, IsOneOfThree};
 ghost use Rattle.miller_line.specs.SymbolContext.{context};
 
 use crate::subcarrier::{SymbolBefore, four_blocks};
+use bit_strings::bits_of;
 use line_code::same_levels;
 
 /// The number that four bits are, if the levels are their symbols: a data-1 inverts the phase in the middle of its symbol.
 fn likely_number(m: usize, levels: &[bool]) -> u16
     requires some { 1 ≤ m }
     requires whole { length levels.now ≡ 8 * m }
+    ensures { result < 16 }
 {
-    u16::from(levels[0] != levels[m]) << 3
-        | u16::from(levels[2 * m] != levels[3 * m]) << 2
-        | u16::from(levels[4 * m] != levels[5 * m]) << 1
-        | u16::from(levels[6 * m] != levels[7 * m])
+    8 * u16::from(levels[0] != levels[m])
+        + 4 * u16::from(levels[2 * m] != levels[3 * m])
+        + 2 * u16::from(levels[4 * m] != levels[5 * m])
+        + u16::from(levels[6 * m] != levels[7 * m])
 }
 
-/// The last four bits of a number.
-#[tactic(auto, unfolding(bit_strings::specs::NumbersInBits::field_of))]
-fn bits_of(number: u16) -> [bool; 4]
-    ensures { result ≡ field_of number 4 }
-{
-    [
-        number / 8 % 2 == 1,
-        number / 4 % 2 == 1,
-        number / 2 % 2 == 1,
-        number % 2 == 1,
-    ]
-}
-
-/// The four bits whose symbols, one behind the other, the levels begin with, what stands before the bit that follows them, and the levels that are
+/// The number of the four bits whose symbols, one behind the other, the levels begin with, what stands before the bit that follows them, and the levels that are
 /// left. It may be none for any levels, which are then taken one by one.
 fn next_four<'a>(
     m: u32,
     before: SymbolBefore,
     levels: &'a [bool],
-) -> Option<([bool; 4], SymbolBefore, &'a [bool])>
+) -> Option<(u16, SymbolBefore, &'a [bool])>
     requires { IsOneOfThree m }
     ensures { IfSome result
-        (λ it. (levels.now ≡ blocks (miller m) (context before) it.0 ++ it.2.now)
-        × (context it.1 ≡ context_after (miller m) (context before) it.0)) }
+        (λ it. (it.0 < 16)
+        × (levels.now ≡ blocks (miller m) (context before) (field_of it.0 4) ++ it.2.now)
+        × (context it.1 ≡ context_after (miller m) (context before) (field_of it.0 4))) }
 {
     let count = (8 * m) as usize;
     if levels.len() < count {
@@ -56,7 +46,7 @@ fn next_four<'a>(
     if !same_levels(front, symbols) {
         return None;
     }
-    Some((bits_of(number), last, rest))
+    Some((number, last, rest))
 }
 
 /// The sixteen bits whose symbols, one behind the other, the levels are, and what stands before the bit that follows them. It may be none for any
@@ -79,7 +69,6 @@ pub fn sixteen_bits(
     if !rest.is_empty() {
         return None;
     }
-    let bits = [first, second, third, fourth];
-    let bits = bits.as_flattened().first_chunk::<16>()?;
-    Some((*bits, last))
+    let number = 4096 * first + 256 * second + 16 * third + fourth;
+    Some((bits_of(number), last))
 }
