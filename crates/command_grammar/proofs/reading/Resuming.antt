@@ -338,18 +338,21 @@ known_counted check bits others bit number same register =
 
 -- ---- what a Framer keeps, with one bit more
 
+stopped_none : (s : State) → s.position ≡ positions.Whole → HasDigits s [] → s.left ≡ 0
+stopped_none s whole digits = omega (arith, digits.wide, ap bits_of_number whole)
+
 -- inside a number no bit was refused
 pub open_none : (s : State) (pushed : ℕ) (refused : Option (ℕ × Reason)) → IsOpen s pushed refused → 2 ≤ s.left → refused ≡ None
 open_none s pushed None is some = refl
-open_none s pushed (Some refusal) is some = absurd (omega (arith, is, some))
+open_none s pushed (Some refusal) is some = absurd (omega (arith, stopped_none s is.0 is.1, some))
 
 pub open_small : (s : State) (pushed : ℕ) (refused : Option (ℕ × Reason)) → IsOpen s pushed refused → 2 ≤ s.left → s.value < 2 ^ 30
 open_small s pushed None is some = small_value s is.2.read is.2.digits
-open_small s pushed (Some refusal) is some = absurd (omega (arith, is, some))
+open_small s pushed (Some refusal) is some = absurd (omega (arith, stopped_none s is.0 is.1, some))
 
 pub open_few : (s : State) (pushed : ℕ) (refused : Option (ℕ × Reason)) → IsOpen s pushed refused → 2 ≤ s.left → pushed ≤ 4162
 open_few s pushed None is some = few_read s pushed is.1 is.2
-open_few s pushed (Some refusal) is some = absurd (omega (arith, is, some))
+open_few s pushed (Some refusal) is some = absurd (omega (arith, stopped_none s is.0 is.1, some))
 
 pub few_open : (s : State) (pushed : ℕ) (refused : Option (ℕ × Reason)) → refused ≡ None → IsOpen s pushed refused → pushed ≤ 4162
 few_open s pushed None none is = few_read s pushed is.1 is.2
@@ -358,14 +361,44 @@ few_open s pushed (Some refusal) none is = absurd cc
 pub open_more : (s more : State) (pushed : ℕ) (refused : Option (ℕ × Reason)) (bit : Bool) → more ≡ record s { left = s.left - 1; value = 2 * s.value + digit_of bit } → 2 ≤ s.left → IsOpen s pushed refused → IsOpen more (pushed + 1) refused
 open_more s more pushed None bit same some is =
     (subst (λ (t : State). IsSoundPosition t.position t.fields) (sym same) is.0, is.1 ++ bit ∷ [], digit_more s more pushed is.1 bit same some is.2)
-open_more s more pushed (Some refusal) bit same some is = absurd (omega (arith, is, some))
+open_more s more pushed (Some refusal) bit same some is = absurd (omega (arith, stopped_none s is.0 is.1, some))
 
 pub keeps_more : (s more : State) (pushed : ℕ) (refused : Option (ℕ × Reason)) (bits : List Bool) (bit : Bool) → more ≡ record s { left = s.left - 1; value = 2 * s.value + digit_of bit } → 2 ≤ s.left → IsOpen s pushed refused → Keeps s pushed refused bits
     → Keeps more (pushed + 1) refused (bits ++ bit ∷ []) × IsShortAt Spellings (bits ++ bit ∷ []) (length (bits ++ bit ∷ []))
 keeps_more s more pushed None bits bit same some is keeps =
     let read = digit_more s more pushed bits bit same some keeps in
     (read, read_short more (pushed + 1) (bits ++ bit ∷ []) (omega (arith, ap (λ (t : State). t.left) same, some)) read)
-keeps_more s more pushed (Some refusal) bits bit same some is keeps = absurd (omega (arith, is, some))
+keeps_more s more pushed (Some refusal) bits bit same some is keeps = absurd (omega (arith, stopped_none s is.0 is.1, some))
+
+-- a bit inside another field, or of the code
+pub open_sound : (s : State) (pushed : ℕ) (refused : Option (ℕ × Reason)) → IsOpen s pushed refused → IsSoundPosition s.position s.fields
+open_sound s pushed None is = is.0
+open_sound s pushed (Some refusal) is = subst (λ (position : Position). IsSoundPosition position s.fields) (sym is.0) tt
+
+pub open_digits : (s : State) (pushed : ℕ) (refused : Option (ℕ × Reason)) → IsOpen s pushed refused → (read : List Bool) × HasDigits s read
+open_digits s pushed None is = (is.2.read, is.2.digits)
+open_digits s pushed (Some refusal) is = ([], is.1)
+
+pub ongoing_none : (s : State) (pushed : ℕ) (refused : Option (ℕ × Reason)) → IsOpen s pushed refused → ¬ (s.position ≡ positions.Whole) → refused ≡ None
+ongoing_none s pushed None is ongoing = refl
+ongoing_none s pushed (Some refusal) is ongoing = absurd (ongoing is.0)
+
+pub inside_stands : (s more : State) (pushed : ℕ) (refused : Option (ℕ × Reason)) (bits : List Bool) (bit : Bool) → refused ≡ None → s.left ≡ 0 → ((front : List Bool) → StateStandsFor s front → StateStandsFor more (front ++ bit ∷ [])) → Keeps s pushed refused bits
+    → StateStandsFor more (bits ++ bit ∷ [])
+inside_stands s more pushed None bits bit going none goes keeps = goes bits (read_none s pushed bits none keeps)
+inside_stands s more pushed (Some refusal) bits bit going none goes keeps = absurd cc
+
+pub inside_keeps : (s more : State) (pushed : ℕ) (refused : Option (ℕ × Reason)) (bits : List Bool) (bit : Bool) → refused ≡ None → s.left ≡ 0 → ((front : List Bool) → StateStandsFor s front → StateStandsFor more (front ++ bit ∷ [])) → HasDigits more [] → Keeps s pushed refused bits
+    → Keeps more (pushed + 1) refused (bits ++ bit ∷ [])
+inside_keeps s more pushed None bits bit going none goes digits keeps =
+    read_all more (pushed + 1) (bits ++ bit ∷ []) digits (goes bits (read_none s pushed bits none keeps)) (omega (arith, keeps.count, length-append bits (bit ∷ [])))
+inside_keeps s more pushed (Some refusal) bits bit going none goes digits keeps = absurd cc
+
+pub inside_open : (s more : State) (pushed : ℕ) (refused : Option (ℕ × Reason)) (bit : Bool) → refused ≡ None → s.left ≡ 0 → ((front : List Bool) → StateStandsFor s front → StateStandsFor more (front ++ bit ∷ [])) → HasDigits more [] → IsSoundPosition more.position more.fields → IsOpen s pushed refused
+    → IsOpen more (pushed + 1) refused
+inside_open s more pushed None bit going none goes digits sound is =
+    (sound, is.1 ++ bit ∷ [], inside_keeps s more pushed None is.1 bit going none goes digits is.2)
+inside_open s more pushed (Some refusal) bit going none goes digits sound is = absurd cc
 
 -- a bit that ends a number or a field, or is refused
 pub edge_stands : (s more : State) (pushed : ℕ) (bits : List Bool) (bit : Bool) → HasRead s pushed bits → ((before read : List Bool) → StateStandsFor s before → HasDigits s read → TakesBit None more (before ++ read) bit) → HasDigits more [] → HasRead more (pushed + 1) (bits ++ bit ∷ [])

@@ -110,7 +110,7 @@ refusal_in pushed.More = None
 refusal_in pushed.Whole = None
 refusal_in (pushed.Bad place reason) = Some (place, reason)
 
--- bits that are not refused are some bits that were read; behind a refusal no number is being read
+-- bits that are not refused are some bits that were read; behind a refusal nothing is read
 abbrev pub IsOpen : State → ℕ → Option (ℕ × Reason) → Type 0
 IsOpen state count None = IsSoundPosition state.position state.fields × (bits : List Bool) × HasRead state count bits
-IsOpen state count (Some refusal) = state.left ≡ 0
+IsOpen state count (Some refusal) = (state.position ≡ positions.Whole) × HasDigits state []

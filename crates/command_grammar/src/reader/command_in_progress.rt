@@ -1,5 +1,5 @@
 //! What was read of a command.
-ghost use Rattle.std.specs.Prelude.{◌≡◌, ◌+◌, ◌-◌, ◌*◌, ◌^◌, ◌<◌, ◌≤◌, ◌++◌, ◌∷◌, [], List, Bool, IsTrue, IsFalse, IsSome, Ok, None};
+ghost use Rattle.std.specs.Prelude.{◌≡◌, ◌≢◌, ◌+◌, ◌-◌, ◌*◌, ◌^◌, ◌<◌, ◌≤◌, ◌++◌, ◌∷◌, [], List, Bool, IsTrue, IsFalse, IsSome, Ok, None};
 ghost use Rattle.bit_strings.specs.NumbersInBits.{digit_of};
 ghost use Rattle.command_grammar.specs.Commands.{Judges, IsFinishAnswer, SpellsCommand, code_of, command_fields_of};
 ghost use Rattle.command_grammar.specs.reading.CommandFields.{run};
@@ -174,7 +174,7 @@ impl State {
         true
     }
 
-    /// Takes a bit inside another field, or of the code, and gives whether it did.
+    /// Takes a bit inside another field or bits that are known, or of the code, and gives whether it did. Behind a command it takes none.
     #[inline(always)]
     pub(crate) fn take_inside(&mut self, bit: bool) -> bool
         requires sound { IsSoundPosition self.old.position self.old.fields }
@@ -182,6 +182,7 @@ impl State {
         ensures stands { IsTrue result → (front : List Bool) → StateStandsFor self.old front
             → StateStandsFor self.new (front ++ bit ∷ []) }
         ensures none { IsTrue result → self.old.left ≡ 0 }
+        ensures ongoing { IsTrue result → self.old.position ≢ positions.Whole }
         ensures digits { IsTrue result → HasDigits self.new [] }
         ensures sound { IsTrue result → IsSoundPosition self.new.position self.new.fields }
         ensures edge { IsFalse result → self.old.left ≡ 0 → IsAtEdge self.old.position bit }
@@ -299,6 +300,16 @@ impl State {
             },
             Position::Code(_) | Position::Whole | Position::Known(..) => unreachable!(),
         }
+    }
+
+    /// Behind a refusal nothing is read, as behind a command.
+    pub(crate) fn stop(&mut self)
+        ensures stopped { self.new.position ≡ positions.Whole }
+        ensures digits { HasDigits self.new [] }
+    {
+        self.position = Position::Whole;
+        self.left = 0;
+        self.value = 0;
     }
 
     /// The number with one bit more behind those read.

@@ -60,18 +60,19 @@ impl Framer {
             self.pushed += 1;
             return Pushed::More;
         }
+        if self.state.take_inside(bit) {
+            self.pushed += 1;
+            return self.state.judge();
+        }
         match self.refused {
             Some((place, reason)) => Pushed::Bad(place, reason),
             None => {
-                if self.state.take_inside(bit) {
-                    self.pushed += 1;
-                    return self.state.judge();
-                }
                 let place = self.pushed;
                 self.pushed += 1;
                 match self.state.take_edge(bit) {
                     None => self.state.judge(),
                     Some(reason) => {
+                        self.state.stop();
                         self.refused = Some((place, reason));
                         Pushed::Bad(place, reason)
                     }
