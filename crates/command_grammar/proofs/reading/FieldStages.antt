@@ -1,5 +1,5 @@
 -- One bit more in a field, and the beginning of each field.
-use Rattle.std.proofs.Common.{◌≡◌, ℕ, suc, ◌+◌, ◌-◌, ◌/◌, ◌%◌, ◌^◌, ◌≤◌, Bool, true, false, List, [], ◌∷◌, ◌++◌, length, Result, Ok, Err, refl, sym, ap, subst, ◌∙◌, append_assoc, append-nil, length-append, arith, cond}
+use Rattle.std.proofs.Common.{◌≡◌, ℕ, ◌+◌, ◌-◌, ◌≤◌, Bool, true, false, List, [], ◌∷◌, ◌++◌, length, Result, Ok, Err, refl, sym, ap, subst, ◌∙◌, append_assoc, append-nil, length-append, arith, cond}
 use Rattle.std.specs.Prelude.{◌==◌}
 use Rattle.std.proofs.lemmas.Bool.Decides.{nat_tests}
 use Rattle.std.proofs.lemmas.List.{take_at}
@@ -10,7 +10,6 @@ use Rattle.command_grammar.specs.declared.reader.fields.Fields.{Fields}
 use Rattle.command_grammar.specs.declared.reader.field_in_progress.NumberField.{NumberField}
 use Rattle.command_grammar.specs.declared.reader.field_in_progress.NumberField.TheVariants as number_fields
 use Rattle.command_grammar.specs.declared.reader.field_in_progress.Stage.TheVariants as stages
-use Rattle.command_grammar.specs.declared.refusal.Reason.{Reason}
 use Rattle.command_grammar.specs.declared.refusal.Reason.TheVariants as reasons
 use Rattle.command_grammar.specs.reading.Readers.{Stop, Bad, Reading, ◌>>=◌, reading_bits, reading_number, exactly_at, count_at, words_at, ebv_at, before, crc5_at, crc16_at}
 use Rattle.command_grammar.specs.reading.KnownBits.{known_from}

@@ -1,6 +1,6 @@
 -- The bits of a number are read one by one, and no others.
-use Rattle.std.proofs.Common.{◌≡◌, ℕ, suc, ◌+◌, ◌-◌, ◌/◌, ◌%◌, ◌^◌, Bool, true, false, List, [], ◌∷◌, ◌++◌, length, Result, Ok, Err, refl, sym, ap, ◌∙◌, arith}
-use Rattle.std.specs.Prelude.{◌==◌, not}
+use Rattle.std.proofs.Common.{◌≡◌, ℕ, suc, ◌+◌, Bool, true, false, List, [], ◌∷◌, length, Ok, Err, refl, sym, ap, ◌∙◌, arith}
+use Rattle.std.specs.Prelude.{not}
 use mathlib.Core.Bool.{beq}
 use Rattle.bit_strings.specs.NumbersInBits.{field_of}
 use Rattle.bit_strings.specs.laws.NumbersInBits.{field_of-more, field_of-none}

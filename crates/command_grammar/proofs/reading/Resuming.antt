@@ -33,8 +33,8 @@ use Rattle.command_grammar.specs.reading.Codes.{behind_code}
 use Rattle.command_grammar.specs.reading.CommandFields.{FieldReader, alone, counted, reader_of, field_then, field_from, command_from, fields_at, command_at, all_of, only_whole, run}
 use Rattle.command_grammar.specs.reading.FieldStages.{width_of, number_then, stage_from}
 use Rattle.command_grammar.specs.reading.KnownBits.{known_bits, next_bit}
-use Rattle.command_grammar.specs.reading.CheckNumbers.{IsRegisterOf, AreServed, check_kept}
-use Rattle.command_grammar.specs.reading.Framing.{resume, IsServed, StateStandsFor, HasDigits, HasRead, IsOpen, IsSoundPosition, Keeps, TakesBit, bits_of_number}
+use Rattle.command_grammar.specs.reading.CheckNumbers.{IsRegisterOf}
+use Rattle.command_grammar.specs.reading.Framing.{resume, StateStandsFor, HasDigits, HasRead, IsOpen, IsSoundPosition, Keeps, TakesBit, bits_of_number}
 use Rattle.command_grammar.proofs.reading.FieldRests.{is_fork, fork-at, number-short, number-whole, mask-short}
 use Rattle.command_grammar.proofs.reading.FieldStages.{few_bits as few_bits_of, some_bits}
 use Rattle.command_grammar.proofs.reading.KnownBits.{reads_more, reads_last, reads_other, known-short}
@@ -276,12 +276,6 @@ no_digits s wide value = record { wide = omega (arith, wide); value = value; not
 pub first_and_behind : (fields : List Field) (default : Field) → 1 ≤ length fields → slice_index_or fields 0 default ∷ take (length fields - 1) (drop 1 fields) ≡ fields
 first_and_behind [] default some = absurd (omega arith)
 first_and_behind (field ∷ behind) default some = ap (λ (others : List Field). field ∷ others) (take_all (length (field ∷ behind) - 1) behind (omega arith))
-
-pub begins_served : (position : Position) (check : Check) (behind : List Field) → AreServed (check_kept check) behind → IsServed position check behind
-begins_served (positions.Code front) check behind served = tt
-begins_served (positions.Within stage) check behind served = served
-begins_served (positions.Known reason number) check behind served = served
-begins_served positions.Whole check behind served = tt
 
 -- ---- what comes of one bit more
 

@@ -1,5 +1,5 @@
 -- Profile: bits of a command that are known before they come, of which some were read.
-use Rattle.std.specs.Prelude.{ℕ, suc, ◌/◌, ◌%◌, ◌^◌, ◌==◌, Bool, List, ◌∷◌, Ok}
+use Rattle.std.specs.Prelude.{suc, ◌/◌, ◌%◌, ◌^◌, ◌==◌, Bool, List, Ok}
 use Rattle.bit_strings.specs.NumbersInBits.{field_of}
 use Rattle.command_grammar.specs.declared.reader.fields.Fields.{Fields}
 use Rattle.command_grammar.specs.declared.reader.known_bits.KnownBits.{KnownBits}

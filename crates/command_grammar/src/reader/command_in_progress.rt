@@ -302,7 +302,9 @@ impl State {
         }
     }
 
-    /// Behind a refusal nothing is read, as behind a command.
+    /// Behind a refusal nothing is read, as behind a command. It stays a function of its own, so that what the compiler makes of each bit is
+    /// short.
+    #[inline(never)]
     pub(crate) fn stop(&mut self)
         ensures stopped { self.new.position ≡ positions.Whole }
         ensures digits { HasDigits self.new [] }

@@ -1,5 +1,5 @@
 //! The field of a command that is being read.
-ghost use Rattle.std.specs.Prelude.{◌≡◌, ◌+◌, ◌≤◌, ◌∷◌, ◌++◌, List, Bool, IsTrue, IsFalse, length};
+ghost use Rattle.std.specs.Prelude.{◌≡◌, ◌+◌, ◌≤◌, ◌∷◌, List, Bool, IsTrue, IsFalse, length};
 ghost use Rattle.command_grammar.specs.reading.FieldStages.{width_of, stage_from, next_from};
 ghost use Rattle.command_grammar.specs.reading.FieldRanges.{AreFieldsInRange, IsSoundNext, IsEdge, number_bits};
 ghost use Rattle.command_grammar.specs.declared.reader.fields.Fields.{Fields};

@@ -1,7 +1,7 @@
 use Rattle.std.proofs.Common.{◌++◌, List, ap, sym, ◌∙◌}
 use Rattle.command_grammar.specs.declared.fields.Field.{Field}
 use Rattle.command_grammar.specs.reading.CommandFields.{run}
-use Rattle.command_grammar.proofs.reading.Resuming.{first_and_behind, begins_served}
+use Rattle.command_grammar.proofs.reading.Resuming.{first_and_behind}
 use Rattle.command_grammar.proofs.reader.command_in_progress.State.begin.Goals as goal
 
 pub returns-in-len1-up-clause-reads : goal.returns-in-len1-up-clause-reads
