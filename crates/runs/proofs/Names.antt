@@ -102,8 +102,7 @@ pub use Rattle.scenario_lines.proofs.TagLaws.{banks-legal}
 pub use Rattle.scenario_lines.specs.TagForm.{IsTag}
 pub use Rattle.scenario_lines.specs.declared.tag.TagSpec.{TagSpec}
 pub use Rattle.scenario_lines.specs.declared.version.Version.{Version}
-pub use Rattle.session_flags.specs.Actions.{side_after}
-pub use Rattle.session_flags.specs.Flags.{flags_after_inversion, is_side, matches, sel_allows, side_of}
+pub use Rattle.session_flags.specs.Flags.{flags_after_inversion, is_side, matches, sel_allows, side_after, side_of}
 pub use Rattle.session_flags.specs.declared.flags.Effect.TheVariants.{Negate}
 pub use Rattle.session_flags.specs.declared.flags.Flags.{Flags}
 pub use Rattle.std.proofs.Common.{Bool, Contains, List, None, Option, Some, [], add-one, ap, append-nil, append_assoc, arith, eq-eqb, false, filter, if◌then◌else◌, inl, inr, length, length-append}

@@ -1,7 +1,5 @@
 -- 6.3.2.11.1.1 Select, the table of the tag's response to Action: one row for each action, from 000 to 111.
-use Rattle.std.specs.Prelude.{ℕ, Bool, true, false, not, List, [], ◌∷◌, if◌then◌else◌, slice_index_or}
-use Rattle.command_fields.specs.declared.choices.Side.{Side}
-use Rattle.command_fields.specs.declared.choices.Side.TheVariants.{A, B}
+use Rattle.std.specs.Prelude.{ℕ, Bool, List, [], ◌∷◌, if◌then◌else◌, slice_index_or}
 use Rattle.session_flags.specs.declared.flags.Effect.{Effect}
 use Rattle.session_flags.specs.declared.flags.Effect.TheVariants.{Keep, Assert, Deassert, Negate}
 
@@ -33,18 +31,3 @@ action_row_of action = slice_index_or action_rows action (action_row Keep Keep)
 -- what an action does at a tag that matches the mask or doesn't
 abbrev pub effect_of : ℕ → Bool → Effect
 effect_of action matching = (if matching then (action_row_of action).matching else (action_row_of action).not_matching)
-
--- what an effect is at an inventoried flag: where SL would be asserted, it becomes A
-abbrev pub side_after : Effect → Side → Side
-side_after Keep side = side
-side_after Assert side = A
-side_after Deassert side = B
-side_after Negate A = B
-side_after Negate B = A
-
--- what an effect is at the selected flag SL: true where it is asserted
-abbrev pub sl_after : Effect → Bool → Bool
-sl_after Keep sl = sl
-sl_after Assert sl = true
-sl_after Deassert sl = false
-sl_after Negate sl = not sl

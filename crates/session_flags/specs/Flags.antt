@@ -9,8 +9,8 @@ use Rattle.command_fields.specs.declared.choices.FlagName.{FlagName}
 use Rattle.command_fields.specs.declared.choices.FlagName.TheVariants.{S0, S1, S2, S3, Sl}
 use Rattle.session_flags.specs.declared.flags.Flags.{Flags}
 use Rattle.session_flags.specs.declared.flags.Effect.{Effect}
-use Rattle.session_flags.specs.declared.flags.Effect.TheVariants.{Negate}
-use Rattle.session_flags.specs.Actions.{effect_of, side_after, sl_after}
+use Rattle.session_flags.specs.declared.flags.Effect.TheVariants.{Keep, Assert, Deassert, Negate}
+use Rattle.session_flags.specs.Actions.{effect_of}
 
 -- the flags of a new tag
 abbrev pub new_flags : Flags
@@ -20,6 +20,21 @@ new_flags = record { s0 = A; s1 = A; s2 = A; s3 = A; sl = false }
 abbrev pub side_of : Flags → ℕ → Side
 side_of flags session =
     (if session == 0 then flags.s0 else (if session == 1 then flags.s1 else (if session == 2 then flags.s2 else flags.s3)))
+
+-- what an effect is at an inventoried flag: where SL would be asserted, it becomes A
+abbrev pub side_after : Effect → Side → Side
+side_after Keep side = side
+side_after Assert side = A
+side_after Deassert side = B
+side_after Negate A = B
+side_after Negate B = A
+
+-- what an effect is at the selected flag SL: true where it is asserted
+abbrev pub sl_after : Effect → Bool → Bool
+sl_after Keep sl = sl
+sl_after Assert sl = true
+sl_after Deassert sl = false
+sl_after Negate sl = not sl
 
 -- one flag changed by an effect, and all others as they were
 abbrev pub flags_after_effect : Flags → FlagName → Effect → Flags

@@ -1,7 +1,7 @@
 //! The inventoried flags of the four sessions and the selected flag.
 ghost use Rattle.std.specs.Prelude.{◌≡◌};
-ghost use Rattle.session_flags.specs.Actions.{effect_of, side_after, sl_after};
-ghost use Rattle.session_flags.specs.Flags.{new_flags, side_of, flags_after_effect, flags_after_select, flags_after_inversion, matches, flags_after_power_loss, flags_after_expiry};
+ghost use Rattle.session_flags.specs.Actions.{effect_of};
+ghost use Rattle.session_flags.specs.Flags.{new_flags, side_of, side_after, sl_after, flags_after_effect, flags_after_select, flags_after_inversion, matches, flags_after_power_loss, flags_after_expiry};
 
 use bit_strings::{Action, Session};
 use command_fields::{FlagName, Sel, Side};

@@ -6,8 +6,7 @@ use Rattle.std.proofs.lemmas.Option.{slice_get-map}
 use Rattle.std.proofs.lemmas.List.Elements.{All-head, All-tail, All-cons, All-nil}
 use Rattle.q_round.specs.SpecValue.{SpecValue}
 use Rattle.session_flags.specs.declared.flags.Flags.{Flags}
-use Rattle.session_flags.specs.Actions.{side_after}
-use Rattle.session_flags.specs.Flags.{side_of}
+use Rattle.session_flags.specs.Flags.{side_of, side_after}
 use Rattle.session_flags.specs.declared.flags.Effect.TheVariants.{Negate}
 use Rattle.tag_machine.specs.TagValue.{TagValue, ReadyState}
 use Rattle.two_portals.specs.Played.{Played, AreReady, IsLeftByRound, IsQuietRound, ListsItsTags, flags_in_round, is_named, pc_and_epc_of}
