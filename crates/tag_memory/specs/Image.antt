@@ -2,13 +2,17 @@
 use Rattle.std.specs.Prelude.{ℕ, ◌+◌, ◌-◌, ◌/◌, ◌%◌, ◌^◌, nat_le, Bool, ◌&&◌, [], ◌∷◌, length, slice_index}
 use Rattle.std.specs.List.{slice_set}
 use Rattle.tag_memory.specs.declared.image.BankImage.{BankImage}
-use Rattle.tag_memory.specs.Memory.{Banks, epc_fits, length_in, with_stored_crc}
+use Rattle.tag_memory.specs.Memory.{Banks, length_in, with_stored_crc}
 
 -- the EPC bank from PC on has 1 to 32 words, TID 2 to 16, and User at most 512
 abbrev pub sizes_fit : BankImage → Bool
 sizes_fit image =
     nat_le 1 (length image.epc) && nat_le (length image.epc) 32 && nat_le 2 (length image.tid) && nat_le (length image.tid) 16
     && nat_le (length image.user) 512
+
+-- the EPC that a PC announces, which stands behind it and StoredCRC, lies inside a bank of so many words
+abbrev pub epc_fits : ℕ → ℕ → Bool
+epc_fits pc count = nat_le (2 + length_in pc) count
 
 -- the EPC that PC announces lies inside the EPC bank, which has StoredCRC besides
 abbrev pub pc_fits : BankImage → Bool

@@ -1,6 +1,6 @@
 -- 6.3.2.1 Tag memory: what a tag's four banks hold. A bank is the list of its words, so that a memory is a finite map
 -- from a bank and a word's number to that word, with the sizes of the banks.
-use Rattle.std.specs.Prelude.{◌≡◌, ℕ, ◌+◌, ◌*◌, ◌/◌, ◌^◌, ◌≤◌, nat_le, Bool, List, ◌∷◌, length, take, drop, slice_index}
+use Rattle.std.specs.Prelude.{◌≡◌, ℕ, ◌+◌, ◌*◌, ◌/◌, ◌^◌, ◌≤◌, List, ◌∷◌, length, take, drop, slice_index}
 use Rattle.bit_strings.specs.NumbersInBits.{value_of}
 use Rattle.bit_strings.specs.Words.{bits_of_words}
 use Rattle.gen2_crc.specs.Crc.{crc16_of}
@@ -53,10 +53,6 @@ pc_of banks = slice_index banks.epc 1
 -- how many words of EPC a PC announces
 abbrev pub length_in : ℕ → ℕ
 length_in pc = pc / 2 ^ 11
-
--- the EPC that a PC announces, which stands behind it and StoredCRC, lies inside a bank of so many words
-abbrev pub epc_fits : ℕ → ℕ → Bool
-epc_fits pc count = nat_le (2 + length_in pc) count
 
 -- the EPC: as many words as PC announces, behind StoredCRC and PC
 abbrev pub epc_of : Banks → List ℕ

@@ -10,7 +10,8 @@ use Rattle.lock_rules.specs.declared.fields_and_levels.ErrorCode.{ErrorCode}
 use Rattle.lock_rules.specs.declared.fields_and_levels.ErrorCode.TheVariants.{Overrun, Locked}
 use Rattle.lock_rules.specs.declared.locks.Locks.{Locks}
 use Rattle.lock_rules.specs.Permissions.{may, Reading, Writing}
-use Rattle.tag_memory.specs.Memory.{Banks, bank_of, with_bank, pc_of, length_in, epc_fits}
+use Rattle.tag_memory.specs.Memory.{Banks, bank_of, with_bank, pc_of, length_in}
+use Rattle.tag_memory.specs.Image.{epc_fits}
 
 -- the field whose pair of lock bits a word goes by
 abbrev pub lock_field_at : Bank → ℕ → Field

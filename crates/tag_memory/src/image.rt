@@ -1,6 +1,8 @@
 //! The memory that a tag is made with.
-ghost use Rattle.std.specs.Prelude.{◌≡◌};
+ghost use Rattle.std.specs.Prelude.{◌≡◌, ◌≤◌, length};
+ghost use Rattle.tag_memory.specs.Image.{sizes_fit, epc_fits, pc_fits};
 
+use crate::memory::length_in_pc;
 use bit_strings::List;
 use std::alloc::AllocError;
 use thiserror::Error;
@@ -42,4 +44,29 @@ impl From<AllocError> for ImageRefusal {
     fn from(_error: AllocError) -> ImageRefusal {
         ImageRefusal::OutOfMemory
     }
+}
+
+/// Whether the banks of an image have the sizes that a tag's banks may have.
+pub(crate) fn has_sizes(image: &BankImage) -> bool
+    ensures { result ≡ sizes_fit image.now }
+{
+    (1..=32).contains(&image.epc.len())
+        && (2..=16).contains(&image.tid.len())
+        && image.user.len() <= 512
+}
+
+/// Whether the EPC that a PC announces lies inside an EPC bank of so many words, of which the first two are StoredCRC and PC.
+pub fn epc_fits(pc: u16, count: usize) -> bool
+    ensures { result ≡ epc_fits pc count }
+{
+    2 + length_in_pc(pc) <= count
+}
+
+/// Whether the EPC that the PC of an image announces lies inside its bank.
+pub(crate) fn has_room_for_epc(image: &BankImage) -> bool
+    requires { 1 ≤ length image.now.epc }
+    ensures { result ≡ pc_fits image.now }
+{
+    let words = image.epc.as_slice();
+    epc_fits(words[0], 1 + words.len())
 }

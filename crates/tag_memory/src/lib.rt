@@ -5,5 +5,5 @@
 mod image;
 mod memory;
 
-pub use image::{BankImage, ImageRefusal};
-pub use memory::{Memory, epc_fits};
+pub use image::{BankImage, ImageRefusal, epc_fits};
+pub use memory::Memory;

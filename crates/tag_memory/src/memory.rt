@@ -4,12 +4,12 @@ ghost use Rattle.bit_strings.specs.NumbersInBits.{value_of};
 ghost use Rattle.bit_strings.specs.Words.{bits_of_words};
 ghost use Rattle.gen2_crc.specs.Crc.{crc16_of};
 ghost use Rattle.reply_grammar.specs.Replies.{AreWords};
-ghost use Rattle.tag_memory.specs.Memory.{IsLegalMemory, AreSound, bank_of, bank_named, pc_of, epc_of, kill_word_of, access_word_of, length_in, epc_fits, with_stored_crc};
+ghost use Rattle.tag_memory.specs.Memory.{IsLegalMemory, AreSound, bank_of, bank_named, pc_of, epc_of, kill_word_of, access_word_of, length_in, with_stored_crc};
 ghost use Rattle.tag_memory.specs.Image.{sizes_fit, pc_fits, image_banks, banks_of, with_last_words};
 
 mod reads_and_writes;
 
-use crate::image::{BankImage, ImageRefusal};
+use crate::image::{BankImage, ImageRefusal, has_room_for_epc, has_sizes};
 use command_fields::{Bank, MaskBank};
 use gen2_crc::Crc16;
 use reply_grammar::EpcWords;
@@ -50,28 +50,12 @@ impl Model for Memory {
         (record { reserved = m.reserved; epc = m.epc.items; tid = m.tid.items; user = m.user.items }) };
 }
 
-/// Whether the banks of an image have the sizes that a tag's banks may have.
-fn has_sizes(image: &BankImage) -> bool
-    ensures { result ≡ sizes_fit image.now }
-{
-    (1..=32).contains(&image.epc.len())
-        && (2..=16).contains(&image.tid.len())
-        && image.user.len() <= 512
-}
-
 /// How many words of EPC a PC announces, in its first five bits (6.3.2.1.2.2 Protocol-control bits).
-fn length_in_pc(pc: u16) -> usize
+pub(crate) fn length_in_pc(pc: u16) -> usize
     ensures value { result ≡ length_in pc }
     ensures few { result ≤ 31 }
 {
     usize::from(pc >> 11)
-}
-
-/// Whether the EPC that a PC announces lies inside an EPC bank of so many words, of which the first two are StoredCRC and PC.
-pub fn epc_fits(pc: u16, count: usize) -> bool
-    ensures { result ≡ epc_fits pc count }
-{
-    2 + length_in_pc(pc) <= count
 }
 
 /// The two words of a password, the upper half first (6.3.2.1.1).
@@ -89,15 +73,6 @@ fn crc16_of_words(words: &[u16]) -> u16
     let mut crc = Crc16::new();
     crc.push_words(words);
     crc.value()
-}
-
-/// Whether the EPC that the PC of an image announces lies inside its bank.
-fn has_room_for_epc(image: &BankImage) -> bool
-    requires { 1 ≤ length image.now.epc }
-    ensures { result ≡ pc_fits image.now }
-{
-    let words = image.epc.as_slice();
-    epc_fits(words[0], 1 + words.len())
 }
 
 /// A bank with these words.

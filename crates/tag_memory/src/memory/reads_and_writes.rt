@@ -1,10 +1,11 @@
 //! What Read, Write, BlockWrite and BlockErase do with the banks (6.3.2.11.3).
-ghost use Rattle.std.specs.Prelude.{◌≡◌, ◌+◌, ◌-◌, ◌<◌, ◌≤◌, ◌↔◌, Ok, Err, IfOk, IfErr, OnOk, OnErr, true, [], ◌∷◌, length, replicate, slice_index};
+ghost use Rattle.std.specs.Prelude.{◌≡◌, ℕ, Bool, ◌+◌, ◌-◌, ◌<◌, ◌≤◌, ◌↔◌, Ok, Err, IfOk, IfErr, OnOk, OnErr, true, [], ◌∷◌, length, replicate, slice_index};
 ghost use Rattle.reply_grammar.specs.Replies.{AreWords};
 ghost use Rattle.tag_memory.specs.Memory.{AreSound, bank_of};
 ghost use Rattle.tag_memory.specs.ReadsAndWrites.{lock_field_at, may_read_word, may_write_word, all_words, open_end, words_read, with_words_at, banks_with_words_at, length_fits, banks_after_write, banks_after_erase};
 
-use super::{Memory, epc_fits, length_in_pc};
+use super::{Memory, length_in_pc};
+use crate::image::epc_fits;
 use bit_strings::{Count1, Pointer};
 use command_fields::{Bank, BlockWords};
 use lock_rules::{ErrorCode, Field, Level, Locks};
@@ -34,12 +35,16 @@ fn field_of_word(bank: Bank, place: usize) -> Field
     }
 }
 
-/// Whether all words of a bank from one place up to another may be read.
-fn may_read_all(bank: Bank, from: usize, end: usize, level: Level, locks: &Locks) -> bool
-    ensures { result ≡ all_words (may_read_word locks.now level bank) from (end - from) }
+/// Whether all words from one place up to another pass a test.
+fn all_words<F: Fn(usize) -> bool>(from: usize, end: usize, passes: F) -> bool
+    requires { F.IsAlwaysCallable passes }
+    ensures { (test : ℕ → Bool)
+        → ((place : ℕ) (passed : Bool) → place < end → F.post passes place passed
+        → passed ≡ test place)
+        → result ≡ all_words test from (end - from) }
 {
     for place in from..end {
-        if !locks.may_read(field_of_word(bank, place), level) {
+        if !passes(place) {
             return false;
         }
     }
@@ -52,18 +57,6 @@ fn may_write(bank: Bank, place: usize, level: Level, locks: &Locks) -> bool
 {
     let is_stored_crc = bank == Bank::Epc && place == 0;
     !is_stored_crc && locks.may_write(field_of_word(bank, place), level)
-}
-
-/// Whether all words of a bank from one place up to another may be written.
-fn may_write_all(bank: Bank, from: usize, end: usize, level: Level, locks: &Locks) -> bool
-    ensures { result ≡ all_words (may_write_word locks.now level bank) from (end - from) }
-{
-    for place in from..end {
-        if !may_write(bank, place, level, locks) {
-            return false;
-        }
-    }
-    true
 }
 
 /// The word at a place after a write.
@@ -128,7 +121,8 @@ impl Memory {
         if end <= from || words.len() < end {
             return Err(ErrorCode::Overrun);
         }
-        if !may_read_all(bank, from, end, level, locks) {
+        let permitted = |place| locks.may_read(field_of_word(bank, place), level);
+        if !all_words(from, end, permitted) {
             return Err(ErrorCode::Locked);
         }
         Ok(&words[from..end])
@@ -210,7 +204,8 @@ impl Memory {
         if self.bank(bank).len() < end || !self.keeps_length_inside(bank, from, words) {
             return Err(ErrorCode::Overrun);
         }
-        if !may_write_all(bank, from, end, level, locks) {
+        let permitted = |place| may_write(bank, place, level, locks);
+        if !all_words(from, end, permitted) {
             return Err(ErrorCode::Locked);
         }
         self.put(bank, from, words);

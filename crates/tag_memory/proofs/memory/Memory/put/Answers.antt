@@ -4,7 +4,12 @@ use Rattle.tag_memory.specs.Memory.{Banks}
 use Rattle.tag_memory.specs.ReadsAndWrites.{with_words_at}
 use Rattle.tag_memory.proofs.memory.Memory.put.Goals as goal
 
--- The search finds each of these three too, in seven seconds.
+-- The search finds each of these four too, in some six seconds.
+pub returns-in-Reserved-clause-value : goal.returns-in-Reserved-clause-value
+returns-in-Reserved-clause-value c =
+    let banks : List ℕ → Banks = λ words. record { reserved = words; epc = c.self.inside.epc.items; tid = c.self.inside.tid.items; user = c.self.inside.user.items } in
+    rw (c.in-Reserved.is, ← c.self.view_is) (ap banks c.replace.ensures.value)
+
 pub returns-in-Epc-clause-value : goal.returns-in-Epc-clause-value
 returns-in-Epc-clause-value c =
     let banks : List ℕ → Banks = λ words. record { reserved = c.self.inside.reserved; epc = words; tid = c.self.inside.tid.items; user = c.self.inside.user.items } in
