@@ -84,5 +84,5 @@ pub use Rattle.tag_machine.specs.Hearing.{tag_value_of}
 pub use Rattle.tag_machine.specs.TagValue.{BodyValue, IsLegalTag, StateValue, TagValue}
 pub use Rattle.tag_machine.specs.TagsInExchange.{AreLegalTags, Replied, outcomes_in, replies_from, replies_in, reply_of, tags_after}
 pub use Rattle.tag_machine.specs.declared.any_tag.AnyTag.{AnyTag}
-pub use Rattle.tag_machine.specs.laws.Replies.{expect_of}
+pub use Rattle.tag_machine.specs.laws.AnswersByCommand.{expect_of}
 pub use Rattle.tag_population.specs.Answers.{AnswerValue, answer_of, answer_value_of, answers_of}

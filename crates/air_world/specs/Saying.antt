@@ -13,7 +13,7 @@ use Rattle.runs.specs.laws.Replies.{AreReplies}
 use Rattle.tag_machine.specs.Answers.{Sent, bits_sent}
 use Rattle.tag_machine.specs.TagsInExchange.{Replied}
 use Rattle.tag_machine.specs.TagValue.{StateValue}
-use Rattle.tag_machine.specs.laws.Replies.{expect_of}
+use Rattle.tag_machine.specs.laws.AnswersByCommand.{expect_of}
 use Rattle.tag_population.specs.Answers.{AnswerValue, answers_of}
 
 -- what was sent answers the command: its bits are the reply that is expected of a tag in some state

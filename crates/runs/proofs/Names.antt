@@ -128,8 +128,8 @@ pub use Rattle.tag_machine.specs.TagsInExchange.{AreLegalTags, Replied, is_misse
 pub use Rattle.tag_machine.specs.TagsInExchange.{tag_after_own_event, tags_after, tags_after_event}
 pub use Rattle.tag_machine.specs.declared.states.Half.{Half}
 pub use Rattle.tag_machine.specs.declared.states.Held.{Held}
+pub use Rattle.tag_machine.specs.laws.AnswersByCommand.{IsAnswerTo, IsDelayedAnswer, IsHandleAnswer, IsHeaderOrError, IsKillAnswer, IsReadAnswer, IsReadReply}
 pub use Rattle.tag_machine.specs.laws.Extended.{has_half}
-pub use Rattle.tag_machine.specs.laws.Replies.{IsAnswerTo, IsDelayedAnswer, IsHandleAnswer, IsHeaderOrError, IsKillAnswer, IsReadAnswer, IsReadReply}
 pub use Rattle.tag_memory.specs.Image.{banks_of, image_banks}
 pub use Rattle.tag_memory.specs.Memory.{AreBanksOfWords, Banks, epc_of, pc_of, stored_crc_of}
 pub use Rattle.two_portals.proofs.Independence.{Laws, new-tags-agree, new-tags-same}

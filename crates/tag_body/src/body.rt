@@ -1,5 +1,5 @@
 //! What a tag holds in every state.
-ghost use Rattle.std.specs.Prelude.{◌≡◌, ◌+◌, ◌^◌, ◌==◌, ◌<◌, if◌then◌else◌, length, IfOk};
+ghost use Rattle.std.specs.Prelude.{◌≡◌, ◌≢◌, ◌+◌, ◌^◌, ◌==◌, ◌<◌, if◌then◌else◌, length, IfOk, IfSome, IfNone};
 ghost use Rattle.session_flags.specs.Flags.{new_flags};
 ghost use Rattle.tag_body.specs.Draws.{draw_of, place_behind, slot_of_draw, body_after_draw};
 ghost use Rattle.tag_body.specs.BodyFlags.{selected_body};
@@ -7,6 +7,7 @@ ghost use Rattle.tag_body.specs.BodyFlags.{selected_body};
 mod access_commands;
 mod flags;
 
+use crate::round_numbers::Slot;
 use bit_strings::{Action, OutOfMemory, Pointer, QValue};
 use command_fields::{FlagName, Mask, MaskBank};
 use lock_rules::Locks;
@@ -92,14 +93,6 @@ impl Body {
         Ok(Body { parts })
     }
 
-    /// The slot that the next draw gives: the last Q bits of its word (6.3.2.4.8 Slot counter).
-    pub fn next_slot(&self, q: QValue) -> u16
-        ensures value { result ≡ slot_of_draw q self.now }
-        ensures range { result < 2 ^ 15 }
-    {
-        self.next_word() % (1 << q.get())
-    }
-
     /// The word that the next draw gives.
     fn next_word(&self) -> u16
         ensures { result ≡ draw_of self.now }
@@ -116,6 +109,22 @@ impl Body {
         let parts = &mut *self.parts;
         parts.next_draw = place_behind(parts.next_draw, parts.words.words().len());
         word
+    }
+
+    /// Draws a slot, the last Q bits of a word (6.3.2.4.8 Slot counter), unless it is 0: then there is none, and no word is drawn.
+    pub fn draw_slot(&mut self, q: QValue) -> Option<Slot>
+        ensures some { IfSome result
+            (λ slot. (slot ≡ slot_of_draw q self.old) × (slot ≢ 0)
+            × (self.new ≡ body_after_draw self.old)) }
+        ensures none { IfNone result
+            ((slot_of_draw q self.old ≡ 0) × (self.new ≡ self.old)) }
+    {
+        let number = self.next_word() % (1 << q.get());
+        if number == 0 {
+            return None;
+        }
+        self.draw();
+        Some(Slot::new(number))
     }
 
     /// Draws these words from now on, the first of them next. There are as many as before.

@@ -6,4 +6,4 @@ mod body;
 mod round_numbers;
 
 pub use body::{Body, Parts};
-pub use round_numbers::{Slot, adjusted};
+pub use round_numbers::{Slot, q_after_adjust};

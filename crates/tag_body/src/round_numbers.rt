@@ -55,7 +55,7 @@ impl Slot {
 }
 
 /// Q after a QueryAdjust: it stays at 15 on up and at 0 on down.
-pub fn adjusted(updn: UpDn, q: QValue) -> QValue
+pub fn q_after_adjust(updn: UpDn, q: QValue) -> QValue
     ensures { result ≡ q_after_adjust updn q }
 {
     let number = q.get();

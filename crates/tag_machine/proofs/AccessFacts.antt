@@ -29,7 +29,7 @@ use Rattle.tag_machine.specs.Draws.{draw_of, body_after_draw, back}
 use Rattle.tag_machine.specs.Access.{held_state, in_access, outcome_where_heeded, unless_ended, first_level, new_held, req_rn, is_password, unless_other_half, uncover, refuse, read_answer, read_outcome, memory_outcome, write_outcome, block_write_outcome, block_erase_outcome, has_user, locks_outcome, lock_outcome, whole_of, keep_half, whole_outcome, half_outcome, password_outcome}
 use Rattle.tag_machine.specs.laws.DrawCounts.{draws_in}
 use Rattle.tag_machine.specs.laws.Extended.{has_half, is_extended}
-use Rattle.tag_machine.specs.laws.Replies.{rn_or_handle_of, IsHandleAnswer, IsReadReply, IsDelayedAnswer, IsHeaderOrError, IsKillAnswer, IsAnswerTo}
+use Rattle.tag_machine.specs.laws.AnswersByCommand.{rn_or_handle_of, IsHandleAnswer, IsReadReply, IsDelayedAnswer, IsHeaderOrError, IsKillAnswer, IsAnswerTo}
 use Rattle.tag_machine.proofs.BodyFacts.{IsLegalAt, same_body, with_memory, with_locks, drawn, word_drawn, sound_of}
 use Rattle.tag_machine.proofs.LegalMemory.{written_sound, erased_sound}
 use Rattle.tag_machine.proofs.OutcomeFacts.{SentFacts, Facts, either, past_half, answering, stays, goes_back}

@@ -11,7 +11,7 @@ use Rattle.reply_grammar.specs.Replies.{AnswersExpected, Carries, Suits}
 use Rattle.tag_machine.specs.TagValue.{StateValue, BodyValue, IsLegalTag}
 use Rattle.tag_machine.specs.Answers.{Sent, IsSent, bits_sent}
 use Rattle.tag_machine.specs.laws.Extended.{has_half}
-use Rattle.tag_machine.specs.laws.Replies.{IsRn16Answer, IsHandleAnswer, IsReadReply, IsReadAnswer, IsHeaderOrError, IsDelayedAnswer, IsKillAnswer, IsAnswerTo, expect_of_read, expect_of_kill, expect_of}
+use Rattle.tag_machine.specs.laws.AnswersByCommand.{IsRn16Answer, IsHandleAnswer, IsReadReply, IsReadAnswer, IsHeaderOrError, IsDelayedAnswer, IsKillAnswer, IsAnswerTo, expect_of_read, expect_of_kill, expect_of}
 use Rattle.tag_machine.specs.Step.{step}
 use Rattle.tag_machine.proofs.ReplyRanges.{sent_answers}
 use Rattle.tag_machine.proofs.StepFacts.{step_facts}

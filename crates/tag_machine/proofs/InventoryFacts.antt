@@ -24,7 +24,7 @@ use Rattle.tag_machine.specs.Answers.{IsSent, silent, plain_answer}
 use Rattle.tag_machine.specs.Draws.{draw_of, body_after_draw, begin_reply, enter, body_after_inversion, close, back}
 use Rattle.tag_machine.specs.Inventory.{unless_half, take_part, query, end_turn, slot_below, count_down, query_rep, q_after_adjust, query_adjust, epc_reply, ack, nak, selected_body, selected_ready, select}
 use Rattle.tag_machine.specs.laws.DrawCounts.{draws_in, draws_to_enter, draws_to_take_part}
-use Rattle.tag_machine.specs.laws.Replies.{rn_or_handle_of, IsEpcAnswer}
+use Rattle.tag_machine.specs.laws.AnswersByCommand.{rn_or_handle_of, IsEpcAnswer}
 use Rattle.tag_machine.proofs.BodyFacts.{IsLegalAt, BodyFacts, same_body, with_flags, inverted, word_drawn, behind_draw}
 use Rattle.tag_machine.proofs.OutcomeFacts.{InRange, Facts, AnswersRn16, either, past_half, silently, answering, stays, goes_back, closes, turn_ends, of_session, begun, entered}
 

@@ -14,7 +14,7 @@ use Rattle.tag_machine.specs.Inventory.{unless_half, end_turn}
 use Rattle.tag_machine.specs.laws.DrawCounts.{draws_in, draws_to_enter}
 use Rattle.tag_machine.specs.laws.Extended.{is_extended}
 use Rattle.tag_machine.specs.laws.Isolation.{IsIsolated}
-use Rattle.tag_machine.specs.laws.Replies.{IsRn16Answer, IsAnswerTo}
+use Rattle.tag_machine.specs.laws.AnswersByCommand.{IsRn16Answer, IsAnswerTo}
 use Rattle.tag_machine.proofs.BodyFacts.{IsLegalAt, BodyFacts, MayInvert, same_body, inverted, drawn}
 
 -- what is sent by a tag in a state is the reply to the command, and legal, with the preamble of that reply; an error leaves what

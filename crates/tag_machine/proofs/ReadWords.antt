@@ -13,7 +13,7 @@ use Rattle.reply_grammar.specs.Replies.{AreWords}
 use Rattle.tag_memory.specs.Memory.{Banks, bank_of}
 use Rattle.tag_memory.specs.ReadsAndWrites.{words_read, read_end, all_words, may_read_word}
 use Rattle.tag_machine.specs.TagValue.{BodyValue, IsLegalBody}
-use Rattle.tag_machine.specs.laws.Replies.{IsReadReply}
+use Rattle.tag_machine.specs.laws.AnswersByCommand.{IsReadReply}
 
 bank_sound : (body : BodyValue) (bank : Bank) → IsLegalBody body → AreWords (bank_of body.memory bank) × (length (bank_of body.memory bank) ≤ 512)
 bank_sound body Reserved legal = (legal.memory_words.reserved, omega (arith, legal.memory.reserved_size))

@@ -13,7 +13,7 @@ use Rattle.reply_grammar.specs.laws.Passing.{answers_pass}
 use Rattle.tag_machine.specs.TagValue.{StateValue, ReadyState, OpenState}
 use Rattle.tag_machine.specs.declared.states.Password.TheVariants as passwords
 use Rattle.tag_machine.specs.laws.Extended.{has_half}
-use Rattle.tag_machine.specs.laws.Replies.{expect_of, expect_of_kill}
+use Rattle.tag_machine.specs.laws.AnswersByCommand.{expect_of, expect_of_kill}
 
 -- whether there are other than 32 bits
 pub record TellsLength (longer : Bool) (bits : List Bool) : Type 0 where

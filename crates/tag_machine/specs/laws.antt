@@ -1,4 +1,4 @@
 pub mod Isolation
 pub mod Extended
-pub mod Replies
+pub mod AnswersByCommand
 pub mod DrawCounts

@@ -71,15 +71,19 @@ impl AnyTag {
             ≡ after_expiry flag (tag_value_of self).state (tag_value_of self).body }
     {
         match self {
-            AnyTag::Ready(Tag { state, body }) => state.tag(body.expired(flag, true, false)),
-            AnyTag::Arbitrate(Tag { state, body }) => state.tag(body.expired(flag, true, true)),
-            AnyTag::InReply(Tag { state, body }) => state.tag(body.expired(flag, true, true)),
-            AnyTag::Acknowledged(Tag { state, body }) => state.tag(body.expired(flag, true, true)),
-            AnyTag::Opened(Tag { state, body }) => state.tag(body.expired(flag, true, true)),
-            AnyTag::Secured(Tag { state, body }) => state.tag(body.expired(flag, true, true)),
+            AnyTag::Ready(Tag { state, body }) => state.tag(body.after_expiry(flag, true, false)),
+            AnyTag::Arbitrate(Tag { state, body }) => state.tag(body.after_expiry(
+                flag, true, true,
+            )),
+            AnyTag::InReply(Tag { state, body }) => state.tag(body.after_expiry(flag, true, true)),
+            AnyTag::Acknowledged(Tag { state, body }) => state.tag(body.after_expiry(
+                flag, true, true,
+            )),
+            AnyTag::Opened(Tag { state, body }) => state.tag(body.after_expiry(flag, true, true)),
+            AnyTag::Secured(Tag { state, body }) => state.tag(body.after_expiry(flag, true, true)),
             AnyTag::Killed(tag) => AnyTag::Killed(tag),
             AnyTag::Unpowered(Tag { state, body }) => {
-                let body = body.expired(flag, false, false);
+                let body = body.after_expiry(flag, false, false);
                 AnyTag::Unpowered(Tag { state, body })
             }
         }

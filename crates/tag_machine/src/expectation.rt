@@ -6,7 +6,7 @@ ghost use Rattle.reply_grammar.specs.Replies.{AnswersExpected};
 ghost use Rattle.tag_machine.specs.TagValue.{StateValue};
 ghost use Rattle.tag_machine.specs.StateNumbers.{numbers_of};
 ghost use Rattle.tag_machine.specs.laws.Extended.{has_half};
-ghost use Rattle.tag_machine.specs.laws.Replies.{expect_of};
+ghost use Rattle.tag_machine.specs.laws.AnswersByCommand.{expect_of};
 
 use crate::state_numbers::StateNumbers;
 use bit_strings::{Bits, Count1};
@@ -76,7 +76,7 @@ pub fn expected_reply_to(bits: &Bits, expect: &Option<Expect>, reply: &mut Reply
 }
 
 /// The reply that bits are, of which it is known that they answer what is expected. Of other bits nothing is known.
-fn decoded(bits: &Bits, expect: &Expect) -> Reply
+fn reply_in(bits: &Bits, expect: &Expect) -> Reply
     ensures { (reply : Reply) → AnswersExpected reply expect.now bits.now.items → result ≡ reply }
 {
     match decode_reply(bits, expect) {
@@ -93,6 +93,6 @@ pub fn reply_to(command: &Command, bits: &Bits) -> Reply
 {
     match expectation_of(command, bits.len() != HANDLE_BITS) {
         None => Reply::Header,
-        Some(expect) => decoded(bits, &expect),
+        Some(expect) => reply_in(bits, &expect),
     }
 }

@@ -8,13 +8,13 @@ ghost use Rattle.tag_machine.specs.Step.{step};
 ghost use Rattle.tag_machine.specs.TagValue.{IsLegalTag};
 
 use crate::any_tag::AnyTag;
+use crate::inventory::q_of_redraw;
 use crate::states::{Arbitrate, Ready};
 use crate::step_counter::Steps;
 use crate::tag::Tag;
 use bit_strings::{QValue, Session};
 use command_grammar::Command;
 use std::sync::ledger::Ledger;
-use tag_body::{Slot, adjusted};
 
 impl Tag<Ready> {
     /// Hears a command that leaves the tag in ready, and answers whether it did: each but a Query that speaks to the tag.
@@ -67,7 +67,10 @@ impl Tag<Arbitrate> {
                 None => false,
             },
             Command::QueryAdjust { session, updn } => {
-                own != *session || self.draw_slot(*session, adjusted(*updn, own_q))
+                match q_of_redraw(own, own_q, *session, *updn) {
+                    Some(q) => self.draw_slot(*session, q),
+                    None => true,
+                }
             }
             Command::Query {
                 sel,
@@ -91,14 +94,13 @@ impl Tag<Arbitrate> {
         ensures left { result ≡ false → self.new ≡ self.old }
         ensures legal { IsLegalTag self.new }
     {
-        let number = self.body.next_slot(q);
-        if number == 0 {
-            return false;
+        match self.body.draw_slot(q) {
+            Some(slot) => {
+                self.state = Arbitrate { session, q, slot };
+                true
+            }
+            None => false,
         }
-        self.body.draw();
-        let slot = Slot::new(number);
-        self.state = Arbitrate { session, q, slot };
-        true
     }
 }
 

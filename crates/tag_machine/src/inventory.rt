@@ -8,3 +8,5 @@ mod query_adjust;
 mod query_rep;
 mod select;
 mod slot_counter;
+
+pub use query_adjust::q_of_redraw;

@@ -15,7 +15,7 @@ ghost use Rattle.tag_machine.specs.laws.DrawCounts.{draws_in};
 ghost use Rattle.tag_machine.specs.Events.{tag_after_event};
 ghost use Rattle.tag_machine.specs.laws.Extended.{is_extended};
 ghost use Rattle.tag_machine.specs.Inventory.{slot_below};
-ghost use Rattle.tag_machine.specs.laws.Replies.{IsAnswerTo, expect_of};
+ghost use Rattle.tag_machine.specs.laws.AnswersByCommand.{IsAnswerTo, expect_of};
 ghost use Rattle.tag_machine.specs.Slots.{session_of, slot_of, is_beyond_arbitrate};
 ghost use Rattle.tag_machine.specs.Step.{step};
 

@@ -15,7 +15,7 @@ use reply_grammar::{encode_handle, encode_header, encode_rn16};
 use tag_body::{Body, Slot};
 
 /// No answer of the tag, which stays as it is: `out` has no bits then.
-pub fn unanswered(tag: AnyTag, out: &mut Bits) -> Heard
+pub fn stay_silent(tag: AnyTag, out: &mut Bits) -> Heard
     ensures { GivesOutcome
         (silent (tag_value_of tag).state (tag_value_of tag).body) result out.old out.new }
 {
@@ -64,7 +64,7 @@ pub fn back(body: Body, session: Session, q: QValue) -> Tag<Arbitrate>
 pub fn go_back(body: Body, session: Session, q: QValue, out: &mut Bits) -> Heard
     ensures { GivesOutcome (back session q body) result out.old out.new }
 {
-    unanswered(AnyTag::Arbitrate(back(body, session, q)), out)
+    stay_silent(AnyTag::Arbitrate(back(body, session, q)), out)
 }
 
 /// Draws an RN16 and answers it.
@@ -84,12 +84,12 @@ pub fn enter(mut body: Body, session: Session, q: QValue, out: &mut Bits) -> Hea
     requires room { reply_room ≤ out.old.capacity }
     ensures { GivesOutcome (enter session q body) result out.old out.new }
 {
-    // The slot is looked at before its word is drawn.
-    let slot = body.next_slot(q);
-    body.draw();
-    if slot == 0 {
-        return begin_reply(body, session, q, out);
+    match body.draw_slot(q) {
+        Some(slot) => stay_silent(Arbitrate { session, q, slot }.tag(body), out),
+        None => {
+            // The word that gives slot 0 is drawn before the RN16.
+            body.draw();
+            begin_reply(body, session, q, out)
+        }
     }
-    let slot = Slot::new(slot);
-    unanswered(Arbitrate { session, q, slot }.tag(body), out)
 }

@@ -9,7 +9,7 @@ use command_fields::FlagName;
 impl Body {
     /// The body of a tag that was inventoried in its own session, and hears a Query of a session: where the
     /// two are one, its flag is inverted.
-    pub fn closed_before(self, own: Session, session: Session) -> Body
+    pub fn after_close(self, own: Session, session: Session) -> Body
         ensures { result ≡ body_after_close own session self }
     {
         if own != session {
@@ -21,7 +21,7 @@ impl Body {
     }
 
     /// The body after the persistence of a flag ended, by whether the tag has power and whether it takes part in a round.
-    pub fn expired(self, flag: FlagName, powered: bool, takes_part: bool) -> Body
+    pub fn after_expiry(self, flag: FlagName, powered: bool, takes_part: bool) -> Body
         ensures { result ≡ body_after_expiry flag powered takes_part self }
     {
         let mut body = self;

@@ -8,7 +8,7 @@ use crate::any_tag::{AnyTag, Heard};
 use crate::states::Secured;
 use crate::step_counter::Steps;
 use crate::tag::Tag;
-use crate::transitions::unanswered;
+use crate::transitions::stay_silent;
 use bit_strings::{Bits, Payload};
 use lock_rules::Level;
 use std::sync::ledger::Ledger;
@@ -21,12 +21,12 @@ impl AnyTag {
             (lock payload rn (tag_value_of self).state (tag_value_of self).body) result out.old
             out.new }
     {
-        let mut tag = match self.heeding(rn, None, out) {
+        let mut tag = match self.heed(rn, None, out) {
             Ok(tag) => tag,
             Err(heard) => return heard,
         };
         match tag.level {
-            Level::Opened => unanswered(tag.tag(), out),
+            Level::Opened => stay_silent(tag.tag(), out),
             Level::Secured => {
                 let change = tag.body.lock(payload);
                 tag.answer_change(change, out)

@@ -27,7 +27,7 @@ impl AnyTag {
             (read bank pointer count rn (tag_value_of self).state (tag_value_of self).body) result
             out.old out.new }
     {
-        match self.heeding(rn, None, out) {
+        match self.heed(rn, None, out) {
             Ok(tag) => {
                 let handle = tag.held.handle;
                 tag.body
@@ -54,7 +54,7 @@ impl AnyTag {
             (write bank pointer covered rn (tag_value_of self).state (tag_value_of self).body)
             result out.old out.new }
     {
-        let tag = match self.heeding(rn, None, out) {
+        let tag = match self.heed(rn, None, out) {
             Ok(tag) => tag,
             Err(heard) => return heard,
         };
@@ -80,7 +80,7 @@ impl AnyTag {
             (block_write bank pointer words.now rn (tag_value_of self).state
             (tag_value_of self).body) result out.old out.new }
     {
-        match self.heeding(rn, None, out) {
+        match self.heed(rn, None, out) {
             Ok(mut tag) => {
                 let change = tag.body.block_write(tag.level, bank, pointer, words);
                 tag.answer_change(change, out)
@@ -103,7 +103,7 @@ impl AnyTag {
             (block_erase bank pointer count rn (tag_value_of self).state (tag_value_of self).body)
             result out.old out.new }
     {
-        match self.heeding(rn, None, out) {
+        match self.heed(rn, None, out) {
             Ok(mut tag) => {
                 let change = tag.body.block_erase(tag.level, bank, pointer, count);
                 tag.answer_change(change, out)

@@ -65,7 +65,7 @@ impl AnyTag {
             (in_access rn (Some password) (password_outcome password covered)
             (tag_value_of self).state (tag_value_of self).body) result out.old out.new }
     {
-        let tag = match self.heeding(rn, Some(password), out) {
+        let tag = match self.heed(rn, Some(password), out) {
             Ok(tag) => tag,
             Err(heard) => return heard,
         };

@@ -10,7 +10,7 @@ use crate::any_tag::{AnyTag, Heard};
 use crate::states::Held;
 use crate::step_counter::Steps;
 use crate::tag::Tag;
-use crate::transitions::{answer_handle, go_back, unanswered};
+use crate::transitions::{answer_handle, go_back, stay_silent};
 use bit_strings::{Bits, QValue, Session};
 use lock_rules::Level;
 use std::sync::ledger::Ledger;
@@ -46,7 +46,7 @@ impl TagWithHandle {
             (req_rn_outcome self.level rn self.held self.body) result out.old out.new }
     {
         if self.held.handle != rn {
-            return unanswered(self.tag(), out);
+            return stay_silent(self.tag(), out);
         }
         let cover = self.body.draw();
         self.held.cover = Some(cover);
@@ -65,7 +65,7 @@ impl AnyTag {
             AnyTag::InReply(Tag { state, body }) => go_back(body, state.session, state.q, out),
             AnyTag::Acknowledged(Tag { state, body }) => {
                 if state.rn != rn {
-                    return unanswered(state.tag(body), out);
+                    return stay_silent(state.tag(body), out);
                 }
                 give_handle(body, state.session, state.q, out)
             }
@@ -79,10 +79,10 @@ impl AnyTag {
                 let level = Level::Secured;
                 TagWithHandle { level, held, body }.req_rn(rn, out)
             }
-            AnyTag::Ready(tag) => unanswered(AnyTag::Ready(tag), out),
-            AnyTag::Arbitrate(tag) => unanswered(AnyTag::Arbitrate(tag), out),
-            AnyTag::Killed(tag) => unanswered(AnyTag::Killed(tag), out),
-            AnyTag::Unpowered(tag) => unanswered(AnyTag::Unpowered(tag), out),
+            AnyTag::Ready(tag) => stay_silent(AnyTag::Ready(tag), out),
+            AnyTag::Arbitrate(tag) => stay_silent(AnyTag::Arbitrate(tag), out),
+            AnyTag::Killed(tag) => stay_silent(AnyTag::Killed(tag), out),
+            AnyTag::Unpowered(tag) => stay_silent(AnyTag::Unpowered(tag), out),
         }
     }
 }

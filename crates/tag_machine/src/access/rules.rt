@@ -14,7 +14,7 @@ use crate::abilities::Present;
 use crate::any_tag::{Answered, AnyTag, Heard};
 use crate::states::{Held, Opened, Password, Secured};
 use crate::tag::Tag;
-use crate::transitions::{answer_header, go_back, unanswered};
+use crate::transitions::{answer_header, go_back, stay_silent};
 use bit_strings::{Bits, xor16};
 use lock_rules::{ErrorCode, Level};
 use reply_grammar::encode_error;
@@ -81,7 +81,7 @@ impl TagWithHandle {
 
     /// The tag where it heeds a command with this number, which brings a half of a password or none; else what comes of the command:
     /// with another number than the handle nothing changes, and a tag whose unfinished Kill or Access ends goes back.
-    fn heeding(
+    fn heed(
         self,
         rn: u16,
         brought: Option<Password>,
@@ -99,7 +99,7 @@ impl TagWithHandle {
         ensures untouched { OnOk result (out.new ≡ out.old) }
     {
         if self.held.handle != rn {
-            return Err(unanswered(self.tag(), out));
+            return Err(stay_silent(self.tag(), out));
         }
         if self.held.ends(brought) {
             return Err(go_back(self.body, self.held.session, self.held.q, out));
@@ -122,7 +122,7 @@ impl TagWithHandle {
         ensures untouched { OnOk result (out.new ≡ out.old) }
     {
         let Some(cover) = self.held.cover else {
-            return Err(unanswered(self.tag(), out));
+            return Err(stay_silent(self.tag(), out));
         };
         self.held.cover = None;
         Ok((self, xor16(covered, cover)))
@@ -132,8 +132,8 @@ impl TagWithHandle {
 impl AnyTag {
     /// The tag where it heeds an access command with this number, which brings a half of a password or none; else what comes of the
     /// command: in reply and acknowledged the tag goes back, in the other states without a handle nothing changes, and in open and
-    /// secured the rules of [`TagWithHandle::heeding`] hold.
-    pub(crate) fn heeding(
+    /// secured the rules of [`TagWithHandle::heed`] hold.
+    pub(crate) fn heed(
         self,
         rn: u16,
         brought: Option<Password>,
@@ -160,17 +160,17 @@ impl AnyTag {
             AnyTag::Opened(Tag { state, body }) => {
                 let held = state.held;
                 let level = Level::Opened;
-                TagWithHandle { level, held, body }.heeding(rn, brought, out)
+                TagWithHandle { level, held, body }.heed(rn, brought, out)
             }
             AnyTag::Secured(Tag { state, body }) => {
                 let held = state.held;
                 let level = Level::Secured;
-                TagWithHandle { level, held, body }.heeding(rn, brought, out)
+                TagWithHandle { level, held, body }.heed(rn, brought, out)
             }
-            AnyTag::Ready(tag) => Err(unanswered(AnyTag::Ready(tag), out)),
-            AnyTag::Arbitrate(tag) => Err(unanswered(AnyTag::Arbitrate(tag), out)),
-            AnyTag::Killed(tag) => Err(unanswered(AnyTag::Killed(tag), out)),
-            AnyTag::Unpowered(tag) => Err(unanswered(AnyTag::Unpowered(tag), out)),
+            AnyTag::Ready(tag) => Err(stay_silent(AnyTag::Ready(tag), out)),
+            AnyTag::Arbitrate(tag) => Err(stay_silent(AnyTag::Arbitrate(tag), out)),
+            AnyTag::Killed(tag) => Err(stay_silent(AnyTag::Killed(tag), out)),
+            AnyTag::Unpowered(tag) => Err(stay_silent(AnyTag::Unpowered(tag), out)),
         }
     }
 }

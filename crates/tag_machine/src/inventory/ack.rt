@@ -10,7 +10,7 @@ use crate::any_tag::{Answered, AnyTag, Heard};
 use crate::states::Acknowledged;
 use crate::step_counter::Steps;
 use crate::tag::Tag;
-use crate::transitions::{go_back, unanswered};
+use crate::transitions::{go_back, stay_silent};
 use bit_strings::Bits;
 use reply_grammar::encode_epc;
 use std::sync::ledger::Ledger;
@@ -63,10 +63,10 @@ impl AnyTag {
                 }
                 answer_epc(state.tag(body), out)
             }
-            AnyTag::Ready(tag) => unanswered(AnyTag::Ready(tag), out),
-            AnyTag::Arbitrate(tag) => unanswered(AnyTag::Arbitrate(tag), out),
-            AnyTag::Killed(tag) => unanswered(AnyTag::Killed(tag), out),
-            AnyTag::Unpowered(tag) => unanswered(AnyTag::Unpowered(tag), out),
+            AnyTag::Ready(tag) => stay_silent(AnyTag::Ready(tag), out),
+            AnyTag::Arbitrate(tag) => stay_silent(AnyTag::Arbitrate(tag), out),
+            AnyTag::Killed(tag) => stay_silent(AnyTag::Killed(tag), out),
+            AnyTag::Unpowered(tag) => stay_silent(AnyTag::Unpowered(tag), out),
         }
     }
 }

@@ -8,7 +8,7 @@ use crate::abilities::InRound;
 use crate::any_tag::{AnyTag, Heard};
 use crate::step_counter::Steps;
 use crate::tag::Tag;
-use crate::transitions::{go_back, unanswered};
+use crate::transitions::{go_back, stay_silent};
 use bit_strings::Bits;
 use std::sync::ledger::Ledger;
 
@@ -27,7 +27,7 @@ impl AnyTag {
             AnyTag::Secured(Tag { state, body }) => {
                 go_back(body, state.held.session, state.held.q, out)
             }
-            other => unanswered(other, out),
+            other => stay_silent(other, out),
         }
     }
 }

@@ -9,7 +9,7 @@ use crate::any_tag::{AnyTag, Heard};
 use crate::states::Ready;
 use crate::step_counter::Steps;
 use crate::tag::Tag;
-use crate::transitions::{enter, unanswered};
+use crate::transitions::{enter, stay_silent};
 use bit_strings::{Bits, Code, QValue, Session};
 use command_grammar::{Sel, Side};
 use std::sync::ledger::Ledger;
@@ -29,7 +29,7 @@ fn take_part(
     ensures { GivesOutcome (take_part sel session target q body) result out.old out.new }
 {
     if !body.parts.flags.matches(sel, session, target) {
-        return unanswered(AnyTag::Ready(Tag { state: Ready, body }), out);
+        return stay_silent(AnyTag::Ready(Tag { state: Ready, body }), out);
     }
     enter(body, session, q, out)
 }
@@ -56,19 +56,19 @@ impl AnyTag {
                 take_part(body, sel, session, target, q, out)
             }
             AnyTag::Acknowledged(Tag { state, body }) => {
-                let body = body.closed_before(state.session, session);
+                let body = body.after_close(state.session, session);
                 take_part(body, sel, session, target, q, out)
             }
             AnyTag::Opened(Tag { state, body }) => {
-                let body = body.closed_before(state.held.session, session);
+                let body = body.after_close(state.held.session, session);
                 take_part(body, sel, session, target, q, out)
             }
             AnyTag::Secured(Tag { state, body }) => {
-                let body = body.closed_before(state.held.session, session);
+                let body = body.after_close(state.held.session, session);
                 take_part(body, sel, session, target, q, out)
             }
-            AnyTag::Killed(tag) => unanswered(AnyTag::Killed(tag), out),
-            AnyTag::Unpowered(tag) => unanswered(AnyTag::Unpowered(tag), out),
+            AnyTag::Killed(tag) => stay_silent(AnyTag::Killed(tag), out),
+            AnyTag::Unpowered(tag) => stay_silent(AnyTag::Unpowered(tag), out),
         }
     }
 }

@@ -1,6 +1,6 @@
 //! QueryAdjust (6.3.2.11.2.2).
-ghost use Rattle.std.specs.Prelude.{◌≡◌, ◌+◌, ◌≤◌};
-ghost use Rattle.tag_machine.specs.Inventory.{query_adjust};
+ghost use Rattle.std.specs.Prelude.{◌≡◌, ◌≢◌, ◌+◌, ◌≤◌, IfSome, IfNone};
+ghost use Rattle.tag_machine.specs.Inventory.{q_after_adjust, query_adjust};
 ghost use Rattle.tag_machine.specs.Hearing.{GivesOutcome, tag_value_of};
 ghost use Rattle.reply_grammar.specs.Replies.{reply_room};
 
@@ -8,11 +8,23 @@ use crate::abilities::{InRound, Present};
 use crate::any_tag::{AnyTag, Heard};
 use crate::step_counter::Steps;
 use crate::tag::Tag;
-use crate::transitions::{enter, unanswered};
-use bit_strings::{Bits, Session};
+use crate::transitions::{enter, stay_silent};
+use bit_strings::{Bits, QValue, Session};
 use command_grammar::UpDn;
 use std::sync::ledger::Ledger;
-use tag_body::adjusted;
+use tag_body::q_after_adjust;
+
+/// The Q with which a tag in arbitrate or reply draws its slot again: it rises or falls by one or stays. None at a QueryAdjust
+/// of another session, which changes nothing.
+pub fn q_of_redraw(own: Session, q: QValue, session: Session, updn: UpDn) -> Option<QValue>
+    ensures redraws { IfSome result (λ new. (own ≡ session) × (new ≡ q_after_adjust updn q)) }
+    ensures stays { IfNone result (own ≢ session) }
+{
+    if own != session {
+        return None;
+    }
+    Some(q_after_adjust(updn, q))
+}
 
 impl AnyTag {
     /// QueryAdjust, in each state.
@@ -24,24 +36,24 @@ impl AnyTag {
     {
         match self {
             AnyTag::Arbitrate(Tag { state, body }) => {
-                if state.session != session {
-                    return unanswered(state.tag(body), out);
+                match q_of_redraw(state.session, state.q, session, updn) {
+                    Some(q) => enter(body, session, q, out),
+                    None => stay_silent(state.tag(body), out),
                 }
-                enter(body, session, adjusted(updn, state.q), out)
             }
             AnyTag::InReply(Tag { state, body }) => {
-                if state.session != session {
-                    return unanswered(state.tag(body), out);
+                match q_of_redraw(state.session, state.q, session, updn) {
+                    Some(q) => enter(body, session, q, out),
+                    None => stay_silent(state.tag(body), out),
                 }
-                enter(body, session, adjusted(updn, state.q), out)
             }
             // The turn of a tag that was inventoried ends as at a QueryRep.
             AnyTag::Acknowledged(tag) => AnyTag::Acknowledged(tag).query_rep(session, out),
             AnyTag::Opened(tag) => AnyTag::Opened(tag).query_rep(session, out),
             AnyTag::Secured(tag) => AnyTag::Secured(tag).query_rep(session, out),
-            AnyTag::Ready(tag) => unanswered(AnyTag::Ready(tag), out),
-            AnyTag::Killed(tag) => unanswered(AnyTag::Killed(tag), out),
-            AnyTag::Unpowered(tag) => unanswered(AnyTag::Unpowered(tag), out),
+            AnyTag::Ready(tag) => stay_silent(AnyTag::Ready(tag), out),
+            AnyTag::Killed(tag) => stay_silent(AnyTag::Killed(tag), out),
+            AnyTag::Unpowered(tag) => stay_silent(AnyTag::Unpowered(tag), out),
         }
     }
 }

@@ -13,7 +13,7 @@ use crate::any_tag::{AnyTag, Heard};
 use crate::states::{Arbitrate, Half, Ready};
 use crate::step_counter::Steps;
 use crate::tag::Tag;
-use crate::transitions::{begin_reply, go_back, unanswered};
+use crate::transitions::{begin_reply, go_back, stay_silent};
 use bit_strings::{Bits, QValue, Session};
 use std::sync::ledger::Ledger;
 use tag_body::{Body, Slot};
@@ -34,7 +34,7 @@ fn end_turn(
         return go_back(body, session, q, out);
     }
     body.parts.flags.invert(session);
-    unanswered(AnyTag::Ready(Tag { state: Ready, body }), out)
+    stay_silent(AnyTag::Ready(Tag { state: Ready, body }), out)
 }
 
 impl Arbitrate {
@@ -71,39 +71,39 @@ impl AnyTag {
             AnyTag::Arbitrate(Tag { state, body }) => {
                 let q = state.q;
                 match state.behind_query_rep(session) {
-                    Some(state) => unanswered(state.tag(body), out),
+                    Some(state) => stay_silent(state.tag(body), out),
                     None => begin_reply(body, session, q, out),
                 }
             }
             AnyTag::InReply(Tag { state, body }) => {
                 if state.session != session {
-                    return unanswered(state.tag(body), out);
+                    return stay_silent(state.tag(body), out);
                 }
                 let q = state.q;
                 let slot = Slot::new(0x7FFF);
-                unanswered(Arbitrate { session, q, slot }.tag(body), out)
+                stay_silent(Arbitrate { session, q, slot }.tag(body), out)
             }
             AnyTag::Acknowledged(Tag { state, body }) => {
                 if state.session != session {
-                    return unanswered(state.tag(body), out);
+                    return stay_silent(state.tag(body), out);
                 }
                 end_turn(body, session, state.q, None, out)
             }
             AnyTag::Opened(Tag { state, body }) => {
                 if state.held.session != session {
-                    return unanswered(state.tag(body), out);
+                    return stay_silent(state.tag(body), out);
                 }
                 end_turn(body, session, state.held.q, state.held.half, out)
             }
             AnyTag::Secured(Tag { state, body }) => {
                 if state.held.session != session {
-                    return unanswered(state.tag(body), out);
+                    return stay_silent(state.tag(body), out);
                 }
                 end_turn(body, session, state.held.q, state.held.half, out)
             }
-            AnyTag::Ready(tag) => unanswered(AnyTag::Ready(tag), out),
-            AnyTag::Killed(tag) => unanswered(AnyTag::Killed(tag), out),
-            AnyTag::Unpowered(tag) => unanswered(AnyTag::Unpowered(tag), out),
+            AnyTag::Ready(tag) => stay_silent(AnyTag::Ready(tag), out),
+            AnyTag::Killed(tag) => stay_silent(AnyTag::Killed(tag), out),
+            AnyTag::Unpowered(tag) => stay_silent(AnyTag::Unpowered(tag), out),
         }
     }
 }

@@ -9,7 +9,7 @@ use crate::any_tag::{AnyTag, Heard};
 use crate::states::Ready;
 use crate::step_counter::Steps;
 use crate::tag::Tag;
-use crate::transitions::{go_back, unanswered};
+use crate::transitions::{go_back, stay_silent};
 use bit_strings::{Action, Bits, Pointer};
 use command_grammar::{FlagName, Mask, MaskBank};
 use std::sync::ledger::Ledger;
@@ -29,7 +29,7 @@ fn select_ready(
         (selected_ready target action bank pointer mask.now body) result out.old out.new }
 {
     body.select(target, action, bank, pointer, mask);
-    unanswered(AnyTag::Ready(Tag { state: Ready, body }), out)
+    stay_silent(AnyTag::Ready(Tag { state: Ready, body }), out)
 }
 
 impl AnyTag {
@@ -62,8 +62,8 @@ impl AnyTag {
                 Some(_) => go_back(body, state.held.session, state.held.q, out),
                 None => select_ready(body, target, action, bank, pointer, mask, out),
             },
-            AnyTag::Killed(tag) => unanswered(AnyTag::Killed(tag), out),
-            AnyTag::Unpowered(tag) => unanswered(AnyTag::Unpowered(tag), out),
+            AnyTag::Killed(tag) => stay_silent(AnyTag::Killed(tag), out),
+            AnyTag::Unpowered(tag) => stay_silent(AnyTag::Unpowered(tag), out),
         }
     }
 }

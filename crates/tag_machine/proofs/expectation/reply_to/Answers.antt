@@ -13,4 +13,4 @@ returns-in-None c = λ state reply answers.
 pub returns-in-Some : goal.returns-in-Some
 returns-in-Some c = λ state reply answers.
     let found = read-by-length c.args.command.now state _ reply c.args.bits.now.items c.expectation_of.result (tested-length _ c.len.result c.len.ensures.count) c.expectation_of.ensures answers in
-    c.decoded.ensures reply (subst (λ (o : Option Expect). IsSomeAnd o (λ it. AnswersExpected reply it c.args.bits.now.items)) c.in-Some.is found)
+    c.reply_in.ensures reply (subst (λ (o : Option Expect). IsSomeAnd o (λ it. AnswersExpected reply it c.args.bits.now.items)) c.in-Some.is found)

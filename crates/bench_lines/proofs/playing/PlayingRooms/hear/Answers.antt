@@ -4,7 +4,7 @@ use Rattle.text_fields.specs.Lines.{line_feed}
 use Rattle.tag_machine.specs.Hearing.{tag_value_of}
 use Rattle.tag_machine.specs.Step.{step}
 use Rattle.tag_machine.specs.TagValue.{TagValue}
-use Rattle.tag_machine.specs.laws.Replies.{expect_of}
+use Rattle.tag_machine.specs.laws.AnswersByCommand.{expect_of}
 use Rattle.bench_lines.specs.ProbeAnswers.{probe_answer_line}
 use Rattle.bench_lines.specs.StateLine.{state_line}
 use Rattle.bench_lines.proofs.HeardAnswers.{answer_heard, two_lines}

@@ -2,7 +2,7 @@ use Rattle.std.proofs.Common.{◌≡◌, ◌≢◌, rules, sym}
 use Rattle.tag_machine.specs.Hearing.{tag_value_of}
 use Rattle.tag_machine.specs.Step.{step}
 use Rattle.tag_machine.specs.declared.any_tag.Answered.TheVariants.{Silent}
-use Rattle.tag_machine.specs.laws.Replies.{expect_of}
+use Rattle.tag_machine.specs.laws.AnswersByCommand.{expect_of}
 use Rattle.log_judge.proofs.HeardAnswers.{has_sent, seen_told, silence_told}
 use Rattle.log_judge.proofs.asking.AskingRooms.hear.Goals as goal
 
