@@ -1,7 +1,7 @@
 -- Tags in their seats: what they are seen as, and how a slot counter is written back.
 use Rattle.std.proofs.Common.{◌≡◌, ℕ, zero, suc, ◌<◌, ◌≤◌, ◌==◌, ◌+◌, List, [], ◌∷◌, ◌++◌, length, map, replicate, Option, Some, None, get_or, set, refl, sym, ap, ◌∙◌, subst, arith, append_assoc, length-append, if◌then◌else◌}
 use Rattle.std.proofs.Math.ListN.{get_or-map}
-use Rattle.std.proofs.lemmas.List.{get_or-set_same, get_or_default, set-get_or, length-set, length-map, length-replicate, map-set, append-nil}
+use Rattle.std.proofs.lemmas.List.{get_or_default, set-get_or, length-set, length-map, length-replicate, map-set, append-nil}
 use Rattle.std.proofs.lemmas.Option.{same_Some}
 use Rattle.air_events.specs.TagNumbers.{most_tags}
 use Rattle.tag_machine.specs.declared.any_tag.AnyTag.{AnyTag}
@@ -10,7 +10,7 @@ use Rattle.tag_machine.specs.TagsInExchange.{AreLegalTags}
 use Rattle.tag_machine.specs.Inventory.{slot_below}
 use Rattle.tag_machine.specs.TagValue.{StateValue, ArbitrateState, BodyValue, TagValue, IsLegalState, IsLegalTag}
 use Rattle.tag_population.proofs.EventsOnTags.{legal-append, legal-set}
-use Rattle.tag_population.specs.Floor.{with_slot, tag_seated, seated_tags, participation_in, participations_of, seats_written_back, steps_back, floor_with, calling, counted_floor, no_tag, FloorValue, AreSeated}
+use Rattle.tag_population.specs.Floor.{with_slot, tag_seated, seated_tags, participation_in, participations_of, steps_back, floor_with, calling, counted_floor, no_tag, FloorValue, AreSeated}
 use Rattle.tag_population.specs.Waiting.{participation_at, waiting_slot, counted_down, AreSlots}
 use Rattle.tag_population.specs.declared.waiting.Participation.{Participation}
 use Rattle.tag_population.specs.declared.waiting.Participation.TheVariants.{Waits, Called}
@@ -189,114 +189,78 @@ floor_long parts items floor are is =
     let long : length floor.tags ≡ length items = rw (← is) (length-tags_of parts items are.whole) in
     (omega (arith, long, are.whole), omega (arith, are.whole, are.few))
 
--- a slot counter was written back
-pub record Back : Type 0 where
+-- one of the seats of a floor
+pub record Chosen : Type 0 where
   pub parts : List (Option Participation)
   pub items : List TagValue
-  pub seated : List TagValue
+  pub floor : FloorValue
   pub number : ℕ
   pub are : AreSeated parts items
+  pub is : floor_of parts items ≡ floor
   pub within : number < length items
-  pub back_is : seated ≡ seats_written_back parts number items
-  pub behind : AreSeated parts seated
 
-abbrev pub written : (parts : List (Option Participation)) (items seated : List TagValue) (number : ℕ) (floor : FloorValue) → AreSeated parts items → floor_of parts items ≡ floor → number < length floor.tags
-    → seated ≡ seats_written_back parts number items → AreSeated parts seated → Back
-written parts items seated number floor are is within back behind = record {
+abbrev pub chosen : (parts : List (Option Participation)) (items : List TagValue) (floor : FloorValue) (number : ℕ) → AreSeated parts items → floor_of parts items ≡ floor → number < length floor.tags → Chosen
+chosen parts items floor number are is within = record {
   parts = parts;
   items = items;
-  seated = seated;
+  floor = floor;
   number = number;
   are = are;
+  is = is;
   within = seats_within parts items floor number are is within;
-  back_is = back;
-  behind = behind;
 }
 
-abbrev written_seat : Back → TagValue
-written_seat b = tag_seated (participation_at b.parts b.number) (get_or b.items b.number no_tag)
-
-pub back_long : (b : Back) → length b.seated ≡ length b.items
-back_long b = ap (λ (l : List TagValue). length l) b.back_is ∙ length-set b.items b.number (written_seat b)
-
--- the seat has what its tag is seen as
-pub back_at : (b : Back) → get_or b.seated b.number no_tag ≡ get_or (seated_tags b.parts b.items) b.number no_tag
-back_at b =
-    ap (λ (l : List TagValue). get_or l b.number no_tag) b.back_is
-    ∙ get_or-set_same b.items b.number (written_seat b) no_tag b.within
+-- what is read there, with the slot counter that is told of it, is the tag of the floor
+pub seat_read : (b : Chosen) (seat : TagValue) → seat ≡ get_or b.items b.number seat → tag_seated (participation_at b.parts b.number) seat ≡ get_or b.floor.tags b.number no_tag
+seat_read b seat read =
+    ap (λ (t : TagValue). tag_seated (participation_at b.parts b.number) t) (read ∙ get_or_default b.items b.number seat no_tag b.within)
     ∙ sym (tag_at b.parts b.items b.number no_tag b.are.whole b.within)
+    ∙ ap (λ (f : FloorValue). get_or f.tags b.number no_tag) b.is
 
--- the tag that is read from the seats then
-pub back_read : (b : Back) (floor : FloorValue) (seat : TagValue) → floor_of b.parts b.items ≡ floor → seat ≡ get_or b.seated b.number seat → seat ≡ get_or floor.tags b.number no_tag
-back_read b floor seat is read =
-    let here : b.number < length b.seated = rw (back_long b) b.within in
-    read
-    ∙ get_or_default b.seated b.number seat no_tag here
-    ∙ back_at b
-    ∙ ap (λ (f : FloorValue). get_or f.tags b.number no_tag) is
-
--- nothing else is changed by it
-pub back_tags : (b : Back) → seated_tags b.parts b.seated ≡ seated_tags b.parts b.items
-back_tags b =
-    ap (λ (l : List TagValue). seated_tags b.parts l) b.back_is
-    ∙ ap (λ (l : List (Option Participation)). seated_tags l (set b.items b.number (written_seat b))) (sym (set-get_or b.parts b.number None))
-    ∙ tags-set b.parts b.items b.number (participation_at b.parts b.number) (written_seat b) b.are.whole
-    ∙ ap (λ (t : TagValue). set (seated_tags b.parts b.items) b.number t)
-    (seated_twice (participation_at b.parts b.number) (get_or b.items b.number no_tag) ∙ sym (tag_at b.parts b.items b.number no_tag b.are.whole b.within))
-    ∙ set-get_or (seated_tags b.parts b.items) b.number no_tag
-
--- ... and then the tag was called
-called_tags : (b : Back) → seated_tags (set b.parts b.number (Some Called)) b.seated ≡ seated_tags b.parts b.items
-called_tags b =
-    ap (λ (l : List TagValue). seated_tags (set b.parts b.number (Some Called)) l) b.back_is
-    ∙ tags-set b.parts b.items b.number (Some Called) (written_seat b) b.are.whole
-    ∙ ap (λ (t : TagValue). set (seated_tags b.parts b.items) b.number t) (sym (tag_at b.parts b.items b.number no_tag b.are.whole b.within))
-    ∙ set-get_or (seated_tags b.parts b.items) b.number no_tag
-
-pub called_is : (b : Back) (after : List (Option Participation)) (floor : FloorValue) → floor_of b.parts b.items ≡ floor → after ≡ set b.parts b.number (Some Called) → floor_of after b.seated ≡ calling floor b.number
-called_is b after floor is put =
-    ap (λ (l : List (Option Participation)). floor_of l b.seated) put
-    ∙ ap (λ (l : List TagValue). let changed : FloorValue = record { tags = l; parts = set b.parts b.number (Some Called) } in changed) (called_tags b)
-    ∙ ap (λ (f : FloorValue). calling f b.number) is
-
-pub called_seated : (b : Back) (after : List (Option Participation)) → AreSlots after → after ≡ set b.parts b.number (Some Called) → AreSeated after b.seated
-called_seated b after slots put = record {
-  few = b.behind.few;
-  whole = ap (λ (l : List (Option Participation)). length l) put ∙ length-set b.parts b.number (Some Called) ∙ b.behind.whole;
-  legal = b.behind.legal;
+-- another tag sits there, and takes part so
+pub seated_put : (b : Chosen) (participation : Option Participation) (after : List (Option Participation)) (new : TagValue) → after ≡ set b.parts b.number participation → AreSlots after → IsLegalTag new
+    → AreSeated after (set b.items b.number new)
+seated_put b participation after new put slots legal = record {
+  few = omega (arith, length-set b.items b.number new, b.are.few);
+  whole = ap (λ (l : List (Option Participation)). length l) put ∙ length-set b.parts b.number participation ∙ b.are.whole ∙ sym (length-set b.items b.number new);
+  legal = legal-set b.items b.number new b.are.legal legal;
   slots = slots;
 }
 
--- ... or it became another, and takes part as its state says
-pub record Becomes (b : Back) : Type 0 where
-  pub new : TagValue
-  pub participation : Option Participation
-  pub after : List (Option Participation)
-  pub takes : participation ≡ participation_in new.state
-  pub put : after ≡ set b.parts b.number participation
-  pub slots : AreSlots after
-  pub legal : IsLegalTag new
+floor_put : (b : Chosen) (participation : Option Participation) (after : List (Option Participation)) (new seen : TagValue) → after ≡ set b.parts b.number participation → tag_seated participation new ≡ seen
+    → floor_of after (set b.items b.number new) ≡ record { tags = set b.floor.tags b.number seen; parts = set b.floor.parts b.number participation }
+floor_put b participation after new seen put as_seen =
+    rw put
+    (ap (λ (l : List TagValue). let changed : FloorValue = record { tags = l; parts = set b.parts b.number participation } in changed)
+    (tags-set b.parts b.items b.number participation new b.are.whole ∙ ap (λ (t : TagValue). set (seated_tags b.parts b.items) b.number t) as_seen)
+    ∙ ap (λ (f : FloorValue). let changed : FloorValue = record { tags = set f.tags b.number seen; parts = set f.parts b.number participation } in changed) b.is)
 
-pub becomes_floor : (b : Back) (n : Becomes b) (floor : FloorValue) → floor_of b.parts b.items ≡ floor → floor_of n.after (set b.seated b.number n.new) ≡ floor_with floor b.number n.new
-becomes_floor b n floor is =
-    let after_is : n.after ≡ set b.parts b.number (participation_in n.new.state) = n.put ∙ ap (λ (p : Option Participation). set b.parts b.number p) n.takes in
-    let tags_are : seated_tags (set b.parts b.number (participation_in n.new.state)) (set b.seated b.number n.new) ≡ set (seated_tags b.parts b.items) b.number n.new =
-    tags-set b.parts b.seated b.number (participation_in n.new.state) n.new b.behind.whole
-    ∙ ap (λ (t : TagValue). set (seated_tags b.parts b.seated) b.number t) (seated_as_is n.new)
-    ∙ ap (λ (l : List TagValue). set l b.number n.new) (back_tags b) in
-    ap (λ (l : List (Option Participation)). floor_of l (set b.seated b.number n.new)) after_is
-    ∙ ap (λ (l : List TagValue). let changed : FloorValue = record { tags = l; parts = set b.parts b.number (participation_in n.new.state) } in changed) tags_are
-    ∙ ap (λ (f : FloorValue). floor_with f b.number n.new) is
+-- ... as its state says
+pub floor_becomes : (b : Chosen) (participation : Option Participation) (after : List (Option Participation)) (new : TagValue) → after ≡ set b.parts b.number participation → participation ≡ participation_in new.state
+    → floor_of after (set b.items b.number new) ≡ floor_with b.floor b.number new
+floor_becomes b participation after new put takes =
+    floor_put b (participation_in new.state) after new new (put ∙ ap (λ (p : Option Participation). set b.parts b.number p) takes) (seated_as_is new)
 
-pub becomes_seated : (b : Back) (n : Becomes b) → AreSeated n.after (set b.seated b.number n.new)
-becomes_seated b n =
-    let long : length (set b.seated b.number n.new) ≡ length b.seated = length-set b.seated b.number n.new in
-    record {
-      few = omega (arith, long, b.behind.few);
-      whole = ap (λ (l : List (Option Participation)). length l) n.put ∙ length-set b.parts b.number n.participation ∙ b.behind.whole ∙ sym long;
-      legal = legal-set b.seated b.number n.new b.behind.legal n.legal;
-      slots = n.slots;
-    }
+-- ... or is called, with its slot counter written back
+pub floor_called : (b : Chosen) (after : List (Option Participation)) (new : TagValue) → after ≡ set b.parts b.number (Some Called) → new ≡ get_or b.floor.tags b.number no_tag
+    → floor_of after (set b.items b.number new) ≡ calling b.floor b.number
+floor_called b after new put back =
+    floor_put b (Some Called) after new new put refl
+    ∙ ap (λ (l : List TagValue). let changed : FloorValue = record { tags = l; parts = set b.floor.parts b.number (Some Called) } in changed)
+    (ap (λ (t : TagValue). set b.floor.tags b.number t) back ∙ set-get_or b.floor.tags b.number no_tag)
+
+-- ... or takes part as before, with its slot counter written back
+pub floor_back : (b : Chosen) (new : TagValue) → new ≡ get_or b.floor.tags b.number no_tag → floor_of b.parts (set b.items b.number new) ≡ b.floor
+floor_back b new back =
+    let own : Option Participation = participation_at b.parts b.number in
+    let kept : tag_seated own (get_or b.items b.number no_tag) ≡ get_or (seated_tags b.parts b.items) b.number no_tag = sym (tag_at b.parts b.items b.number no_tag b.are.whole b.within) in
+    let here : new ≡ tag_seated own (get_or b.items b.number no_tag) = back ∙ ap (λ (f : FloorValue). get_or f.tags b.number no_tag) (sym b.is) ∙ sym kept in
+    let tags_are : seated_tags b.parts (set b.items b.number new) ≡ seated_tags b.parts b.items =
+    ap (λ (l : List (Option Participation)). seated_tags l (set b.items b.number new)) (sym (set-get_or b.parts b.number None))
+    ∙ tags-set b.parts b.items b.number own new b.are.whole
+    ∙ ap (λ (t : TagValue). set (seated_tags b.parts b.items) b.number t) (ap (λ (t : TagValue). tag_seated own t) here ∙ seated_twice own (get_or b.items b.number no_tag) ∙ kept)
+    ∙ set-get_or (seated_tags b.parts b.items) b.number no_tag in
+    ap (λ (l : List TagValue). let changed : FloorValue = record { tags = l; parts = b.parts } in changed) tags_are ∙ b.is
 
 -- slot counters were counted down
 pub counted_tags : (session : ℕ) (parts : List (Option Participation)) (seats : List TagValue) → seated_tags (map (counted_down session) parts) seats ≡ seated_tags (map (counted_down session) parts) (seated_tags parts seats)

@@ -1,14 +1,16 @@
 -- Tags in their seats, and how each takes part: a tag that waits for its slot has the slot counter that is told of it, in place of
 -- the one in its seat.
-use Rattle.std.proofs.Common.{◌≡◌, ℕ, ◌<◌, ◌≤◌, Bool, true, false, List, [], ◌∷◌, length, map, Option, Some, None, get_or}
+use Rattle.std.proofs.Common.{◌≡◌, ℕ, ◌<◌, ◌≤◌, Bool, true, false, List, [], ◌∷◌, length, map, Option, Some, None}
 use Rattle.std.specs.Prelude.{slice_set}
 use Rattle.air_events.specs.TagNumbers.{most_tags}
 use Rattle.std.specs.Option.{is_some}
+use Rattle.command_grammar.specs.declared.commands.Command.{Command}
 use Rattle.lock_rules.specs.Lock.{locks_of}
 use Rattle.tag_machine.specs.declared.any_tag.AnyTag.{AnyTag}
 use Rattle.tag_machine.specs.Events.{new_tag}
 use Rattle.tag_machine.specs.TagsInExchange.{AreLegalTags}
 use Rattle.tag_machine.specs.Hearing.{tag_value_of}
+use Rattle.tag_machine.specs.Step.{step}
 use Rattle.tag_machine.specs.TagValue.{StateValue, ReadyState, ArbitrateState, ReplyState, AcknowledgedState, OpenState, SecuredState, KilledState, UnpoweredState, TagValue}
 use Rattle.tag_population.specs.declared.floor.Reach.{Reach}
 use Rattle.tag_population.specs.declared.floor.Reach.TheVariants.{Every, InRound, CalledOnly}
@@ -87,9 +89,9 @@ calling floor number = record { tags = floor.tags; parts = slice_set floor.parts
 abbrev pub counted_floor : ℕ → FloorValue → FloorValue
 counted_floor session floor = record { tags = seated_tags (map (counted_down session) floor.parts) floor.tags; parts = map (counted_down session) floor.parts }
 
--- seats after the slot counter of a tag was written back into its own
-abbrev pub seats_written_back : List (Option Participation) → ℕ → List TagValue → List TagValue
-seats_written_back parts number seats = slice_set seats number (tag_seated (participation_at parts number) (get_or seats number no_tag))
+-- what comes of a command for a tag doesn't depend on its slot counter
+abbrev pub HeedsNoSlot : Command → TagValue → Type 0
+HeedsNoSlot command tag = (slot : ℕ) → step command (with_slot slot tag.state) tag.body ≡ step command tag.state tag.body
 
 -- how many steps it takes to write the slot counter of a tag back
 abbrev pub steps_back : Option Participation → ℕ

@@ -7,7 +7,7 @@ ghost use Rattle.tag_machine.specs.TagsInExchange.{AreLegalTags, outcome_unless,
 ghost use Rattle.tag_machine.specs.Hearing.{tag_value_of};
 ghost use Rattle.tag_machine.specs.TagValue.{IsLegalTag};
 ghost use Rattle.tag_population.specs.Answers.{answers_of};
-ghost use Rattle.tag_population.specs.Floor.{AreSeated, IsNextReached, floor_with, calling, counted_floor, no_tag, participations_of, seats_written_back, steps_back};
+ghost use Rattle.tag_population.specs.Floor.{AreSeated, IsNextReached, floor_with, calling, counted_floor, no_tag, participations_of, steps_back, tag_seated};
 ghost use Rattle.tag_population.specs.Lent.{KeepsFloor};
 ghost use Rattle.tag_population.specs.Waiting.{IsDue, participation_at, waits_in};
 
@@ -34,7 +34,7 @@ pub(crate) enum Reach {
 }
 
 /// Tags in seats. A tag that waits for its slot isn't counted down one by one: its slot counter is the one that `waiting`
-/// says, and is written back into its seat before anything else is done to it.
+/// says, and is written back into its seat before anything is done to it that may go by it.
 ///
 /// A contract sees the tags, and how each takes part.
 #[derive(Drop)]
@@ -90,8 +90,8 @@ impl Floor {
         ensures legal { IsLegalTag (tag_value_of result.now) }
         ensures counted { steps.new ≤ steps.old + 1 }
     {
-        write_back(&mut self.seats, &self.waiting, number, steps);
         let at = number.index();
+        write_back(&mut self.seats[at], &self.waiting, number, steps);
         self.seats[at].tag()
     }
 
@@ -109,9 +109,9 @@ impl Floor {
             (get_or self.old.tags number no_tag).body) }
         ensures counted { steps.new ≤ steps.old + 1 }
     {
-        write_back(&mut self.seats, &self.waiting, number, steps);
         let at = number.index();
         let seat = &mut self.seats[at];
+        write_back(seat, &self.waiting, number, steps);
         seat.befall(event);
         let participation = seat.participation();
         self.waiting.put(number, participation);
@@ -140,9 +140,9 @@ impl Floor {
         ensures counted { steps.new ≤ steps.old + 1
             + steps_back (participation_at self.old.parts number) }
     {
-        write_back(&mut self.seats, &self.waiting, number, steps);
         let at = number.index();
         let seat = &mut self.seats[at];
+        write_back_for(seat, &self.waiting, number, misses, command, steps);
         seat.hear(number, misses, command, answers, steps);
         let participation = seat.participation();
         self.waiting.put(number, participation);
@@ -155,7 +155,8 @@ impl Floor {
         ensures counted { steps.new ≤ steps.old
             + steps_back (participation_at self.old.parts number) }
     {
-        write_back(&mut self.seats, &self.waiting, number, steps);
+        let at = number.index();
+        write_back(&mut self.seats[at], &self.waiting, number, steps);
         self.waiting.put(number, Some(Participation::Called));
     }
 
@@ -204,18 +205,38 @@ impl Floor {
 
 /// Writes the slot counter of a tag that waits back into its seat.
 fn write_back<L: Ledger>(
-    seats: &mut Vec<Seat>,
+    seat: &mut Seat,
     waiting: &Waiting,
     number: TagNumber,
     steps: &mut Steps<L>,
 )
-    requires number { number < length seats.old.items }
-    requires seated { AreSeated waiting.now seats.old.items }
-    ensures seats { seats.new.items ≡ seats_written_back waiting.now number seats.old.items }
-    ensures seated { AreSeated waiting.now seats.new.items }
+    requires { number < length waiting.now }
+    ensures seat { seat.new ≡ tag_seated (participation_at waiting.now number) seat.old }
+    ensures legal { IsLegalTag seat.new }
     ensures counted { steps.new ≤ steps.old + steps_back (participation_at waiting.now number) }
 {
+    let _legal = seat.tag();
     if let Some(slot) = waiting.slot(number) {
-        seats[number.index()].set_slot(slot, steps);
+        seat.set_slot(slot, steps);
+    }
+}
+
+/// Writes it back where what comes of a command for the tag may go by it.
+fn write_back_for<L: Ledger>(
+    seat: &mut Seat,
+    waiting: &Waiting,
+    number: TagNumber,
+    misses: bool,
+    command: &Command,
+    steps: &mut Steps<L>,
+)
+    requires { number < length waiting.now }
+    ensures outcome { outcome_unless misses command.now seat.new
+        ≡ outcome_unless misses command.now
+        (tag_seated (participation_at waiting.now number) seat.old) }
+    ensures counted { steps.new ≤ steps.old + steps_back (participation_at waiting.now number) }
+{
+    if misses || seat.heeds_slot(command) {
+        write_back(seat, waiting, number, steps);
     }
 }

@@ -1,11 +1,11 @@
 //! One place in a population, which has a tag.
-ghost use Rattle.std.specs.Prelude.{◌≡◌, ◌+◌, ◌<◌, ◌≤◌, ◌++◌, Some, length};
+ghost use Rattle.std.specs.Prelude.{◌≡◌, ◌+◌, ◌<◌, ◌≤◌, ◌++◌, false, Some, length};
 ghost use Rattle.tag_machine.specs.Events.{tag_after_event};
 ghost use Rattle.tag_machine.specs.TagsInExchange.{outcome_unless, reply_of};
 ghost use Rattle.tag_machine.specs.Hearing.{tag_value_of, typed_name_of};
 ghost use Rattle.tag_machine.specs.TagValue.{IsLegalTag};
 ghost use Rattle.tag_population.specs.Answers.{answers_of};
-ghost use Rattle.tag_population.specs.Floor.{participation_in, with_slot};
+ghost use Rattle.tag_population.specs.Floor.{HeedsNoSlot, participation_in, with_slot};
 ghost use Rattle.tag_population.specs.Waiting.{IsLegalParticipation};
 
 use crate::answers::Answers;
@@ -14,7 +14,7 @@ use air_events::TagNumber;
 use command_grammar::Command;
 use std::marker::Model;
 use std::sync::ledger::Ledger;
-use tag_machine::{AnyTag, Event, StateName, StateNumbers, Steps};
+use tag_machine::{AnyTag, Event, StateName, Steps};
 
 /// A seat of a population. It has a tag at all times, but while that tag hears or an event befalls it.
 ///
@@ -61,12 +61,26 @@ impl Seat {
         ensures value { result ≡ participation_in self.now.state }
         ensures legal { IsLegalParticipation result }
     {
-        match self.tag().numbers() {
-            StateNumbers::Waiting { session, slot, .. } => {
-                Some(Participation::Waits(session.get(), slot))
+        match self.tag() {
+            AnyTag::Arbitrate(tag) => {
+                Some(Participation::Waits(tag.session().get(), tag.slot()))
             }
-            StateNumbers::Replied { .. } | StateNumbers::Held(_) => Some(Participation::Called),
-            StateNumbers::None => None,
+            tag => match tag.state() {
+                StateName::Ready | StateName::Killed | StateName::Unpowered => None,
+                _ => Some(Participation::Called),
+            },
+        }
+    }
+
+    /// Whether what becomes of the tag at a command may depend on its slot counter.
+    pub(crate) fn heeds_slot(&self, command: &Command) -> bool
+        ensures { result ≡ false → HeedsNoSlot command.now self.now }
+    {
+        match (self.tag(), command) {
+            (AnyTag::Arbitrate(tag), Command::QueryAdjust { session, .. }) => {
+                tag.session() != *session
+            }
+            _ => true,
         }
     }
 
