@@ -1,12 +1,12 @@
 -- The links of tags that stand on places, where one is put on a place or taken from it.
-use Rattle.std.proofs.Common.{◌≡◌, ◌≢◌, ℕ, zero, suc, ◌+◌, ◌<◌, ◌≤◌, ◌==◌, ◌⊎◌, inl, inr, List, length, Option, Some, None, get_or, set, replicate, refl, sym, ap, ◌∙◌, subst, arith, if◌then◌else◌, is_some, true, false}
-use Rattle.std.proofs.lemmas.Bool.{cases_lt}
+use Rattle.std.proofs.Common.{◌≡◌, ◌≢◌, ℕ, zero, suc, ◌+◌, ◌<◌, ◌≤◌, ◌==◌, ◌⊎◌, inl, inr, List, ◌∷◌, length, map, Option, Some, None, get_or, set, replicate, refl, sym, ap, ◌∙◌, subst, arith, if◌then◌else◌}
+use Rattle.std.proofs.lemmas.Bool.{cases_lt, ne_eqb}
 use Rattle.std.proofs.lemmas.Bool.Decides.{eqb_tells}
-use Rattle.std.proofs.lemmas.List.{get_or-set_same, get_or-set_other, get_or_past, get_or_default, get_or-replicate, length-replicate, length-set, set-get_or, set-set}
+use Rattle.std.proofs.lemmas.List.{get_or-set_same, get_or-set_other, get_or_past, get_or-map, get_or-replicate, length-map, map-set, length-replicate, length-set, set-get_or}
 use Rattle.std.proofs.lemmas.Option.{same_Some}
 use Rattle.std.proofs.lemmas.Grind.{get_or_default_zero}
 use Rattle.air_events.specs.TagNumbers.{most_tags}
-use Rattle.tag_population.specs.Wheel.{most_places, wheel_place_of, IsTagOn, IsLinkOf, IsLinked}
+use Rattle.tag_population.specs.Wheel.{most_places, place_kept, wheel_place_of, IsTagOn, IsLinkOf, IsLinked}
 
 pub none_some : (place : ℕ) → None ≡ Some place → ⊥
 none_some place e = cc
@@ -492,73 +492,82 @@ put_there w p =
 
 -- what the calls of a wheel go by
 
--- a place that is read
-pub place_read : (places : List (Option ℕ)) (number : ℕ) (stands : Option ℕ) → number < length places → stands ≡ get_or places number stands → stands ≡ wheel_place_of places number
-place_read places number stands within is = is ∙ get_or_default places number stands None within
+-- no place is kept for any tag
+pub nowhere_kept : (count : ℕ) → map place_kept (replicate count most_places) ≡ replicate count None
+nowhere_kept zero = refl
+nowhere_kept (suc count) = ap (λ (l : List (Option ℕ)). None ∷ l) (nowhere_kept count)
 
-pub place_inside : (w : Linking) (number place : ℕ) (stands : Option ℕ) → number < length w.places
-    → stands ≡ get_or w.places number stands → stands ≡ Some place → place < most_places
-place_inside w number place stands within is some = w.linked.inside number place (sym (place_read w.places number stands within is) ∙ some)
+-- a place that is kept as a number
+pub kept_some : (place : ℕ) → place ≢ most_places → place_kept place ≡ Some place
+kept_some place apart = rw (ne_eqb place most_places apart) refl
 
--- a tag that stands somewhere has a place
-has_place : (stands : Option ℕ) → is_some stands ≡ true → (place : ℕ) × (stands ≡ Some place)
-has_place None some = absurd cc
-has_place (Some place) some = (place, refl)
+pub kept_within : (kept : List ℕ) (now : List (Option ℕ)) (number at : ℕ) → map place_kept kept ≡ now → at ≡ number → number < length now → at < length kept
+kept_within kept now number at same here within = rw (← length-map kept place_kept, same, here) within
 
-has_none : (stands : Option ℕ) → is_some stands ≡ false → stands ≡ None
-has_none None none = refl
-has_none (Some place) none = absurd cc
+-- ... and is read
+pub kept_at : (kept : List ℕ) (at place : ℕ) → at < length kept → place ≡ get_or kept at place → wheel_place_of (map place_kept kept) at ≡ place_kept place
+kept_at kept at place within is = get_or-map place_kept kept at place None within ∙ ap (λ n. place_kept n) (sym is)
+
+-- ... and is replaced
+pub kept_set : (kept : List ℕ) (now : List (Option ℕ)) (number at place : ℕ) (stand : Option ℕ) → map place_kept kept ≡ now → at ≡ number → place_kept place ≡ stand
+    → map place_kept (set kept at place) ≡ set now number stand
+kept_set kept now number at place stand same here is = map-set place_kept kept at place ∙ rw (same, here, is) refl
 
 -- what is read where a tag that stands on a place is taken from it
-pub record TakenRead (w : Linking) : Type 0 where
+pub record TakenRead : Type 0 where
+  pub kept : List ℕ
+  pub links : List ℕ
+  pub backs : List ℕ
+  pub linked : IsLinked (map place_kept kept) links backs
   pub number : ℕ
+  pub place : ℕ
   pub next : ℕ
   pub back : ℕ
-  pub within : number < length w.places
-  pub some : is_some (wheel_place_of w.places number) ≡ true
-  pub next_is : next ≡ get_or w.links (most_places + number) next
-  pub back_is : back ≡ get_or w.backs number back
+  pub within : number < length kept
+  pub place_is : place ≡ get_or kept number place
+  pub apart : place ≢ most_places
+  pub next_is : next ≡ get_or links (most_places + number) next
+  pub back_is : back ≡ get_or backs number back
 
-abbrev taking : (w : Linking) (r : TakenRead w) → Taking w
-taking w r =
-    let there = has_place (wheel_place_of w.places r.number) r.some in
-    let linked = w.linked in
+abbrev linking : TakenRead → Linking
+linking r = record { places = map place_kept r.kept; links = r.links; backs = r.backs; linked = r.linked }
+
+abbrev taking : (r : TakenRead) → Taking (linking r)
+taking r =
+    let inside : r.number < length (map place_kept r.kept) = rw (length-map r.kept place_kept) r.within in
     record {
       number = r.number;
-      place = there.0;
+      place = r.place;
       next = r.next;
       back = r.back;
-      stands = there.1;
-      next_is = sym (r.next_is ∙ get_or_default_zero w.links (most_places + r.number) r.next (omega (arith, linked.size, linked.few, r.within)));
-      back_is = sym (r.back_is ∙ get_or_default_zero w.backs r.number r.back (omega (arith, linked.backs_size, linked.few, r.within)));
+      stands = kept_at r.kept r.number r.place r.within r.place_is ∙ kept_some r.place r.apart;
+      next_is = sym (r.next_is ∙ get_or_default_zero r.links (most_places + r.number) r.next (omega (arith, r.linked.size, r.linked.few, inside)));
+      back_is = sym (r.back_is ∙ get_or_default_zero r.backs r.number r.back (omega (arith, r.linked.backs_size, r.linked.few, inside)));
     }
 
-pub take_linked : (w : Linking) (r : TakenRead w) → IsLinked (set w.places r.number None) (set w.links r.back r.next) (set w.backs r.next r.back)
-take_linked w r = taken w (taking w r)
+pub take_linked : (r : TakenRead) → IsLinked (map place_kept (set r.kept r.number most_places)) (set r.links r.back r.next) (set r.backs r.next r.back)
+take_linked r = rw (kept_set r.kept (map place_kept r.kept) r.number r.number most_places None refl refl refl) (taken (linking r) (taking r))
 
-pub take_back_inside : (w : Linking) (r : TakenRead w) → r.back < length w.links
-take_back_inside w r = (taking_links w (taking w r)).room
+pub take_back_inside : (r : TakenRead) → r.back < length r.links
+take_back_inside r = (taking_links (linking r) (taking r)).room
 
 -- ... or it stands nowhere
-pub take_nowhere : (w : Linking) (number : ℕ) → is_some (wheel_place_of w.places number) ≡ false → IsLinked (set w.places number None) w.links w.backs
-take_nowhere w number none =
-    let nowhere = has_none (wheel_place_of w.places number) none in
-    let same : set w.places number None ≡ w.places = sym (ap (λ (s : Option ℕ). set w.places number s) nowhere) ∙ set-get_or w.places number None in
-    rw same w.linked
+pub take_nowhere : (places : List (Option ℕ)) (number : ℕ) → wheel_place_of places number ≡ None → places ≡ set places number None
+take_nowhere places number nowhere = sym (ap (λ (s : Option ℕ). set places number s) (sym nowhere) ∙ set-get_or places number None)
 
--- a tag that was taken from its place is put on this one, whose first tag is read
-pub put_on : (places : List (Option ℕ)) (links backs : List ℕ) (number place first : ℕ) → IsLinked (set places number None) links backs → number < length places → place < most_places
-    → first ≡ get_or links place first
-    → IsLinked (set places number (Some place)) (set (set links (most_places + number) first) place number) (set (set backs first (most_places + number)) number place)
-put_on places links backs number place first linked room below read =
-    let w : Linking = record { places = set places number None; links = links; backs = backs; linked = linked } in
-    rw (← set-set places number None (Some place))
+-- a tag that stands nowhere is put on a place, whose first tag is read
+pub put_on : (kept links backs : List ℕ) (number place first : ℕ) → IsLinked (map place_kept kept) links backs → number < length kept → wheel_place_of (map place_kept kept) number ≡ None
+    → place < most_places → first ≡ get_or links place first
+    → IsLinked (map place_kept (set kept number place)) (set (set links (most_places + number) first) place number) (set (set backs first (most_places + number)) number place)
+put_on kept links backs number place first linked within nowhere below read =
+    let w : Linking = record { places = map place_kept kept; links = links; backs = backs; linked = linked } in
+    rw (kept_set kept (map place_kept kept) number number place (Some place) refl refl (kept_some place (λ same. omega (arith, same, below))))
     (put_there w (record {
       number = number;
       place = place;
       first = first;
-      within = rw (length-set places number None) room;
-      nowhere = is_set places number None room;
+      within = rw (length-map kept place_kept) within;
+      nowhere = nowhere;
       below = below;
       first_is = sym (read ∙ get_or_default_zero links place first (omega (arith, linked.size, below)));
     }))

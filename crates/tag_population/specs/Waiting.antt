@@ -1,12 +1,12 @@
 -- How tags take part in rounds, for each tag by its number: a tag waits for its slot, or it is called, so that it has to hear the
 -- next command. Where each stands: a waiting tag at the place that its slot counter has behind the base of its session.
-use Rattle.std.proofs.Common.{◌≡◌, ◌≢◌, ℕ, ◌+◌, ◌-◌, ◌*◌, ◌/◌, ◌%◌, ◌<◌, ◌≤◌, ◌==◌, Bool, true, false, List, length, map, Option, Some, None, get_or, if◌then◌else◌}
+use Rattle.std.proofs.Common.{◌≡◌, ◌≢◌, ℕ, ◌+◌, ◌-◌, ◌*◌, ◌/◌, ◌%◌, ◌<◌, ◌≤◌, ◌==◌, Bool, true, false, List, [], ◌∷◌, length, Option, Some, None, get_or, if◌then◌else◌}
 use Rattle.air_events.specs.TagNumbers.{most_tags}
 use Rattle.tag_body.specs.RoundNumbers.{slot_below}
 use Rattle.tag_population.specs.declared.waiting.Participation.{Participation}
 use Rattle.tag_population.specs.declared.waiting.Participation.TheVariants.{Waits, Called}
 use Rattle.tag_population.specs.Wheel.{wheel_place_of}
-use Rattle.tag_population.specs.TagSets.{IsIn}
+use Rattle.tag_population.specs.TagSets.{IsIn, bit_in_set}
 
 -- how the tag of a number takes part; it doesn't where there is no such tag
 abbrev pub participation_at : List (Option Participation) → ℕ → Option Participation
@@ -57,45 +57,35 @@ counted_down session None = None
 counted_down session (Some (Waits own slot)) = Some (Waits own (if own == session then slot_below slot else slot))
 counted_down session (Some Called) = Some Called
 
--- the place that is for called tags, behind those of the slots of the four sessions
-abbrev pub called_place : ℕ
-called_place = 131072
-
 -- the place of the tags that wait with this slot counter in a session, behind the base of that session
 abbrev pub slot_place : ℕ → ℕ → ℕ → ℕ
 slot_place base session slot = session * 32768 + (base + slot) % 32768
-
--- the place of a tag that takes part so; none of one that takes no part
-abbrev pub place_of : List ℕ → Option Participation → Option ℕ
-place_of bases None = None
-place_of bases (Some (Waits session slot)) = Some (slot_place (get_or bases session 0) session slot)
-place_of bases (Some Called) = Some called_place
 
 -- the slot counter of a place
 abbrev pub slot_behind : ℕ → ℕ → ℕ
 slot_behind base place = (place % 32768 + 32768 - base) % 32768
 
--- how a tag takes part that stands on a place
-abbrev pub participation_there : List ℕ → ℕ → Participation
-participation_there bases place =
-    (if place == called_place then Called else Waits (place / 32768) (slot_behind (get_or bases (place / 32768) 0) place))
+-- how a tag takes part that stands on a place, or on none, and has this bit in the set of called ones: it is called where it stands on none and the bit is 1
+abbrev pub participation_on : List ℕ → ℕ → Option ℕ → Option Participation
+participation_on bases bit None = if bit == 1 then Some Called else None
+participation_on bases bit (Some place) = Some (Waits (place / 32768) (slot_behind (get_or bases (place / 32768) 0) place))
 
--- how a tag takes part that stands on a place, or on none
-abbrev pub participation_on : List ℕ → Option ℕ → Option Participation
-participation_on bases None = None
-participation_on bases (Some place) = Some (participation_there bases place)
+-- how the tags take part that are numbered from a number on, and stand on these places, or on none
+abbrev pub participations_from : ℕ → List ℕ → List ℕ → List (Option ℕ) → List (Option Participation)
+participations_from number bases called [] = []
+participations_from number bases called (place ∷ places) = participation_on bases (bit_in_set called number) place ∷ participations_from (number + 1) bases called places
 
--- how each tag takes part that stands on a place, or on none
-abbrev pub participations_on : List ℕ → List (Option ℕ) → List (Option Participation)
-participations_on bases places = map (λ place. participation_on bases place) places
+-- how each tag takes part
+abbrev pub participations_on : List ℕ → List ℕ → List (Option ℕ) → List (Option Participation)
+participations_on bases called places = participations_from 0 bases called places
 
 -- a base of each session, which has 15 bits
 pub record AreBases (bases : List ℕ) : Type 0 where
   pub count : length bases ≡ 4
   pub each : (session : ℕ) → get_or bases session 0 < 32768
 
--- the set of the numbers of the tags that stand on the place for called ones
-pub record AreCalled (numbers : List ℕ) (places : List (Option ℕ)) : Type 0 where
+-- the set of the called tags, each of which stands on no place
+pub record AreCalled (called : List ℕ) (places : List (Option ℕ)) : Type 0 where
   pub few : length places ≤ most_tags
-  pub called : (number : ℕ) → wheel_place_of places number ≡ Some called_place → IsIn numbers number
-  pub only : (number : ℕ) → IsIn numbers number → wheel_place_of places number ≡ Some called_place
+  pub within : (number : ℕ) → IsIn called number → number < length places
+  pub nowhere : (number : ℕ) → IsIn called number → wheel_place_of places number ≡ None

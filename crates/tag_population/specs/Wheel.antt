@@ -1,11 +1,15 @@
 -- Tags that stand on places: for each tag, by its number, the place where it stands, or none. The tags of one place are
 -- linked in both directions, the one that came last first.
-use Rattle.std.proofs.Common.{◌≡◌, ◌≢◌, ℕ, ◌+◌, ◌<◌, ◌≤◌, ◌⊎◌, List, length, Option, Some, None, get_or}
+use Rattle.std.proofs.Common.{◌≡◌, ◌≢◌, ℕ, ◌+◌, ◌<◌, ◌≤◌, ◌==◌, ◌⊎◌, List, length, Option, Some, None, get_or, if◌then◌else◌}
 use Rattle.air_events.specs.TagNumbers.{most_tags}
 
--- how many places tags can stand on: one for each of the 32,768 values of a slot counter in each of the four sessions, and one more
+-- how many places tags can stand on: one for each of the 32,768 values of a slot counter in each of the four sessions
 abbrev pub most_places : ℕ
-most_places = 131073
+most_places = 131072
+
+-- the place that is kept as a number; the number behind the last place is kept for none
+abbrev pub place_kept : ℕ → Option ℕ
+place_kept number = if number == most_places then None else Some number
 
 -- the place where a tag stands; none where there is no such tag
 abbrev pub wheel_place_of : List (Option ℕ) → ℕ → Option ℕ

@@ -1,9 +1,8 @@
 //! Which tags wait for their slots, and which are called.
-ghost use Rattle.std.specs.Prelude.{◌≡◌, ℕ, ◌+◌, ◌<◌, ◌≤◌, List, Option, Some, None, length, map, replicate, slice_set, IfOk};
+ghost use Rattle.std.specs.Prelude.{◌≡◌, ℕ, ◌<◌, ◌≤◌, Some, None, length, map, replicate, slice_set, IfOk};
 ghost use Rattle.std.specs.Option.{is_some};
 ghost use Rattle.air_events.specs.TagNumbers.{most_tags};
-ghost use Rattle.tag_population.specs.Waiting.{AreCalled, AreSlots, IsDue, IsLegalParticipation, IsNextCalled, counted_down, place_of, waiting_slot, slot_place, participation_at, waits_in};
-ghost use Rattle.tag_population.specs.Wheel.{wheel_place_of};
+ghost use Rattle.tag_population.specs.Waiting.{AreSlots, IsDue, IsLegalParticipation, IsNextCalled, counted_down, waiting_slot, slot_place, participation_at, waits_in};
 
 use crate::tag_set::TagSet;
 use crate::wheel::Wheel;
@@ -14,9 +13,6 @@ use std::marker::Model;
 
 /// How many values a slot counter has: 15 bits (6.3.2.4.8 Slot counter).
 const SLOTS: usize = 32_768;
-
-/// The place of the tags that are called, behind those of the slots of the four sessions.
-const CALLED: usize = 131_072;
 
 /// How a tag takes part in a round.
 #[derive(Clone, Copy)]
@@ -29,8 +25,7 @@ pub(crate) enum Participation {
 
 /// Tags, of which some wait for their slots and some are called. All waiting tags of a session are
 /// counted down at once: each stands at the place that its slot counter has behind the base of the session, and
-/// the base moves. Called tags stand at a place of their own, and are kept as a set too, since they hear in the order of
-/// their numbers.
+/// the base moves. Called tags stand nowhere, and are kept as a set, since they hear in the order of their numbers.
 ///
 /// A contract sees for each tag how it takes part.
 #[derive(Drop)]
@@ -47,7 +42,7 @@ impl Model for Waiting {
 
     ghost Value = { List (Option Participation) };
 
-    ghost view = { λ a. participations_on a.bases a.wheel };
+    ghost view = { λ a. participations_on a.bases a.called a.wheel };
 
     ghost invariant = { λ a. AreBases a.bases × AreCalled a.called a.wheel };
 }
@@ -74,9 +69,6 @@ impl Waiting {
         ensures range { (slot : ℕ) → result ≡ Some slot → slot < 32768 }
     {
         let place = self.wheel.place(number)?;
-        if place == CALLED {
-            return None;
-        }
         let base = usize::from(self.bases[place / SLOTS]);
         Some(((place % SLOTS + SLOTS - base) % SLOTS) as u16)
     }
@@ -97,7 +89,7 @@ impl Waiting {
         requires { number < length self.now }
         ensures { result ≡ is_some (participation_at self.now number) }
     {
-        self.wheel.place(number).is_some()
+        self.wheel.place(number).is_some() || self.called.contains(number)
     }
 
     /// Lets a tag take part as is said.
@@ -108,13 +100,31 @@ impl Waiting {
         ensures participations { self.new ≡ slice_set self.old number participation }
         ensures slots { AreSlots self.new }
     {
-        let place = place_of(&self.bases, participation);
-        // A tag beyond arbitrate is called to each command.
-        if place == Some(CALLED) && self.called.contains(number) {
-            return;
+        match participation {
+            Some(Participation::Waits(session, slot)) => {
+                self.release(number);
+                let base = self.bases[usize::from(session)];
+                self.wheel.put(number, slot_place(base, session, slot));
+            }
+            Some(Participation::Called) => {
+                self.wheel.take(number);
+                self.called.insert(number);
+            }
+            None => self.release(number),
         }
-        let stood = self.wheel.put(number, place);
-        note_called(&mut self.called, number, stood, place);
+    }
+
+    /// Lets a tag take no part.
+    #[inline(always)]
+    fn release(&mut self, number: TagNumber)
+        requires { number < length self.old }
+        ensures part { self.new ≡ slice_set self.old number None }
+        ensures slots { AreSlots self.new }
+    {
+        // No tag that stood on a place is called.
+        if !self.wheel.take(number) {
+            self.called.remove(number);
+        }
     }
 
     /// The first of the tags that are called whose number is this one or above.
@@ -150,32 +160,4 @@ fn slot_place(base: u16, session: u8, slot: u16) -> usize
     ensures { result ≡ slot_place base session slot }
 {
     usize::from(session) * SLOTS + (usize::from(base) + usize::from(slot)) % SLOTS
-}
-
-/// The place where a tag stands that takes part so.
-#[inline(always)]
-fn place_of(bases: &[u16; 4], participation: Option<Participation>) -> Option<usize>
-    requires { IsLegalParticipation participation }
-    ensures { result ≡ place_of bases.now participation }
-{
-    match participation? {
-        Participation::Waits(session, slot) => {
-            Some(slot_place(bases[usize::from(session)], session, slot))
-        }
-        Participation::Called => Some(CALLED),
-    }
-}
-
-/// Keeps in the set of called tags whether a tag is called that stood on one place, or on none, and was put on another, or on none.
-#[inline(always)]
-fn note_called(called: &mut TagSet, number: TagNumber, stood: Option<usize>, place: Option<usize>)
-    ensures { (places : List (Option ℕ)) → AreCalled called.old places → number < length places
-        → stood ≡ wheel_place_of places number
-        → AreCalled called.new (slice_set places number place) }
-{
-    if let Some(CALLED) = place {
-        called.insert(number);
-    } else if let Some(CALLED) = stood {
-        called.remove(number);
-    }
 }

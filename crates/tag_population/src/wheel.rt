@@ -1,5 +1,6 @@
 //! Places on which tags stand, and the links between the tags of one place.
 ghost use Rattle.std.specs.Prelude.{◌≡◌, ◌<◌, ◌≤◌, ℕ, Some, None, length, replicate, slice_set, IfOk};
+ghost use Rattle.std.specs.Option.{is_some};
 ghost use Rattle.air_events.specs.TagNumbers.{most_tags};
 ghost use Rattle.tag_population.specs.Wheel.{most_places, wheel_place_of, IsLinked, IsTagOn};
 
@@ -8,9 +9,11 @@ use bit_strings::OutOfMemory;
 use std::alloc::Global;
 use std::marker::Model;
 
-/// How many places tags can stand on: one for each of the 32,768 values of a slot counter in each of the four
-/// sessions, and the last one for the tags that are called.
-const PLACES: usize = 131_073;
+/// How many places tags can stand on: one for each of the 32,768 values of a slot counter in each of the four sessions.
+const PLACES: usize = 131_072;
+
+/// What is kept in place of a place for a tag that stands on none.
+const NOWHERE: usize = PLACES;
 
 /// Tags, each of which stands on one place or on none. The tags of one place are linked in both directions.
 ///
@@ -22,18 +25,19 @@ pub(crate) struct Wheel {
     links: Vec<u16>,
     /// For each tag that stands on a place, which link leads to it. One more is written where a link leads to none.
     backs: Vec<usize>,
-    places: Vec<Option<usize>>,
+    /// For each tag the place where it stands, or `NOWHERE`.
+    places: Vec<usize>,
 }
 
 impl Model for Wheel {
-    ghost use Rattle.std.specs.Prelude.{ℕ, List, Option};
-    ghost use Rattle.tag_population.specs.Wheel.{IsLinked};
+    ghost use Rattle.std.specs.Prelude.{ℕ, List, Option, map};
+    ghost use Rattle.tag_population.specs.Wheel.{IsLinked, place_kept};
 
     ghost Value = { List (Option ℕ) };
 
-    ghost view = { λ a. a.places.items };
+    ghost view = { λ a. map place_kept a.places.items };
 
-    ghost invariant = { λ a. IsLinked a.places.items a.links.items a.backs.items };
+    ghost invariant = { λ a. IsLinked (map place_kept a.places.items) a.links.items a.backs.items };
 }
 
 impl Wheel {
@@ -44,7 +48,7 @@ impl Wheel {
     {
         let links = vec![in alloc; MOST_TAGS; PLACES + usize::from(MOST_TAGS)]?;
         let backs = vec![in alloc; 0; usize::from(MOST_TAGS) + 1]?;
-        let places = vec![in alloc; None; count]?;
+        let places = vec![in alloc; NOWHERE; count]?;
         Ok(Wheel {
             links,
             backs,
@@ -58,8 +62,8 @@ impl Wheel {
         ensures value { result ≡ wheel_place_of self.now number }
         ensures range { (place : ℕ) → result ≡ Some place → place < most_places }
     {
-        let at = number.index();
-        self.places[at]
+        let place = self.places[number.index()];
+        if place == NOWHERE { None } else { Some(place) }
     }
 
     /// A tag on a place; none exactly where no tag stands there.
@@ -75,42 +79,40 @@ impl Wheel {
         }
     }
 
-    /// Lets a tag stand on a place and nowhere else, or on none, and answers where it stood.
+    /// Takes a tag from the place where it stands, and answers whether there was one.
     #[inline(always)]
-    pub(crate) fn put(&mut self, number: TagNumber, place: Option<usize>) -> Option<usize>
-        requires number { number < length self.old }
-        requires place { (at : ℕ) → place ≡ Some at → at < most_places }
-        ensures places { self.new ≡ slice_set self.old number place }
-        ensures stood { result ≡ wheel_place_of self.old number }
+    pub(crate) fn take(&mut self, number: TagNumber) -> bool
+        requires { number < length self.old }
+        ensures places { self.new ≡ slice_set self.old number None }
+        ensures stood { result ≡ is_some (wheel_place_of self.old number) }
     {
         let at = number.index();
-        let stood = self.places[at];
-        unlink(self.places.as_slice(), &mut self.links, &mut self.backs, at);
-        self.places[at] = place;
-        let Some(place) = place else {
-            return stood;
-        };
+        if self.places[at] == NOWHERE {
+            return false;
+        }
+        let next = self.links[PLACES + at];
+        let back = self.backs[at];
+        self.links[back] = next;
+        self.backs[usize::from(next)] = back;
+        self.places[at] = NOWHERE;
+        true
+    }
+
+    /// Puts a tag that stands nowhere on a place.
+    #[inline(always)]
+    pub(crate) fn put(&mut self, number: TagNumber, place: usize)
+        requires number { number < length self.old }
+        requires nowhere { wheel_place_of self.old number ≡ None }
+        requires place { place < most_places }
+        ensures { self.new ≡ slice_set self.old number (Some place) }
+    {
+        let at = number.index();
         let behind = PLACES + at;
         let first = self.links[place];
         self.links[behind] = first;
         self.backs[usize::from(first)] = behind;
         self.links[place] = number.get();
         self.backs[at] = place;
-        stood
-    }
-}
-
-/// Takes a tag out of the links of its place, where it stands on one.
-#[inline(always)]
-fn unlink(places: &[Option<usize>], links: &mut Vec<u16>, backs: &mut Vec<usize>, at: usize)
-    requires at { at < length places.now }
-    requires linked { IsLinked places.now links.old.items backs.old.items }
-    ensures { IsLinked (slice_set places.now at None) links.new.items backs.new.items }
-{
-    if places[at].is_some() {
-        let next = links[PLACES + at];
-        let back = backs[at];
-        links[back] = next;
-        backs[usize::from(next)] = back;
+        self.places[at] = place;
     }
 }
