@@ -12,8 +12,8 @@ use Rattle.tag_population.proofs.SeatedTags.{participation_of_tag}
 use Rattle.tag_population.specs.Answers.{AnswersValue, AnswerValue, answer_of, answers_of}
 use Rattle.tag_population.specs.Floor.{floor_with, is_reached, participation_in, participations_of, no_tag, FloorValue}
 use Rattle.tag_population.specs.Hearing.{HasHeard, IsReady, outcome_reached, reach_of, reach_steps, reached_from, steps_to_hear}
-use Rattle.tag_population.specs.Waiting.{participation_at}
-use Rattle.tag_population.specs.declared.waiting.Participation.{Participation}
+use Rattle.tag_population.specs.Participation.{participation_at}
+use Rattle.tag_population.specs.declared.participation.Participation.{Participation}
 
 -- a command that is sent to tags, which take this many steps before it
 pub record Sending : Type 0 where

@@ -23,9 +23,9 @@ use Rattle.tag_population.specs.Hearing.{AreCalledFor, hearing_from, outcome_rea
 use Rattle.tag_population.specs.declared.floor.Reach.{Reach}
 use Rattle.tag_population.specs.declared.floor.Reach.TheVariants.{CalledOnly}
 use Rattle.tag_population.proofs.SlotPlaces.{same_waits}
-use Rattle.tag_population.specs.Waiting.{participation_at, is_called, waits_in, counted_down, IsDue}
-use Rattle.tag_population.specs.declared.waiting.Participation.{Participation}
-use Rattle.tag_population.specs.declared.waiting.Participation.TheVariants.{Waits, Called}
+use Rattle.tag_population.specs.Participation.{participation_at, is_called, waits_in, counted_down, IsDue}
+use Rattle.tag_population.specs.declared.participation.Participation.{Participation}
+use Rattle.tag_population.specs.declared.participation.Participation.TheVariants.{Waits, Called}
 
 -- steps
 

@@ -11,9 +11,9 @@ use Rattle.tag_machine.specs.Inventory.{slot_below}
 use Rattle.tag_machine.specs.TagValue.{StateValue, ArbitrateState, BodyValue, TagValue, IsLegalState, IsLegalTag}
 use Rattle.tag_population.proofs.EventsOnTags.{legal-append, legal-set}
 use Rattle.tag_population.specs.Floor.{with_slot, tag_seated, seated_tags, participation_in, participations_of, steps_back, floor_with, calling, counted_floor, no_tag, FloorValue, AreSeated}
-use Rattle.tag_population.specs.Waiting.{participation_at, waiting_slot, counted_down, AreSlots}
-use Rattle.tag_population.specs.declared.waiting.Participation.{Participation}
-use Rattle.tag_population.specs.declared.waiting.Participation.TheVariants.{Waits, Called}
+use Rattle.tag_population.specs.Participation.{participation_at, waiting_slot, counted_down, AreSlots}
+use Rattle.tag_population.specs.declared.participation.Participation.{Participation}
+use Rattle.tag_population.specs.declared.participation.Participation.TheVariants.{Waits, Called}
 
 pub length-tags_of : (participations : List (Option Participation)) (seats : List TagValue) → length participations ≡ length seats → length (seated_tags participations seats) ≡ length seats
 length-tags_of [] [] same = refl

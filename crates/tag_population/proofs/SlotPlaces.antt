@@ -6,12 +6,12 @@ use Rattle.std.proofs.lemmas.List.{ext_get_or, get_or-replicate, get_or-set_same
 use Rattle.std.proofs.lemmas.Option.{same_Some}
 use Rattle.air_events.specs.TagNumbers.{most_tags}
 use Rattle.tag_body.specs.RoundNumbers.{slot_below}
-use Rattle.tag_population.specs.declared.waiting.Participation.{Participation}
-use Rattle.tag_population.specs.declared.waiting.Participation.TheVariants.{Waits, Called}
+use Rattle.tag_population.specs.declared.participation.Participation.{Participation}
+use Rattle.tag_population.specs.declared.participation.Participation.TheVariants.{Waits, Called}
 use Rattle.tag_population.specs.TagSets.{bit_in_set, HasNone, IsIn, IsNextIn}
 use Rattle.tag_population.specs.Wheel.{wheel_place_of, IsTagOn}
 use Rattle.tag_population.proofs.WheelLinks.{none_some}
-use Rattle.tag_population.specs.Waiting.{participation_at, IsLegalParticipation, IsNextCalled, IsDue, counted_down, slot_place, slot_behind, waiting_slot, waits_in, participation_on, participations_from, participations_on, AreBases, AreCalled, AreSlots}
+use Rattle.tag_population.specs.Participation.{participation_at, IsLegalParticipation, IsNextCalled, IsDue, counted_down, slot_place, slot_behind, waiting_slot, waits_in, participation_on, participations_from, participations_on, AreBases, AreCalled, AreSlots}
 
 waits_called : (session slot : ℕ) → Some (Waits session slot) ≡ Some Called → ⊥
 waits_called session slot same = cc

@@ -14,9 +14,9 @@ use Rattle.tag_machine.specs.Step.{step}
 use Rattle.tag_machine.specs.TagValue.{StateValue, ReadyState, ArbitrateState, ReplyState, AcknowledgedState, OpenState, SecuredState, KilledState, UnpoweredState, TagValue}
 use Rattle.tag_population.specs.declared.floor.Reach.{Reach}
 use Rattle.tag_population.specs.declared.floor.Reach.TheVariants.{Every, InRound, CalledOnly}
-use Rattle.tag_population.specs.Waiting.{participation_at, is_called, counted_down, AreSlots}
-use Rattle.tag_population.specs.declared.waiting.Participation.{Participation}
-use Rattle.tag_population.specs.declared.waiting.Participation.TheVariants.{Waits, Called}
+use Rattle.tag_population.specs.Participation.{participation_at, is_called, counted_down, AreSlots}
+use Rattle.tag_population.specs.declared.participation.Participation.{Participation}
+use Rattle.tag_population.specs.declared.participation.Participation.TheVariants.{Waits, Called}
 
 -- what an empty seat is seen as; no seat is empty where a contract sees it
 abbrev pub no_tag : TagValue

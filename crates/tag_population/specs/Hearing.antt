@@ -12,8 +12,8 @@ use Rattle.tag_population.specs.Answers.{AnswersValue, answers_of}
 use Rattle.tag_population.specs.Floor.{FloorValue, is_reached, no_tag, participation_in, participations_of, steps_back}
 use Rattle.tag_population.specs.declared.floor.Reach.{Reach}
 use Rattle.tag_population.specs.declared.floor.Reach.TheVariants.{Every, InRound, CalledOnly}
-use Rattle.tag_population.specs.Waiting.{participation_at}
-use Rattle.tag_population.specs.declared.waiting.Participation.{Participation}
+use Rattle.tag_population.specs.Participation.{participation_at}
+use Rattle.tag_population.specs.declared.participation.Participation.{Participation}
 
 -- the tags that are numbered from a number on after these events, in order
 abbrev pub tags_after_events : ℕ → List (Event × ℕ) → List TagValue → List TagValue

@@ -4,4 +4,4 @@ pub mod Hearing
 pub mod Lent
 pub mod Wheel
 pub mod TagSets
-pub mod Waiting
+pub mod Participation

@@ -9,11 +9,11 @@ ghost use Rattle.tag_machine.specs.TagValue.{IsLegalTag};
 ghost use Rattle.tag_population.specs.Answers.{answers_of};
 ghost use Rattle.tag_population.specs.Floor.{AreSeated, IsNextReached, floor_with, calling, counted_floor, no_tag, participations_of, steps_back, tag_seated};
 ghost use Rattle.tag_population.specs.Lent.{KeepsFloor};
-ghost use Rattle.tag_population.specs.Waiting.{IsDue, participation_at, waits_in};
+ghost use Rattle.tag_population.specs.Participation.{IsDue, participation_at, waits_in};
 
 use crate::answers::Answers;
+use crate::participation::{Participation, Waiting};
 use crate::seat::Seat;
-use crate::waiting::{Participation, Waiting};
 use air_events::TagNumber;
 use bit_strings::{OutOfMemory, Session};
 use command_grammar::Command;

@@ -3,10 +3,10 @@
 
 mod answers;
 mod floor;
+mod participation;
 mod population;
 mod seat;
 mod tag_set;
-mod waiting;
 mod wheel;
 
 pub use answers::{Answer, Answers};

@@ -6,10 +6,10 @@ ghost use Rattle.tag_machine.specs.Hearing.{tag_value_of, typed_name_of};
 ghost use Rattle.tag_machine.specs.TagValue.{IsLegalTag};
 ghost use Rattle.tag_population.specs.Answers.{answers_of};
 ghost use Rattle.tag_population.specs.Floor.{HeedsNoSlot, participation_in, with_slot};
-ghost use Rattle.tag_population.specs.Waiting.{IsLegalParticipation};
+ghost use Rattle.tag_population.specs.Participation.{IsLegalParticipation};
 
 use crate::answers::Answers;
-use crate::waiting::Participation;
+use crate::participation::Participation;
 use air_events::TagNumber;
 use command_grammar::Command;
 use std::marker::Model;

@@ -4,7 +4,7 @@ use Rattle.std.proofs.lemmas.List.Folds.{list_any_at}
 use Rattle.tag_population.proofs.QueryRepCalls.{Rep, calls_none, calls_upto, calls_index, calls_missed, calls_due, due_smaller, participation_inside, none_called_for, all_steps_most, settled_whole, rep_called_for, rep_counted, rep_bound}
 use Rattle.tag_population.specs.Floor.{FloorValue}
 use Rattle.tag_population.specs.Hearing.{reach_of}
-use Rattle.tag_population.specs.declared.waiting.Participation.TheVariants.{Waits}
+use Rattle.tag_population.specs.declared.participation.Participation.TheVariants.{Waits}
 use Rattle.tag_population.proofs.population.call_for.Goals.{then-waits_in, else-waits_in}
 use Rattle.tag_population.proofs.population.call_for.Goals as goal
 

@@ -5,7 +5,7 @@ use Rattle.tag_population.proofs.HeardTags.{Sending, HeardBelow, came, heard_non
 use Rattle.tag_population.specs.Answers.{AnswersValue, answers_of}
 use Rattle.tag_population.specs.Floor.{IsNextReached, floor_with, no_tag, steps_back}
 use Rattle.tag_population.specs.Hearing.{outcome_reached, reach_of, steps_to_hear}
-use Rattle.tag_population.specs.Waiting.{participation_at}
+use Rattle.tag_population.specs.Participation.{participation_at}
 use Rattle.tag_population.proofs.population.hear_reached.Goals as goal
 
 pub loop-number-init : goal.loop-number-init

@@ -1,6 +1,6 @@
 use Rattle.std.proofs.Common.{◌∙◌, arith, Some}
 use Rattle.tag_population.proofs.SeatedTags.{Chosen, chosen, floor_called, parts_within, seat_read, seated_put, seats_within}
-use Rattle.tag_population.specs.declared.waiting.Participation.TheVariants.{Called}
+use Rattle.tag_population.specs.declared.participation.Participation.TheVariants.{Called}
 use Rattle.tag_population.proofs.floor.Floor.call.Goals as goal
 
 pub index_mut-requires : goal.index_mut-requires

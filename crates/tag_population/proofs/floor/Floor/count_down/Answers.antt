@@ -1,8 +1,8 @@
 use Rattle.std.proofs.Common.{◌∙◌, ap, length, List, Option}
 use Rattle.std.proofs.lemmas.List.{length-map}
 use Rattle.tag_population.proofs.SeatedTags.{counted_is}
-use Rattle.tag_population.specs.Waiting.{counted_down}
-use Rattle.tag_population.specs.declared.waiting.Participation.{Participation}
+use Rattle.tag_population.specs.Participation.{counted_down}
+use Rattle.tag_population.specs.declared.participation.Participation.{Participation}
 use Rattle.tag_population.proofs.floor.Floor.count_down.Goals as goal
 
 pub invariant_of-self : goal.invariant_of-self

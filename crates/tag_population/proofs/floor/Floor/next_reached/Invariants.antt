@@ -1,6 +1,6 @@
 use Rattle.std.proofs.Common.{◌≡◌, ◌≤◌, ◌<◌, ℕ, false}
 use Rattle.tag_population.specs.Floor.{is_reached}
-use Rattle.tag_population.specs.Waiting.{participation_at}
+use Rattle.tag_population.specs.Participation.{participation_at}
 use Rattle.tag_population.proofs.floor.Floor.next_reached.Given as goal
 
 abbrev pub invariant-loop-at : goal.invariant-loop-at

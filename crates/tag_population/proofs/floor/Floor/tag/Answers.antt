@@ -1,7 +1,7 @@
 use Rattle.std.proofs.Common.{◌∙◌, arith, refl, sym, None}
 use Rattle.std.proofs.lemmas.List.{get_or-set_same, set-get_or}
 use Rattle.tag_population.proofs.SeatedTags.{Chosen, chosen, floor_back, parts_within, seat_read, seated_put, seats_within, steps_back_most}
-use Rattle.tag_population.specs.Waiting.{participation_at}
+use Rattle.tag_population.specs.Participation.{participation_at}
 use Rattle.tag_population.proofs.floor.Floor.tag.Goals as goal
 
 pub index_mut-requires : goal.index_mut-requires

@@ -1,7 +1,7 @@
 use Rattle.std.proofs.Common.{◌∙◌, ap, get_or}
 use Rattle.tag_population.proofs.SlotPlaces.{due_there}
-use Rattle.tag_population.specs.Waiting.{slot_place}
-use Rattle.tag_population.proofs.waiting.Waiting.due.Goals as goal
+use Rattle.tag_population.specs.Participation.{slot_place}
+use Rattle.tag_population.proofs.participation.Waiting.due.Goals as goal
 
 pub returns : goal.returns
 returns c =

@@ -1,6 +1,6 @@
 use Rattle.std.proofs.Common.{◌≤◌, arith, length}
 use Rattle.tag_population.proofs.SlotPlaces.{length_from, next_called}
-use Rattle.tag_population.proofs.waiting.Waiting.next_called.Goals as goal
+use Rattle.tag_population.proofs.participation.Waiting.next_called.Goals as goal
 
 pub next-requires : goal.next-requires
 next-requires c =

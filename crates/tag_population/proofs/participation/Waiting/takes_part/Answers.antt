@@ -1,7 +1,7 @@
 use Rattle.std.proofs.Common.{◌∙◌, sym}
 use Rattle.tag_population.specs.TagSets.{bit_in_set}
 use Rattle.tag_population.proofs.SlotPlaces.{part_is, place_within, takes_part_called, takes_part_there}
-use Rattle.tag_population.proofs.waiting.Waiting.takes_part.Goals as goal
+use Rattle.tag_population.proofs.participation.Waiting.takes_part.Goals as goal
 
 pub place-requires : goal.place-requires
 place-requires c = place_within c.self.inside.bases c.self.inside.called c.self.inside.wheel c.args.self.now c.args.number c.self.view_is c.requires

@@ -2,7 +2,7 @@
 ghost use Rattle.std.specs.Prelude.{◌≡◌, ℕ, ◌<◌, ◌≤◌, Some, None, length, map, replicate, slice_set, IfOk};
 ghost use Rattle.std.specs.Option.{is_some};
 ghost use Rattle.air_events.specs.TagNumbers.{most_tags};
-ghost use Rattle.tag_population.specs.Waiting.{AreSlots, IsDue, IsLegalParticipation, IsNextCalled, counted_down, waiting_slot, slot_place, participation_at, waits_in};
+ghost use Rattle.tag_population.specs.Participation.{AreSlots, IsDue, IsLegalParticipation, IsNextCalled, counted_down, waiting_slot, slot_place, participation_at, waits_in};
 
 use crate::tag_set::TagSet;
 use crate::wheel::Wheel;
@@ -37,8 +37,8 @@ pub(crate) struct Waiting {
 
 impl Model for Waiting {
     ghost use Rattle.std.specs.Prelude.{List, Option};
-    ghost use Rattle.tag_population.specs.declared.waiting.Participation.{Participation};
-    ghost use Rattle.tag_population.specs.Waiting.{AreBases, AreCalled, participations_on};
+    ghost use Rattle.tag_population.specs.declared.participation.Participation.{Participation};
+    ghost use Rattle.tag_population.specs.Participation.{AreBases, AreCalled, participations_on};
 
     ghost Value = { List (Option Participation) };
 

@@ -1,9 +1,9 @@
 use Rattle.std.proofs.Common.{◌∙◌, Option, Some, None, ap, refl, sym}
 use Rattle.tag_population.specs.TagSets.{bit_in_set}
-use Rattle.tag_population.specs.Waiting.{waiting_slot}
-use Rattle.tag_population.specs.declared.waiting.Participation.{Participation}
+use Rattle.tag_population.specs.Participation.{waiting_slot}
+use Rattle.tag_population.specs.declared.participation.Participation.{Participation}
 use Rattle.tag_population.proofs.SlotPlaces.{no_slot, part_is, place_within}
-use Rattle.tag_population.proofs.waiting.Waiting.slot.Goals as goal
+use Rattle.tag_population.proofs.participation.Waiting.slot.Goals as goal
 
 pub place-requires : goal.place-requires
 place-requires c = place_within c.self.inside.bases c.self.inside.called c.self.inside.wheel c.args.self.now c.args.number c.self.view_is c.requires

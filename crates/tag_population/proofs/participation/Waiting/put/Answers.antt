@@ -1,11 +1,11 @@
 use Rattle.std.proofs.Common.{◌≡◌, ◌∙◌, Some, None, ap, get_or, refl}
 use Rattle.tag_population.specs.TagSets.{bit_in_set}
-use Rattle.tag_population.specs.Waiting.{slot_place}
-use Rattle.tag_population.specs.declared.waiting.Participation.{Participation}
-use Rattle.tag_population.specs.declared.waiting.Participation.TheVariants.{Called}
+use Rattle.tag_population.specs.Participation.{slot_place}
+use Rattle.tag_population.specs.declared.participation.Participation.{Participation}
+use Rattle.tag_population.specs.declared.participation.Participation.TheVariants.{Called}
 use Rattle.tag_population.proofs.SlotPlaces.{Placing, Putting, are_slots, place_within, placing_called, placing_nowhere, placing_so, placing_within, put_called, put_so}
-use Rattle.tag_population.proofs.waiting.Waiting.put.Goals.{After-slot_place, After-insert}
-use Rattle.tag_population.proofs.waiting.Waiting.put.Goals as goal
+use Rattle.tag_population.proofs.participation.Waiting.put.Goals.{After-slot_place, After-insert}
+use Rattle.tag_population.proofs.participation.Waiting.put.Goals as goal
 
 -- a tag that waits
 abbrev placing : (c : After-slot_place) → Placing c.self.inside.bases c.self.inside.called c.self.inside.wheel c.args.self.now

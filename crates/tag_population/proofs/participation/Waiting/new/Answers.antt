@@ -1,6 +1,6 @@
 use Rattle.std.proofs.Common.{rules}
 use Rattle.tag_population.proofs.SlotPlaces.{none_called, none_takes_part}
-use Rattle.tag_population.proofs.waiting.Waiting.new.Goals as goal
+use Rattle.tag_population.proofs.participation.Waiting.new.Goals as goal
 
 pub returns : goal.returns
 returns c = rw c.in_ok-wheel.ensures (none_takes_part c.args.count _ c.in_ok-called.called c.in_ok-called.ensures)

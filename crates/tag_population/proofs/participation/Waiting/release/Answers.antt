@@ -1,6 +1,6 @@
 use Rattle.std.proofs.Common.{None, refl, sym}
 use Rattle.tag_population.proofs.SlotPlaces.{are_slots, place_within, put_so, taken_part}
-use Rattle.tag_population.proofs.waiting.Waiting.release.Goals as goal
+use Rattle.tag_population.proofs.participation.Waiting.release.Goals as goal
 
 pub take-requires : goal.take-requires
 take-requires c = place_within c.self.inside.bases c.self.inside.called c.self.inside.wheel c.args.self.now c.args.number c.self.view_is c.requires

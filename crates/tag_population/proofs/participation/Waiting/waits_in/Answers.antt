@@ -1,7 +1,7 @@
 use Rattle.std.proofs.Common.{Some, None, refl, sym}
 use Rattle.tag_population.specs.TagSets.{bit_in_set}
 use Rattle.tag_population.proofs.SlotPlaces.{part_is, place_within, waits_nowhere}
-use Rattle.tag_population.proofs.waiting.Waiting.waits_in.Goals as goal
+use Rattle.tag_population.proofs.participation.Waiting.waits_in.Goals as goal
 
 pub place-requires : goal.place-requires
 place-requires c = place_within c.self.inside.bases c.self.inside.called c.self.inside.wheel c.args.self.now c.args.number c.self.view_is c.requires

@@ -1,6 +1,6 @@
 use Rattle.std.proofs.Common.{refl, ◌∙◌}
 use Rattle.tag_population.proofs.SlotPlaces.{counted_all, are_slots}
-use Rattle.tag_population.proofs.waiting.Waiting.count_down.Goals as goal
+use Rattle.tag_population.proofs.participation.Waiting.count_down.Goals as goal
 
 pub returns-clause-counted : goal.returns-clause-counted
 returns-clause-counted c =
