@@ -84,12 +84,10 @@ pub fn enter(mut body: Body, session: Session, q: QValue, out: &mut Bits) -> Hea
     requires room { reply_room ≤ out.old.capacity }
     ensures { GivesOutcome (enter session q body) result out.old out.new }
 {
-    match body.draw_slot(q) {
-        Some(slot) => stay_silent(Arbitrate { session, q, slot }.tag(body), out),
-        None => {
-            // The word that gives slot 0 is drawn before the RN16.
-            body.draw();
-            begin_reply(body, session, q, out)
-        }
-    }
+    let Some(slot) = body.draw_slot(q) else {
+        // The word that gives slot 0 is drawn before the RN16.
+        body.draw();
+        return begin_reply(body, session, q, out);
+    };
+    stay_silent(Arbitrate { session, q, slot }.tag(body), out)
 }

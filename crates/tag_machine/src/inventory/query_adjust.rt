@@ -36,16 +36,16 @@ impl AnyTag {
     {
         match self {
             AnyTag::Arbitrate(Tag { state, body }) => {
-                match q_of_redraw(state.session, state.q, session, updn) {
-                    Some(q) => enter(body, session, q, out),
-                    None => stay_silent(state.tag(body), out),
-                }
+                let Some(q) = q_of_redraw(state.session, state.q, session, updn) else {
+                    return stay_silent(state.tag(body), out);
+                };
+                enter(body, session, q, out)
             }
             AnyTag::InReply(Tag { state, body }) => {
-                match q_of_redraw(state.session, state.q, session, updn) {
-                    Some(q) => enter(body, session, q, out),
-                    None => stay_silent(state.tag(body), out),
-                }
+                let Some(q) = q_of_redraw(state.session, state.q, session, updn) else {
+                    return stay_silent(state.tag(body), out);
+                };
+                enter(body, session, q, out)
             }
             // The turn of a tag that was inventoried ends as at a QueryRep.
             AnyTag::Acknowledged(tag) => AnyTag::Acknowledged(tag).query_rep(session, out),
