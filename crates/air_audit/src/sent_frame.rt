@@ -1,8 +1,7 @@
 //! Frames that were sent, and the commands that they bring.
-ghost use Rattle.std.specs.Prelude.{◌≡◌, ◌≢◌, ◌≤◌, ◌↔◌, [], ℕ, All, IfErr, IsFalse, IsOk, IsTrue, Ok, length, codes};
+ghost use Rattle.std.specs.Prelude.{◌≡◌, ◌≢◌, ◌≤◌, ◌↔◌, ℕ, All, IfErr, IsFalse, IsOk, IsTrue, Ok, length, codes};
 ghost use Rattle.bit_strings.specs.BitString.{most_counted};
 ghost use Rattle.command_grammar.specs.declared.commands.Command.{Command};
-ghost use Rattle.command_grammar.specs.reading.Framing.{FramerStandsFor};
 ghost use Rattle.pie_line.specs.Pie.{longest_interval, FrameBeginsWith};
 ghost use Rattle.air_model.specs.Channel.{lead_of};
 ghost use Rattle.air_audit.specs.LineRefusals.{IsNoTxLine};
@@ -41,10 +40,9 @@ impl Drop for SentFrame {
 }
 
 impl Model for SentFrame {
-    ghost use Rattle.std.specs.Prelude.{◌≤◌, Result, []};
+    ghost use Rattle.std.specs.Prelude.{◌≤◌, Result};
     ghost use Rattle.command_grammar.specs.declared.commands.Command.{Command};
     ghost use Rattle.command_grammar.specs.declared.refusal.CommandRefusal.{CommandRefusal};
-    ghost use Rattle.command_grammar.specs.reading.Framing.{FramerStandsFor};
     ghost use Rattle.report_lines.specs.ReadLines.{most_tx_intervals};
 
     ghost Value = { Result Command CommandRefusal };
@@ -52,8 +50,7 @@ impl Model for SentFrame {
     ghost view = { λ a. a.command };
 
     ghost invariant = { λ a. (most_tx_intervals ≤ a.intervals.capacity)
-        × (most_tx_intervals ≤ a.bits.capacity)
-        × FramerStandsFor a.framer [] };
+        × (most_tx_intervals ≤ a.bits.capacity) };
 }
 
 impl SentFrame {
@@ -126,13 +123,11 @@ fn read_frame(
     answer: &mut Result<Command, CommandRefusal>,
 ) -> Result<(), AuditReason>
     requires room { length intervals.now.items ≤ bits.old.capacity }
-    requires none { FramerStandsFor framer.old [] }
     requires each { All (λ interval. interval ≤ longest_interval) intervals.now.items }
     requires count { length intervals.now.items ≤ most_counted }
     ensures reads { IsOk result → ReadsFrame intervals.now.items answer.new }
     ensures refused { IfErr result (IsNoFrame intervals.now.items) }
     ensures capacity { bits.new.capacity ≡ bits.old.capacity }
-    ensures anew { FramerStandsFor framer.new [] }
 {
     let kind = match decode_frame(intervals, bits) {
         Ok(kind) => kind,

@@ -32,7 +32,8 @@ fn effect_of_bits(digits: Digits<'_>, bits: &mut Bits, command: &mut Command) ->
     digits.copy_to(bits);
     // What no bits are.
     let mut spelled = Err(CommandRefusal::Short(0));
-    decode_command_to(bits.as_slice(), &mut Framer::new(), &mut spelled);
+    let mut framer = Framer::new();
+    decode_command_to(bits.as_slice(), &mut framer, &mut spelled);
     match spelled {
         Ok(it) => {
             *command = it;

@@ -1,12 +1,11 @@
 //! The answer to a decode line: what the line asks for is computed in rooms that are taken once for all lines, and written as a line.
-ghost use Rattle.std.specs.Prelude.{◌≡◌, ◌≢◌, ◌≤◌, [], length, IfOk, IfErr, OnOk};
+ghost use Rattle.std.specs.Prelude.{◌≡◌, ◌≢◌, ◌≤◌, length, IfOk, IfErr, OnOk};
 ghost use Rattle.std.specs.String.{string_bytes};
 ghost use Rattle.decode_lines.specs.Answer.{AddsAnswer, AnswersBehind, AnswersLine};
 ghost use Rattle.text_fields.specs.Lines.{fields_of};
 ghost use Rattle.decode_lines.specs.Request.{AreFaultyToDecode, IsFaultyToDecode, IsWithinDecodeLimits, most_intervals, most_levels};
 ghost use Rattle.decode_lines.specs.declared.request.Request.{Request};
 ghost use Rattle.decode_lines.specs.declared.request.RequestKind.{RequestKind};
-ghost use Rattle.command_grammar.specs.reading.Framing.{FramerStandsFor};
 ghost use Rattle.epc_sgtin.specs.SgtinValue.{SgtinValue};
 ghost use Rattle.epc_sgtin.specs.Epc.{IsSgtin};
 ghost use Rattle.epc_sgtin.specs.Uri.{IsUriOf};
@@ -135,7 +134,6 @@ struct AnswerRooms {
     received: Received,
     ghost levels_room: { levels.capacity ≡ most_levels },
     ghost bits_room: { bits.capacity ≡ most_levels },
-    ghost no_bits: { FramerStandsFor framer [] },
 }
 
 impl AnswerRooms {

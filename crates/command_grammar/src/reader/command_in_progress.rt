@@ -387,8 +387,19 @@ impl State {
         }
     }
 
-    /// Answers with the command that the bits are, or with `refused`, or with `Short`. It stands for no bits
-    /// afterwards.
+    /// Stands for no bits from now on, whatever it stood for.
+    pub(crate) fn begin_anew(&mut self)
+        ensures stands { StateStandsFor self.new [] }
+        ensures digits { HasDigits self.new [] }
+        ensures sound { IsSoundPosition self.new.position self.new.fields }
+    {
+        self.position = Position::Code(CodeFront::Nothing);
+        self.left = 0;
+        self.value = 0;
+    }
+
+    /// Answers with the command that the bits are, or with `refused`, or with `Short`. A mask or words are taken out of
+    /// what was read.
     pub(crate) fn finish(
         &mut self,
         pushed: u32,
@@ -399,17 +410,10 @@ impl State {
             → IsFinishAnswer answer.new bits }
         ensures only { (bits : List Bool) (command : Command) → Keeps self.old pushed refused bits
             → SpellsCommand command bits → answer.new ≡ Ok command }
-        ensures anew { StateStandsFor self.new [] }
-        ensures digits { HasDigits self.new [] }
-        ensures sound { IsSoundPosition self.new.position self.new.fields }
     {
-        let stopped = self.position;
-        self.position = Position::Code(CodeFront::Nothing);
-        self.left = 0;
-        self.value = 0;
         match refused {
             Some((place, reason)) => *answer = Err(CommandRefusal::At(place, reason)),
-            None => match stopped {
+            None => match self.position {
                 Position::Whole => self.fields.answer(self.kind, answer),
                 Position::Code(_) | Position::Within(_) | Position::Known(..) => {
                     *answer = Err(CommandRefusal::Short(pushed));

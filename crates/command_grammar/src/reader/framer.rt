@@ -45,6 +45,15 @@ impl Framer {
         }
     }
 
+    /// Stands for no bits from now on, whatever it stood for.
+    pub fn begin(&mut self)
+        ensures { FramerStandsFor self.new [] }
+    {
+        self.state.begin_anew();
+        self.pushed = 0;
+        self.refused = None;
+    }
+
     /// Takes one bit more, and says what the bits now are. After a refusal each push answers the same.
     #[inline(always)]
     pub fn push(&mut self, bit: bool) -> Pushed
@@ -104,6 +113,7 @@ impl Framer {
         ensures anew { FramerStandsFor self.new [] }
     {
         self.state.finish(self.pushed, self.refused, answer);
+        self.state.begin_anew();
         self.pushed = 0;
         self.refused = None;
     }

@@ -13,4 +13,4 @@ pub returns : goal.returns
 returns c =
     let whole : take c.loop-bit.bit-index c.args.bits.now ≡ c.args.bits.now = take_all c.loop-bit.bit-index c.args.bits.now (omega (arith, c.loop-bit-test.false)) in
     let stands = subst (λ (bits : List Bool). FramerStandsFor c.loop-bit.framer bits) whole c.loop-bit.invariant.stands in
-    record { answer = c.finish_to.ensures.finishes c.args.bits.now stands; only = λ command. c.finish_to.ensures.only c.args.bits.now command stands; anew = c.finish_to.ensures.anew }
+    record { answer = c.finish_to.ensures.finishes c.args.bits.now stands; only = λ command. c.finish_to.ensures.only c.args.bits.now command stands }

@@ -6,7 +6,7 @@ use Rattle.command_grammar.specs.declared.refusal.CommandRefusal.{CommandRefusal
 use Rattle.command_grammar.specs.declared.refusal.Reason.{Reason}
 use Rattle.command_grammar.specs.Commands.{command_of, Spellings, IsFinishAnswer, IsCommandRefusedAt}
 use Rattle.command_grammar.specs.reading.Framing.{Keeps, HasRead}
-use Rattle.command_grammar.proofs.reading.Resuming.{resumes_none, whole_read, open_read, no_digits}
+use Rattle.command_grammar.proofs.reading.Resuming.{whole_read, open_read}
 use Rattle.command_grammar.proofs.SpellingLaws.{one_command, not_spelled}
 use Rattle.command_grammar.proofs.reader.command_in_progress.State.finish.Goals as goal
 
@@ -16,9 +16,6 @@ returns-in-Some c = record {
   only = λ bits command keeps spells.
       let refused : IsCommandRefusedAt bits c.in-Some.place c.in-Some.reason = subst (λ (r : Option (ℕ × Reason)). Keeps c.args.self.now c.args.pushed r bits) c.in-Some.is keeps in
       absurd (not_spelled bits c.in-Some.place (command, spells) refused.bad);
-  anew = record { counted = refl; served = tt; reads = resumes_none c.args.self.now.kind [] c.args.self.now.fields };
-  digits = no_digits _ refl refl;
-  sound = tt;
 }
 
 pub returns-in-Whole : goal.returns-in-Whole
@@ -28,9 +25,6 @@ returns-in-Whole c = record {
   only = λ bits command keeps spells.
       let whole = whole_read c.args.self.now c.args.pushed bits c.in-Whole.is (subst (λ (r : Option (ℕ × Reason)). Keeps c.args.self.now c.args.pushed r bits) c.in-None.is keeps) in
       c.answer.ensures ∙ ap (λ (x : Command). Ok x) (one_command (command_of c.args.self.now.kind c.args.self.now.fields) command bits whole spells);
-  anew = record { counted = refl; served = tt; reads = resumes_none c.args.self.now.kind [] c.answer.new.self };
-  digits = no_digits _ refl refl;
-  sound = tt;
 }
 
 pub returns-in-Code : goal.returns-in-Code
@@ -41,7 +35,4 @@ returns-in-Code c = record {
   only = λ bits command keeps spells.
       let read : HasRead c.args.self.now c.args.pushed bits = subst (λ (r : Option (ℕ × Reason)). Keeps c.args.self.now c.args.pushed r bits) c.in-None.is keeps in
       absurd ((open_read c.args.self.now c.args.pushed bits c.in-Code.is read).no_member (command, spells));
-  anew = record { counted = refl; served = tt; reads = resumes_none c.args.self.now.kind [] c.args.self.now.fields };
-  digits = no_digits _ refl refl;
-  sound = tt;
 }
