@@ -56,19 +56,17 @@ no_outcome = silent no_tag.state no_tag.body
 length-reached : (start : ℕ) (command : Command) (entry : Entry) (parts : List (Option Participation)) (tags : List TagValue) → length parts ≡ length tags
     → length (reached_from start command entry parts tags) ≡ length tags
 length-reached start command entry [] [] same = refl
-length-reached start command entry [] (tag ∷ tags) same = absurd (omega (arith, same))
-length-reached start command entry (part ∷ parts) [] same = absurd (omega (arith, same))
 length-reached start command entry (part ∷ parts) (tag ∷ tags) same = ap (λ n. suc n) (length-reached (start + 1) command entry parts tags (omega (arith, same)))
+length-reached start command entry parts tags same = absurd (omega (arith, same))
 
 came_at : (start number at : ℕ) (command : Command) (entry : Entry) (parts : List (Option Participation)) (tags : List TagValue) → length parts ≡ length tags → number < length tags → at ≡ start + number
     → get_or (reached_from start command entry parts tags) number no_outcome ≡ outcome_reached (is_reached (reach_of command) (participation_at parts number)) (is_missed at entry) command (get_or tags number no_tag)
-came_at start number at command entry [] tags same within is = absurd (omega (arith, same, within))
-came_at start number at command entry (part ∷ parts) [] same within is = absurd (omega (arith, within))
 came_at start zero at command entry (part ∷ parts) (tag ∷ tags) same within is =
     let here : at ≡ start = omega (arith, is) in
     rw here refl
 came_at start (suc number) at command entry (part ∷ parts) (tag ∷ tags) same within is =
     came_at (start + 1) number at command entry parts tags (omega (arith, same)) (omega (arith, within)) (omega (arith, is))
+came_at start number at command entry parts tags same within is = absurd (omega (arith, same, within))
 
 one_answer : (number : ℕ) (answer : Option Sent) → length (answers_of (reply_of number answer)) ≤ 1
 one_answer number None = omega arith

@@ -1,6 +1,5 @@
 -- Which tags are called for a QueryRep, so that what comes of it for those that are called comes of it for all.
 use Rattle.std.proofs.Common.{◌≡◌, ◌≢◌, ℕ, zero, suc, ◌+◌, ◌-◌, ◌*◌, ◌<◌, ◌≤◌, ◌==◌, ◌⊎◌, inl, inr, Bool, true, false, ◌||◌, List, [], ◌∷◌, length, map, Option, Some, None, get_or, set, refl, sym, ap, ◌∙◌, arith, if◌then◌else◌}
-use Rattle.std.specs.List.{list_any}
 use Rattle.std.specs.Option.{is_some}
 use Rattle.std.proofs.lemmas.Bool.{cases_lt, eq-eqb, or_left, or_right}
 use Rattle.std.proofs.lemmas.Bool.Decides.{eqb_tells}
@@ -23,6 +22,7 @@ use Rattle.tag_population.specs.Hearing.{AreCalledFor, hearing_from, outcome_rea
 use Rattle.tag_population.specs.declared.floor.Reach.{Reach}
 use Rattle.tag_population.specs.declared.floor.Reach.TheVariants.{CalledOnly}
 use Rattle.tag_population.proofs.SlotPlaces.{same_waits}
+use Rattle.tag_population.proofs.TagSetBits.{number_index}
 use Rattle.tag_population.specs.Participation.{participation_at, is_called, waits_in, counted_down, IsDue}
 use Rattle.tag_population.specs.declared.participation.Participation.{Participation}
 use Rattle.tag_population.specs.declared.participation.Participation.TheVariants.{Waits, Called}
@@ -58,16 +58,9 @@ called_counted session (None ∷ parts) = omega (arith, called_counted session p
 called_counted session (Some (Waits own slot) ∷ parts) = omega (arith, called_counted session parts)
 called_counted session (Some Called ∷ parts) = omega (arith, called_counted session parts)
 
-no_participation : (participation : Participation) → None ≡ Some participation → ⊥
-no_participation participation e = cc
-
 -- a tag that takes part is there
 pub participation_inside : (parts : List (Option Participation)) (number : ℕ) (participation : Participation) → participation_at parts number ≡ Some participation → number < length parts
-participation_inside parts number participation is =
-    elim (cases_lt number (length parts)) [
-      | inl within ↦ within
-      | inr past ↦ absurd (no_participation participation (sym (get_or_past parts number None past) ∙ is))
-    ]
+participation_inside parts number participation is = grind (arith, get_or_past {X = Option Participation})
 
 -- other commands
 
@@ -190,9 +183,6 @@ calls_missed r index now steps so_far one name misses =
     calls_index r index one.after one.stepped (calls_next r index now steps so_far one (inl misses))
     (rw (← name, ap (λ (f : FloorValue). f.parts) one.is, get_or-set_same now.parts one.number (Some Called) None one.within) refl)
 
-due_waits : (session : ℕ) (before now : Option Participation) → now ≡ Some (Waits session 1) → now ≡ Some Called → ⊥
-due_waits session before now due called = absurd (let same : Some (Waits session 1) ≡ Some Called = sym due ∙ called in cc)
-
 -- a tag whose slot comes next was called
 pub calls_due : (r : Rep) (index : ℕ) (now : FloorValue) (steps : ℕ) → Calls r index now steps → (one : CallsOne now steps) → participation_at now.parts one.number ≡ Some (Waits r.session 1)
     → Calls r index one.after one.stepped
@@ -200,7 +190,7 @@ calls_due r index now steps so_far one due =
     calls_next r index now steps so_far one
     (elim (so_far.each one.number) [
       | inl left ↦ inr (sym left ∙ due)
-      | inr done ↦ absurd (due_waits r.session None (participation_at now.parts one.number) due done.0)
+      | inr done ↦ absurd (let same : Some (Waits r.session 1) ≡ Some Called = sym due ∙ done.0 in cc)
     ])
 
 pub due_smaller : (session due : ℕ) (called more : List (Option Participation)) → participation_at called due ≡ Some (Waits session 1) → more ≡ set called due (Some Called)
@@ -210,16 +200,6 @@ due_smaller session due called more is put =
     let counts = called-set called due within in
     let none : steps_to_hear CalledOnly (participation_at called due) ≡ 0 = ap (λ (p : Option Participation). steps_to_hear CalledOnly p) is in
     rw put (omega (arith, counts, none, called_most (set called due (Some Called)), length-set called due (Some Called)))
-
-missed_index : (number : ℕ) (missed : List ℕ) → list_any (λ tag. tag == number) missed ≡ true → (k : ℕ) × (k < length missed) × (get_or missed k 0 ≡ number)
-missed_index number [] any = cc
-missed_index number (tag ∷ missed) any =
-    elim (eqb_tells tag number) [
-      | inl w ↦ (0, omega arith, w.1)
-      | inr w ↦
-          let rest = missed_index number missed (sym (ap (λ (b : Bool). b || list_any (λ tag. tag == number) missed) w.0) ∙ any) in
-          (suc rest.0, omega (arith, rest.1), rest.2)
-    ]
 
 -- The tags that are called hear the QueryRep or miss it, and the others wait on or have no part in it.
 IsRep : ℕ → Bool → Option Participation → TagValue → Type 0
@@ -271,14 +251,13 @@ reps_from : (session number : ℕ) (entry : Entry) (parts : List (Option Partici
     → ((k at : ℕ) → at ≡ number + k → k < length tags → IsRep session (is_missed at entry) (participation_at parts k) (get_or tags k no_tag))
     → reached_from number (commands.QueryRep session) entry (map (counted_down session) parts) (seated_tags (map (counted_down session) parts) tags) ≡ hearing_from number (commands.QueryRep session) entry tags
 reps_from session number entry [] [] same each = refl
-reps_from session number entry [] (tag ∷ tags) same each = absurd (omega (arith, same))
-reps_from session number entry (part ∷ parts) [] same each = absurd (omega (arith, same))
 reps_from session number entry (part ∷ parts) (tag ∷ tags) same each =
     rw (
       rep_outcome session (is_missed number entry) part tag (each 0 number (omega arith) (omega arith)),
       reps_from session (number + 1) entry parts tags (omega (arith, same)) (λ k at is below. each (suc k) at (omega (arith, is)) (omega (arith, below))),
     )
     refl
+reps_from session number entry parts tags same each = absurd (omega (arith, same))
 
 -- no more tags are called than it keeps busy
 beyond_called : (state : StateValue) → participation_in state ≡ Some Called → is_beyond_arbitrate state ≡ true
@@ -304,14 +283,13 @@ busy_most : (number : ℕ) (command : Command) (entry : Entry) (parts : List (Op
     → ((k at : ℕ) → at ≡ number + k → participation_at parts k ≡ Some Called → is_busy at command entry (get_or tags k no_tag) ≡ true)
     → reach_steps CalledOnly parts ≤ busy_from number command entry tags
 busy_most number command entry [] [] same busy = omega arith
-busy_most number command entry [] (tag ∷ tags) same busy = absurd (omega (arith, same))
-busy_most number command entry (part ∷ parts) [] same busy = absurd (omega (arith, same))
 busy_most number command entry (part ∷ parts) (tag ∷ tags) same busy =
     omega (
       arith,
       one_busy part (is_busy number command entry tag) (busy 0 number (omega arith)),
       busy_most (number + 1) command entry parts tags (omega (arith, same)) (λ k at is. busy (suc k) at (omega (arith, is))),
     )
+busy_most number command entry parts tags same busy = absurd (omega (arith, same))
 
 -- All were called that have to be: of those that miss it none waits, and no slot comes next.
 module _ (r : Rep) (called : FloorValue) (steps : ℕ) (settled : r.before.parts ≡ participations_of r.before.tags) (calls : Calls r (length r.entry.missed) called steps) (none : IsDue called.parts r.session None) where
@@ -324,7 +302,7 @@ module _ (r : Rep) (called : FloorValue) (steps : ℕ) (settled : r.before.parts
             inr (
               rw calls.tags (left ∙ settled_at r.before number settled),
               λ misses.
-                  let found = missed_index number r.entry.missed misses in
+                  let found = number_index number r.entry.missed misses in
                   rw (← found.2) (calls.missed found.0 found.1),
               none number,
             )

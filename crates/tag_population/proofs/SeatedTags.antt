@@ -17,27 +17,23 @@ use Rattle.tag_population.specs.declared.participation.Participation.TheVariants
 
 pub length-tags_of : (participations : List (Option Participation)) (seats : List TagValue) → length participations ≡ length seats → length (seated_tags participations seats) ≡ length seats
 length-tags_of [] [] same = refl
-length-tags_of [] (seat ∷ seats) same = absurd (omega (arith, same))
-length-tags_of (participation ∷ participations) [] same = absurd (omega (arith, same))
 length-tags_of (participation ∷ participations) (seat ∷ seats) same = ap (λ n. suc n) (length-tags_of participations seats (omega (arith, same)))
+length-tags_of participations seats same = absurd (omega (arith, same))
 
 -- the tag of a number
 pub tag_at : (participations : List (Option Participation)) (seats : List TagValue) (number : ℕ) (d : TagValue) → length participations ≡ length seats → number < length seats
     → get_or (seated_tags participations seats) number d ≡ tag_seated (participation_at participations number) (get_or seats number d)
-tag_at [] [] number d same within = absurd (omega (arith, within))
-tag_at [] (seat ∷ seats) number d same within = absurd (omega (arith, same))
-tag_at (participation ∷ participations) [] number d same within = absurd (omega (arith, same))
 tag_at (participation ∷ participations) (seat ∷ seats) zero d same within = refl
 tag_at (participation ∷ participations) (seat ∷ seats) (suc number) d same within = tag_at participations seats number d (omega (arith, same)) (omega (arith, within))
+tag_at participations seats number d same within = absurd (omega (arith, same, within))
 
 pub tags-set : (participations : List (Option Participation)) (seats : List TagValue) (number : ℕ) (participation : Option Participation) (seat : TagValue) → length participations ≡ length seats
     → seated_tags (set participations number participation) (set seats number seat) ≡ set (seated_tags participations seats) number (tag_seated participation seat)
 tags-set [] [] number participation seat same = refl
-tags-set [] (first ∷ seats) number participation seat same = absurd (omega (arith, same))
-tags-set (own ∷ participations) [] number participation seat same = absurd (omega (arith, same))
 tags-set (own ∷ participations) (first ∷ seats) zero participation seat same = refl
 tags-set (own ∷ participations) (first ∷ seats) (suc number) participation seat same =
     ap (λ (l : List TagValue). tag_seated own first ∷ l) (tags-set participations seats number participation seat (omega (arith, same)))
+tags-set participations seats number participation seat same = absurd (omega (arith, same))
 
 -- a tag takes part as its state says where it has the slot counter of its state
 seated_in_state : (state : StateValue) (body : BodyValue) → tag_seated (participation_in state) (record { state = state; body = body }) ≡ record { state = state; body = body }

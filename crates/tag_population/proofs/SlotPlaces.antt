@@ -1,6 +1,6 @@
 -- Places and slot counters, and the set of called tags.
-use Rattle.std.proofs.Common.{◌≡◌, ◌≢◌, ℕ, zero, suc, ◌+◌, ◌/◌, ◌%◌, ◌<◌, ◌≤◌, ◌==◌, inl, inr, Bool, true, false, ◌↔◌, is_some, List, [], ◌∷◌, length, map, Option, Some, None, get_or, set, replicate, refl, sym, ap, ◌∙◌, subst, arith, if◌then◌else◌}
-use Rattle.std.proofs.lemmas.Bool.Decides.{eqb_tells}
+use Rattle.std.proofs.Common.{◌≡◌, ◌≢◌, ℕ, zero, suc, ◌+◌, ◌/◌, ◌%◌, ◌<◌, ◌≤◌, ◌==◌, inl, inr, Bool, true, false, ◌↔◌, is_some, List, [], ◌∷◌, length, map, Option, Some, None, get_or, set, replicate, refl, sym, ap, ◌∙◌, subst, arith}
+use Rattle.std.proofs.lemmas.Bool.Decides.{eqb_tells, nat_tests}
 use Rattle.std.proofs.lemmas.Bool.{cases_lt, ne_eqb}
 use Rattle.std.proofs.lemmas.List.{ext_get_or, get_or-replicate, get_or-set_same, get_or-set_other, get_or_past, length-replicate, length-set, set-set}
 use Rattle.std.proofs.lemmas.Option.{same_Some}
@@ -12,15 +12,6 @@ use Rattle.tag_population.specs.TagSets.{bit_in_set, HasNone, IsIn, IsNextIn}
 use Rattle.tag_population.specs.Wheel.{wheel_place_of, IsTagOn}
 use Rattle.tag_population.proofs.WheelLinks.{none_some}
 use Rattle.tag_population.specs.Participation.{participation_at, IsLegalParticipation, IsNextCalled, IsDue, counted_down, slot_place, slot_behind, waiting_slot, waits_in, participation_on, participations_from, participations_on, AreBases, AreCalled, AreSlots}
-
-waits_called : (session slot : ℕ) → Some (Waits session slot) ≡ Some Called → ⊥
-waits_called session slot same = cc
-
-none_called_so : None ≡ Some Called → ⊥
-none_called_so same = cc
-
-some_none : (part : Participation) → Some part ≡ None → ⊥
-some_none part same = cc
 
 -- the participations of the tags on places
 pub length_from : (number : ℕ) (bases called : List ℕ) (places : List (Option ℕ)) → length (participations_from number bases called places) ≡ length places
@@ -62,29 +53,18 @@ part_is bases called places parts number stand are same is =
 pub place_within : (bases called : List ℕ) (places : List (Option ℕ)) (parts : List (Option Participation)) (number : ℕ) → participations_on bases called places ≡ parts → number < length parts → number < length places
 place_within bases called places parts number same within = rw (← length_from 0 bases called places, same) within
 
--- what holds of a tag that takes no part and of one that is called holds of a tag on no place
-on_none : (P : Option Participation → Type 0) (bases : List ℕ) (bit : ℕ) → P None → P (Some Called) → P (participation_on bases bit None)
-on_none P bases bit none called =
-    elim (eqb_tells bit 1) [
-      | inl w ↦ rw w.0 called
-      | inr w ↦ rw w.0 none
-    ]
-
+-- what is known of a tag by its place, and of one on no place
 pub no_slot : (bases : List ℕ) (bit : ℕ) → waiting_slot (participation_on bases bit None) ≡ None
-no_slot bases bit = on_none (λ p. waiting_slot p ≡ None) bases bit refl refl
+no_slot bases bit = grind (arith, nat_tests)
 
 pub waits_nowhere : (bases : List ℕ) (bit session : ℕ) → waits_in session (participation_on bases bit None) ≡ false
-waits_nowhere bases bit session = on_none (λ p. waits_in session p ≡ false) bases bit refl refl
+waits_nowhere bases bit session = grind (arith, nat_tests)
 
--- a tag on a place takes part, and one on none where it is called
 pub takes_part_there : (bases : List ℕ) (bit : ℕ) (stand : Option ℕ) → is_some stand ≡ true → is_some (participation_on bases bit stand) ≡ true
-takes_part_there bases bit None some = absurd cc
-takes_part_there bases bit (Some place) some = refl
+takes_part_there bases bit stand some = grind arith
 
 pub takes_part_called : (bases : List ℕ) (bit : ℕ) (stand : Option ℕ) (found : Bool) → is_some stand ≡ false → (found ≡ true) ↔ (bit ≡ 1) → found ≡ is_some (participation_on bases bit stand)
-takes_part_called bases bit (Some place) found none there = absurd cc
-takes_part_called bases bit None false none there = let apart : bit ≢ 1 = λ one. (let same : false ≡ true = there.1 one in cc) in rw (ne_eqb bit 1 apart) refl
-takes_part_called bases bit None true none there = rw (there.0 refl) refl
+takes_part_called bases bit stand found none there = grind (arith, nat_tests)
 
 same_parts : (parts : List (Option Participation)) (bases called : List ℕ) (places : List (Option ℕ)) → length places ≡ length parts
     → ((number : ℕ) → number < length places → participation_on bases (bit_in_set called number) (wheel_place_of places number) ≡ participation_at parts number) → participations_on bases called places ≡ parts
@@ -143,13 +123,11 @@ put_so bases called places parts p part is =
 pub taken_part : (bases called : List ℕ) (places : List (Option ℕ)) (number : ℕ) → AreCalled called places → is_some (wheel_place_of places number) ≡ true
     → participation_on bases (bit_in_set called number) None ≡ None
 taken_part bases called places number are stood =
-    let apart : bit_in_set called number ≢ 1 = λ one. (let none : false ≡ true = ap (λ (s : Option ℕ). is_some s) (sym (are.nowhere number one)) ∙ stood in cc) in
-    rw (ne_eqb (bit_in_set called number) 1 apart) refl
+    rw (ne_eqb (bit_in_set called number) 1 (λ one. (let none = rw (are.nowhere number one) at stood in cc))) refl
 
 -- one that takes no part stands nowhere, and isn't called
 no_part : (bases : List ℕ) (bit : ℕ) (stand : Option ℕ) → participation_on bases bit stand ≡ None → (stand ≡ None) × (bit ≢ 1)
-no_part bases bit None is = (refl, λ one. some_none Called (sym (ap (λ n. participation_on bases n None) one) ∙ is))
-no_part bases bit (Some place) is = absurd (some_none (Waits (place / 32768) (slot_behind (get_or bases (place / 32768) 0) place)) is)
+no_part bases bit stand is = grind (arith, nat_tests)
 
 -- numbers of sessions, slots and places
 session_of_place : (base session slot : ℕ) → slot_place base session slot / 32768 ≡ session
@@ -233,9 +211,12 @@ counter_falls base place below =
       | inr w ↦ rw w.0 (omega (arith, w.1))
     ]
 
+none_counted : (bases : List ℕ) (session bit : ℕ) → participation_on bases bit None ≡ counted_down session (participation_on bases bit None)
+none_counted bases session bit = grind (arith, nat_tests)
+
 counted_on : (bases : List ℕ) (session bit : ℕ) (stand : Option ℕ) → AreBases bases → session < length bases
     → participation_on (set bases session ((get_or bases session 0 + 1) % 32768)) bit stand ≡ counted_down session (participation_on bases bit stand)
-counted_on bases session bit None are within = on_none (λ p. p ≡ counted_down session p) bases bit refl refl
+counted_on bases session bit None are within = none_counted bases session bit
 counted_on bases session bit (Some place) are within =
     let raised : ℕ = (get_or bases session 0 + 1) % 32768 in
     elim (eqb_tells (place / 32768) session) [
@@ -263,9 +244,12 @@ counted_all bases called places session at raised are here few is =
 pub same_waits : (own slot session counter : ℕ) → Some (Waits own slot) ≡ Some (Waits session counter) → (own ≡ session) × (slot ≡ counter)
 same_waits own slot session counter same = (cc, cc)
 
+none_waits : (bases : List ℕ) (bit session slot : ℕ) → participation_on bases bit None ≢ Some (Waits session slot)
+none_waits bases bit session slot is = grind (arith, nat_tests)
+
 place_of_slot : (bases : List ℕ) (bit session slot : ℕ) (stand : Option ℕ) → AreBases bases → participation_on bases bit stand ≡ Some (Waits session slot)
     → stand ≡ Some (slot_place (get_or bases session 0) session slot)
-place_of_slot bases bit session slot None are is = absurd (on_none (λ p. p ≢ Some (Waits session slot)) bases bit (λ same. cc) (λ same. cc) is)
+place_of_slot bases bit session slot None are is = absurd (none_waits bases bit session slot is)
 place_of_slot bases bit session slot (Some place) are is =
     let same = same_waits (place / 32768) (slot_behind (get_or bases (place / 32768) 0) place) session slot is in
     let counter : slot_behind (get_or bases session 0) place ≡ slot = sym (ap (λ n. slot_behind (get_or bases n 0) place) same.0) ∙ same.1 in
@@ -281,12 +265,7 @@ due_there bases called places session place (Some due) are set there next =
 
 -- the called tags
 called_on : (bases : List ℕ) (bit : ℕ) (stand : Option ℕ) → participation_on bases bit stand ≡ Some Called → bit ≡ 1
-called_on bases bit None is =
-    elim (eqb_tells bit 1) [
-      | inl w ↦ w.1
-      | inr w ↦ absurd (none_called_so (sym (ap (λ (b : Bool). if b then Some Called else None) w.0) ∙ is))
-    ]
-called_on bases bit (Some place) is = absurd (waits_called (place / 32768) (slot_behind (get_or bases (place / 32768) 0) place) is)
+called_on bases bit stand is = grind (arith, nat_tests)
 
 -- a tag that isn't in the set isn't called
 not_called : (bases called : List ℕ) (places : List (Option ℕ)) (number : ℕ) → AreCalled called places → bit_in_set called number ≡ 0 → participation_at (participations_on bases called places) number ≢ Some Called

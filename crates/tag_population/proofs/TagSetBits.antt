@@ -195,7 +195,7 @@ none_in words count number is =
     no_bit (get_or words at 0) (number % 64) (ap (λ (l : List ℕ). get_or l at 0) is ∙ word)
 
 -- a number that is read among these
-number_index : (number : ℕ) (numbers : List ℕ) → list_any (λ other. other == number) numbers ≡ true → (at : ℕ) × (at < length numbers) × (get_or numbers at 0 ≡ number)
+pub number_index : (number : ℕ) (numbers : List ℕ) → list_any (λ other. other == number) numbers ≡ true → (at : ℕ) × (at < length numbers) × (get_or numbers at 0 ≡ number)
 number_index number [] any = cc
 number_index number (first ∷ numbers) any =
     elim (eqb_tells first number) [
