@@ -10,7 +10,6 @@ use Rattle.tag_population.specs.declared.participation.Participation.{Participat
 use Rattle.tag_population.specs.declared.participation.Participation.TheVariants.{Waits, Called}
 use Rattle.tag_population.specs.TagSets.{bit_in_set, HasNone, IsIn, IsNextIn}
 use Rattle.tag_population.specs.Wheel.{wheel_place_of, IsTagOn}
-use Rattle.tag_population.proofs.WheelLinks.{none_some}
 use Rattle.tag_population.specs.Participation.{participation_at, IsLegalParticipation, IsNextCalled, IsDue, counted_down, slot_place, slot_behind, waiting_slot, waits_in, participation_on, participations_from, participations_on, AreBases, AreCalled, AreSlots}
 
 -- the participations of the tags on places
@@ -302,7 +301,7 @@ none_takes_part count bases called none =
 
 -- each slot counter has 15 bits
 slot_on : (bases : List ℕ) (bit : ℕ) (stand : Option ℕ) (slot : ℕ) → waiting_slot (participation_on bases bit stand) ≡ Some slot → slot < 32768
-slot_on bases bit None slot is = absurd (none_some slot (sym (no_slot bases bit) ∙ is))
+slot_on bases bit None slot is = absurd (let none : None ≡ Some slot = sym (no_slot bases bit) ∙ is in cc)
 slot_on bases bit (Some place) slot is =
     let same : slot_behind (get_or bases (place / 32768) 0) place ≡ slot = same_Some (slot_behind (get_or bases (place / 32768) 0) place) slot is in
     omega (arith, same)
@@ -315,7 +314,7 @@ are_slots bases called places now same = λ number slot is.
           slot_on bases (bit_in_set called number) (wheel_place_of places number) slot
           (sym (ap (λ (p : Option Participation). waiting_slot p) (at_place bases called places number within)) ∙ part)
       | inr past ↦
-          absurd
-          (none_some slot
-          (sym (ap (λ (p : Option Participation). waiting_slot p) (get_or_past (participations_on bases called places) number None (rw (length_from 0 bases called places) past))) ∙ part))
+          let none : None ≡ Some slot =
+          sym (ap (λ (p : Option Participation). waiting_slot p) (get_or_past (participations_on bases called places) number None (rw (length_from 0 bases called places) past))) ∙ part in
+          absurd (cc)
     ]

@@ -7,7 +7,7 @@ use Rattle.std.proofs.lemmas.Bool.Decides.{eqb_tells}
 use Rattle.std.proofs.lemmas.List.{get_or-set_same, get_or-set_other, get_or_past, get_or-replicate, length-replicate, length-set}
 use Rattle.std.proofs.lemmas.Nat.Bits.{bit_at-zero, bit_at-lt, bit_at_and, bit_at_mask_inside, bit_at_mask_below, bit_at_set_same, bit_at_set_other, bit_at_clear_same, bit_at_clear_other, bit_at-trailing_zeros}
 use Rattle.std.proofs.lemmas.List.Folds.{list_any_at}
-use Rattle.std.proofs.lemmas.Grind.{get_or_default_zero}
+use Rattle.std.proofs.lemmas.Grind.{common_steps, get_or_default_zero, get_or-set_at}
 use Rattle.air_events.specs.TagNumbers.{most_tags}
 use Rattle.tag_population.specs.TagSets.{bit_in_set, HasNone, IsSetOf, IsIn, IsFilled, IsNextOne, IsNextIn}
 
@@ -43,11 +43,7 @@ no_bit word bit none = ap (λ n. bit_at n bit) none ∙ bit_at-zero bit
 -- one of the words is replaced, and its bit with it
 filled_replaced : (filled : ℕ) (words : List ℕ) (at word after : ℕ) → IsFilled filled words → at < length words
     → ((other : ℕ) → other < 64 → other ≢ at → bit_at after other ≡ bit_at filled other) → ((bit_at after at ≡ 0) ↔ (word ≡ 0)) → IsFilled after (set words at word)
-filled_replaced filled words at word after is within stays here = λ other below.
-    elim (eqb_tells other at) [
-      | inl same ↦ rw (same.1, get_or-set_same words at word 0 within) here
-      | inr apart ↦ rw (stays other below apart.1, get_or-set_other words at other word 0 apart.1) (is other below)
-    ]
+filled_replaced filled words at word after is within stays here = λ other below. grind (arith, get_or-set_at, get_or-set_other)
 
 -- a tag is added
 abbrev with_bit : ℕ → ℕ → ℕ
@@ -153,11 +149,7 @@ empty_word filled words at bit is below out = no_bit (get_or words at 0) bit ((i
 
 -- a word that has a bit is one of the words
 pub word_within : (filled : ℕ) (words : List ℕ) (at : ℕ) → IsFilled filled words → at < 64 → bit_at filled at ≡ 1 → at < length words
-word_within filled words at is below one =
-    elim (cases_lt at (length words)) [
-      | inl within ↦ within
-      | inr past ↦ absurd (one_not_zero (bit_at filled at) one ((is at below).1 (get_or_past words at 0 past)))
-    ]
+word_within filled words at is below one = grind (arith, get_or_past {X = ℕ}, is at)
 
 -- a word that a place of the set has, read at that place
 pub word_there : (filled : ℕ) (words : List ℕ) (at word : ℕ) → IsFilled filled words → at < 64 → bit_at filled at ≡ 1 → word ≡ get_or words at word → word ≡ get_or words at 0
@@ -185,14 +177,7 @@ first_word filled words from at bit is next low =
 
 -- no tag
 pub none_in : (words : List ℕ) (count number : ℕ) → words ≡ replicate count 0 → bit_in_set words number ≡ 0
-none_in words count number is =
-    let at : ℕ = number / 64 in
-    let word : get_or (replicate {A = ℕ} count 0) at 0 ≡ 0 =
-    elim (cases_lt at count) [
-      | inl within ↦ get_or-replicate {A = ℕ} count at 0 0 within
-      | inr past ↦ get_or_past (replicate {A = ℕ} count 0) at 0 (rw (length-replicate {A = ℕ} count 0) past)
-    ] in
-    no_bit (get_or words at 0) (number % 64) (ap (λ (l : List ℕ). get_or l at 0) is ∙ word)
+none_in words count number is = grind (arith, common_steps, get_or_past {X = ℕ}, get_or-replicate {A = ℕ}, length-replicate {A = ℕ})
 
 -- a number that is read among these
 pub number_index : (number : ℕ) (numbers : List ℕ) → list_any (λ other. other == number) numbers ≡ true → (at : ℕ) × (at < length numbers) × (get_or numbers at 0 ≡ number)
@@ -221,6 +206,10 @@ pub record HasMore (words after : List ℕ) (number : ℕ) : Type 0 where
   pub there : IsIn after number
   pub others : (other : ℕ) → other ≢ number → bit_in_set after other ≡ bit_in_set words other
 
+more_there : (words after numbers : List ℕ) (index number : ℕ) → FilledBelow words numbers index → index < length numbers → number ≡ get_or numbers index 0 → HasMore words after number
+    → (at : ℕ) → at < index + 1 → IsIn after (get_or numbers at 0)
+more_there words after numbers index number so_far within is more at below = grind arith
+
 pub filled_more : (words after numbers : List ℕ) (index number : ℕ) → FilledBelow words numbers index → index < length numbers → number ≡ get_or numbers index 0 → HasMore words after number
     → FilledBelow after numbers (index + 1)
 filled_more words after numbers index number so_far within is more = record {
@@ -229,17 +218,7 @@ filled_more words after numbers index number so_far within is more = record {
         | inl same ↦ number_there numbers index other within (sym is ∙ sym same.1)
         | inr apart ↦ so_far.only other (sym (more.others other apart.1) ∙ in_it)
       ];
-  there = λ at below.
-      elim (eqb_tells (get_or numbers at 0) number) [
-        | inl same ↦ ap (λ n. bit_in_set after n) same.1 ∙ more.there
-        | inr apart ↦
-            more.others (get_or numbers at 0) apart.1
-            ∙ so_far.there at
-            (elim (cases_lt at index) [
-              | inl less ↦ less
-              | inr past ↦ absurd (apart.1 (ap (λ n. get_or numbers n 0) (omega (arith, below, past)) ∙ sym is))
-            ])
-      ];
+  there = λ at below. more_there words after numbers index number so_far within is more at below;
 }
 
 pub filled_all : (words numbers : List ℕ) (index : ℕ) → FilledBelow words numbers index → length numbers ≤ index → IsSetOf words numbers

@@ -8,9 +8,6 @@ use Rattle.std.proofs.lemmas.Grind.{get_or_default_zero}
 use Rattle.air_events.specs.TagNumbers.{most_tags}
 use Rattle.tag_population.specs.Wheel.{most_places, place_kept, place_of_link, wheel_place_of, AreLinked, IsTagOn, IsLinked}
 
-pub none_some : (place : ℕ) → None ≡ Some place → ⊥
-none_some place e = cc
-
 -- functions of numbers, of which one has another value at a number
 record Differs {X : Type 0} (at : ℕ) (value : X) (before after : ℕ → X) : Type 0 where
   here : after at ≡ value
