@@ -87,7 +87,8 @@ impl<'a, L: Ledger> Run<'a, L> {
         ensures { (begun : Begun R) (past : List Item) (round slot : ℕ)
             → StandsAt R.hears begun past air.old self.old report.old
             → IsSentAndHeard R.hears begun past
-            (next_record begun.start round slot command.now past) air.new self.new report.new result }
+            (next_record begun.start round slot command.now past) air.new self.new report.new
+            result }
     {
         answers_are_replies();
         steps_keep_tags_legal();

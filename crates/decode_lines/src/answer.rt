@@ -121,8 +121,8 @@ impl Workspace {
     }
 }
 
-/// What an answer is computed in: room for the levels, bits, samples and words of the longest line, and the command or
-/// what was received.
+/// What an answer is computed in: room for the levels, bits, samples and words of the longest line, a Framer, and the
+/// command or what was received.
 #[derive(Drop)]
 struct AnswerRooms {
     levels: Levels,

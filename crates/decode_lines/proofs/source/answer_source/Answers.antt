@@ -1,10 +1,28 @@
-use Rattle.std.proofs.Common.{◌≤◌, ◌++◌, List, ℕ, length, take, refl, arith, length-append}
+use Rattle.std.proofs.Common.{◌≤◌, ◌++◌, List, [], Option, Some, None, ℕ, length, take, refl, arith, length-append}
 use Rattle.air_io.specs.Flow.{TakesBytes}
 use Rattle.air_io.specs.laws.Flow.{Reads-more}
 use Rattle.air_io.specs.ReadEnds.{most_read}
 use Rattle.air_io.specs.declared.transfer.ReadEnd.{ReadEnd}
 use Rattle.air_io.proofs.ReadEnds.{IfErr-always, length-append-take, count_within_room, most_read-limit}
 use Rattle.decode_lines.proofs.source.answer_source.Goals as goal
+
+-- before anything was read nothing was taken
+nothing_taken : (left : Option (List ℕ)) → TakesBytes left left []
+nothing_taken None = refl
+nothing_taken (Some bytes) = refl
+
+pub reads-init : goal.reads-init
+reads-init g c = record {
+  buffer = c.in_ok-buffer.ensures;
+  most = omega (arith, c.requires);
+  within = omega arith;
+  number = omega (arith, c.in_ok-answering.ensures.number);
+  bytes = [];
+  size = refl;
+  taken = nothing_taken (g.I.Source.left c.args.source.now);
+  stands = c.in_ok-answering.ensures.stands;
+  count = refl;
+}
 
 pub returns-then-count-most-clause-too_long : goal.returns-then-count-most-clause-too_long
 returns-then-count-most-clause-too_long g c _ =
